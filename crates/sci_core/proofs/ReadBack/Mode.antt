@@ -1,0 +1,94 @@
+-- What the memory word says of the chain.
+use Rattle.std.proofs.Common.{◌≡◌, ◌⊎◌, ◌≢◌, ℕ, ◌<◌, true, false, Some, None, List, refl, ap, ⊎_elim, ◌∙◌, arith}
+use Rattle.sci_words.specs.declared.tags.Kind.{Kind}
+use Rattle.sci_words.specs.declared.tags.Tag.{Tag}
+use Rattle.sci_words.specs.declared.memory.MemState.{MemState}
+use Rattle.sci_core.specs.declared.lines.Line.{Line}
+use Rattle.sci_core.specs.declared.pending.Pending.{Pending}
+use Rattle.sci_core.specs.State.{State}
+use Rattle.sci_core.specs.Shape.{Phase, shape, phase_of, flag_of, has_copy}
+use Rattle.sci_core.specs.Law.{Law, Witness, suits, has_dirty, is_dirty_front}
+use Rattle.sci_core.specs.Copies.{kept_line}
+use Rattle.sci_core.specs.Mode.{is_dirty_step, is_turned, IsFreshList, IsDirtyFront, IsDirtyWaiting, IsGoneList, FitsMemoryWord}
+use Rattle.sci_core.proofs.ReadBack.Ranked.{Stands}
+use Rattle.sci_core.proofs.ReadBack.LastFront.{last_front_is, waiting_above}
+use Rattle.sci_core.proofs.ReadBack.Value.{kept_value, copy_kept}
+
+clean_step : (p : Pending) → (has_dirty (phase_of p) ≡ true → flag_of p ≡ false) → is_dirty_step p ≡ false
+clean_step (Pending.Fetching f d l) h = h refl
+clean_step (Pending.InQueue f d c) h = h refl
+clean_step (Pending.Ready f d l) h = h refl
+clean_step (Pending.Leaving d l q) h = h refl
+clean_step (Pending.Promoted d l t) h = h refl
+clean_step _ h = refl
+
+not_turned : (p : Pending) → (has_dirty (phase_of p) ≡ true → flag_of p ≡ false) → is_turned p ≡ false
+not_turned (Pending.Converting f t) h = h refl
+not_turned _ h = refl
+
+dirty_front : (t : Tag) (p : Pending) → suits (phase_of p) t.kind ≡ true → is_dirty_front t.kind (phase_of p) (flag_of p) ≡ true → IsDirtyFront t p
+dirty_front t Pending.Idle h e = grind (arith, h, e)
+dirty_front t (Pending.Holding w l) h e = grind (arith, h, e)
+dirty_front t (Pending.Queueing f) h e = grind (arith, h, e)
+dirty_front t (Pending.Fetching f d l) h e = grind (arith, h, e)
+dirty_front t (Pending.InQueue f d c) h e = grind (arith, h, e)
+dirty_front t (Pending.Copying f w l) h e = grind (arith, h, e)
+dirty_front t (Pending.Ready f d l) h e = grind (arith, h, e)
+dirty_front t (Pending.Converting f u) h e = grind (arith, h, e)
+dirty_front t (Pending.Purging l q) h e = grind (arith, h, e)
+dirty_front t (Pending.Advancing l v w) h e = grind (arith, h, e)
+dirty_front t (Pending.Clearing l v w) h e = grind (arith, h, e)
+dirty_front t (Pending.Leaving d l q) h e = grind (arith, h, e)
+dirty_front t (Pending.Promoted d l u) h e = grind (arith, h, e)
+dirty_front t (Pending.WritingBack l) h e = grind (arith, h, e)
+dirty_front t (Pending.Parted f) h e = grind (arith, h, e)
+dirty_front t (Pending.Rolling u q) h e = grind (arith, h, e)
+dirty_front t (Pending.Unlinked f b) h e = grind (arith, h, e)
+
+dirty_waiting : (p : Pending) → flag_of p ≡ true → (phase_of p ≢ Phase.Promoted → phase_of p ≡ Phase.InQueue) → (phase_of p ≡ Phase.InQueue → has_copy p ≡ false) → IsDirtyWaiting p
+dirty_waiting (Pending.InQueue f d None) h q c = (h, refl)
+dirty_waiting (Pending.InQueue f d (Some l)) h q c = absurd (let e = c refl in grind (arith, e))
+dirty_waiting (Pending.Promoted d l t) h q c = h
+dirty_waiting _ h q c = absurd (let e = q (λ n. grind (arith, n)) in grind (arith, e))
+
+cases_queued : (p : Phase) (k : Kind) → suits p k ≡ true → k ≡ Kind.Queued → p ≢ Phase.Queueing → p ≢ Phase.Copying → (p ≡ Phase.Fetching) ⊎ (p ≡ Phase.InQueue) ⊎ (p ≡ Phase.Ready)
+cases_queued p k h e m n = grind (arith, h, e, m, n)
+
+module _ (s : State) (g : Witness) (o : Law (shape s) g) (nodes : List ℕ) (r : Stands g.rank nodes) where
+  not_queueing : (i : ℕ) → 0 < g.rank i → phase_of (s.steps i) ≢ Phase.Queueing
+  not_queueing i p e = let c = o.outside.outside i (rw e refl) in omega (arith, c, p)
+
+  fetched : (i : ℕ) → s.memory.state ≡ MemState.Fresh → 0 < g.rank i → phase_of (s.steps i) ≡ Phase.Fetching → kept_line (s.steps i) ≡ Some g.value
+  fetched i h p e = kept_value s g o i (rw e refl) (o.mode.has_value i h p (rw e refl))
+
+  ready : (i : ℕ) → s.memory.state ≡ MemState.Fresh → 0 < g.rank i → phase_of (s.steps i) ≡ Phase.Ready → kept_line (s.steps i) ≡ Some g.value
+  ready i h p e = kept_value s g o i (rw e refl) (o.mode.has_value i h p (rw e refl))
+
+  promoted : (i : ℕ) → s.memory.state ≡ MemState.Fresh → 0 < g.rank i → phase_of (s.steps i) ≡ Phase.Promoted → kept_line (s.steps i) ≡ Some g.value
+  promoted i h p e = kept_value s g o i (rw e refl) (o.mode.has_value i h p (rw e refl))
+
+  in_queue : (i : ℕ) → s.memory.state ≡ MemState.Fresh → 0 < g.rank i → phase_of (s.steps i) ≡ Phase.InQueue → kept_line (s.steps i) ≡ Some g.value
+  in_queue i h p e = copy_kept (s.steps i) e (o.mode.has_copy i h p e) ∙ ap (λ (l : Line). Some l) (o.mode.has_value i h p (rw e refl))
+
+  queued : (i : ℕ) → s.memory.state ≡ MemState.Fresh → 0 < g.rank i → (s.tags i).kind ≡ Kind.Queued → kept_line (s.steps i) ≡ Some g.value
+  queued i h p k = ⊎_elim (fetched i h p) (λ b. ⊎_elim (in_queue i h p) (ready i h p) b) (cases_queued (phase_of (s.steps i)) (s.tags i).kind (o.own.suited i) k (not_queueing i p) (o.mode.not_copying i h p))
+
+  fresh_list : s.memory.state ≡ MemState.Fresh → IsFreshList s nodes g.value
+  fresh_list h = record {
+    not_dirty = λ i c. o.mode.not_dirty i h (r.inside i c);
+    not_purging = λ i c. o.mode.not_purging i h (r.inside i c);
+    not_copying = λ i c. o.mode.not_copying i h (r.inside i c);
+    clean_steps = λ i c. clean_step (s.steps i) (o.mode.not_flagged i h (r.inside i c));
+    not_turned = λ i c. not_turned (s.steps i) (o.mode.not_flagged i h (r.inside i c));
+    queued = λ i c. queued i h (r.inside i c);
+    promoted = λ i c. promoted i h (r.inside i c);
+  }
+
+  gone_list : s.memory.state ≡ MemState.Gone → IsGoneList s nodes
+  gone_list h = record {
+    last = λ i l. let e = last_front_is s g o nodes r i l in rw e (dirty_front (s.tags g.last_front) (s.steps g.last_front) (o.own.suited g.last_front) (o.mode.gone h));
+    waiting = λ i w. let a = waiting_above s g o nodes r i w in dirty_waiting (s.steps i) (o.mode.gone_flag i h a) (o.mode.gone_queue i h a) (o.mode.gone_copy i h a);
+  }
+
+  pub mode_of_law : FitsMemoryWord s nodes g.value
+  mode_of_law = record { fresh = fresh_list; gone = gone_list }

@@ -1,0 +1,20 @@
+-- The line of the hand that has a slot. This project's profile.
+use Rattle.std.specs.Prelude.{◌≡◌, ℕ, true, Option, Some, None, List, slice_index_or}
+use Rattle.sci_core.specs.declared.lines.Line.{Line}
+use Rattle.sci_core.specs.declared.pending.Pending.{Pending}
+use Rattle.sci_core.specs.Shape.{phase_of}
+use Rattle.sci_core.specs.Law.{has_memory_slot}
+use Rattle.sci_core.specs.Copies.{kept_line}
+
+-- the step of a node; a node that there is not is Idle
+abbrev pub step_at : List Pending → ℕ → Pending
+step_at steps j = slice_index_or steps j Pending.Idle
+
+-- it has memory's slot in hand
+abbrev pub HasMemorySlot : Pending → Type 0
+HasMemorySlot p = has_memory_slot (phase_of p) ≡ true
+
+-- a line that a step with this property keeps, or None where no step has it
+abbrev pub FindsKept : (Pending → Type 0) → (ℕ → Pending) → Option Line → Type 0
+FindsKept P steps None = (j : ℕ) → P (steps j) → ⊥
+FindsKept P steps (Some v) = (j : ℕ) × P (steps j) × (kept_line (steps j) ≡ Some v)

@@ -1,0 +1,26 @@
+//! One line of the shared memory: its words, its slots and the pending step of each node, and the events that change them.
+#![tactic(auto)]
+
+mod chains;
+mod closing;
+mod events;
+mod keeps;
+mod line_readers;
+mod lines;
+mod outcomes;
+mod pending;
+mod rows;
+mod stepping;
+mod table;
+#[cfg(test)]
+mod tests;
+mod whole;
+
+pub use closing::Closed;
+pub use events::Event;
+pub use keeps::{AnyWords, Keeps};
+pub use lines::Line;
+pub use outcomes::{NotInTurn, OpenRefusal, Outcome};
+pub use pending::Pending;
+pub use rows::{Carry, Change, Exchange, Place};
+pub use whole::Whole;

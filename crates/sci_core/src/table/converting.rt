@@ -1,0 +1,55 @@
+//! The rows of a fresh head on its way to write.
+ghost use Rattle.std.specs.Prelude.{◌≡◌};
+ghost use Rattle.sci_core.specs.Row.{exchange_with};
+ghost use Rattle.sci_core.specs.Table.Converting.{converting_allows, converting_row};
+
+use crate::events::Event;
+use crate::lines::Line;
+use crate::pending::Pending;
+use crate::rows::{Exchange, Place};
+use crate::table::shorthand::{
+    answering, listed, memory, no_exchange, purging, settled, stays, tag, takes, word,
+};
+use sci_words::{Kind, NodeId};
+
+pub fn converting_allows(turned: bool, event: &Event) -> bool
+    ensures { result ≡ converting_allows turned event.now }
+{
+    match event {
+        Event::FreshToGone | Event::Unconverted => !turned,
+        Event::Converted => turned,
+        _ => false,
+    }
+}
+
+pub fn converting_exchange(
+    me: NodeId,
+    forw: &Option<NodeId>,
+    event: &Event,
+    taken: &Line,
+) -> Exchange
+    ensures { result ≡ exchange_with taken.now (converting_row me forw.now event.now) }
+{
+    match event {
+        Event::FreshToGone => {
+            let after = Pending::Converting {
+                forw: *forw,
+                turned: true,
+            };
+            stays(memory(listed(false, me), listed(true, me)), after)
+        }
+        Event::Converted => {
+            let after = Pending::Purging {
+                line: *taken,
+                seen: None,
+            };
+            let change = tag(me, word(Kind::Convert, *forw, None), purging(*forw));
+            answering(takes(change, Place::Node(me), after), taken)
+        }
+        Event::Unconverted => {
+            let change = tag(me, word(Kind::Convert, *forw, None), settled(false, *forw));
+            stays(change, Pending::Idle)
+        }
+        _ => no_exchange(),
+    }
+}

@@ -1,0 +1,150 @@
+//! The rows of a head that purges the entries behind it, one after another, and writes.
+ghost use Rattle.std.specs.Prelude.{◌≡◌, true, IfSome};
+ghost use Rattle.sci_core.specs.declared.lines.Line as a_line;
+ghost use Rattle.sci_core.specs.Row.{exchange_with};
+ghost use Rattle.sci_core.specs.Step.{CanCount};
+ghost use Rattle.sci_core.specs.Table.Purging.{can_count, written, saw_entry, saw_none, purging_allows, purging_row, advancing_allows, advancing_row, clearing_allows, clearing_row};
+
+use crate::events::Event;
+use crate::lines::Line;
+use crate::pending::Pending;
+use crate::rows::{Exchange, Place};
+use crate::table::found;
+use crate::table::shorthand::{
+    gives, invalid, no_exchange, purged, purging, settled, stays, tag, word,
+};
+use sci_words::{Kind, NodeId, Tag};
+
+// The stamp can count one more write.
+fn can_count(line: &Line) -> bool
+    ensures { result ≡ can_count line.now }
+{
+    line.stamp < u64::MAX
+}
+
+// The line after a write of these words.
+fn written(line: &Line, words: &Option<[u64; 8]>) -> Line
+    requires stamp { IfSome words.now (λ _. can_count line.now ≡ true) }
+    ensures { result ≡ written line.now words.now }
+{
+    match words {
+        Some(words) => Line {
+            words: *words,
+            stamp: line.stamp + 1,
+        },
+        None => *line,
+    }
+}
+
+fn saw_entry(seen: &Option<Option<NodeId>>) -> bool
+    ensures { result ≡ saw_entry seen.now }
+{
+    matches!(seen, Some(Some(_)))
+}
+
+fn saw_none(seen: &Option<Option<NodeId>>) -> bool
+    ensures { result ≡ saw_none seen.now }
+{
+    matches!(seen, Some(None))
+}
+
+pub fn purging_allows(me: NodeId, line: &Line, seen: &Option<Option<NodeId>>, event: &Event) -> bool
+    ensures { result ≡ purging_allows me line.now event.now seen.now }
+{
+    match event {
+        Event::Written(words) => saw_none(seen) && (words.is_none() || can_count(line)),
+        Event::PurgeOne(found) => saw_entry(seen) && found::settled_body(found),
+        Event::Adopt(found) => {
+            saw_entry(seen) && found::rolling(found) && !found::names(me, &found.back)
+        }
+        _ => false,
+    }
+}
+
+pub fn purging_exchange(
+    me: NodeId,
+    line: &Line,
+    seen: &Option<Option<NodeId>>,
+    event: &Event,
+) -> Exchange
+    requires stamp { CanCount (Pending.Purging line.now seen.now) event.now }
+    ensures { (y : a_line.Line) → result ≡ exchange_with y (purging_row me line.now event.now seen.now) }
+{
+    match (event, seen) {
+        (Event::Written(words), _) => {
+            let change = tag(me, purging(None), settled(true, None));
+            gives(
+                change,
+                Place::Node(me),
+                &written(line, words),
+                Pending::Idle,
+            )
+        }
+        (Event::PurgeOne(found), Some(Some(next))) => {
+            let after = Pending::Advancing {
+                line: *line,
+                victim: *next,
+                word: purged(found),
+            };
+            stays(tag(*next, *found, purged(found)), after)
+        }
+        (Event::Adopt(found), Some(Some(next))) => {
+            let after = Pending::Purging {
+                line: *line,
+                seen: Some(Some(*next)),
+            };
+            let adopted = word(Kind::Roll, found.forw, Some(me));
+            stays(tag(*next, *found, adopted), after)
+        }
+        _ => no_exchange(),
+    }
+}
+
+pub fn advancing_allows(event: &Event) -> bool
+    ensures { result ≡ advancing_allows event.now }
+{
+    matches!(event, Event::Advance)
+}
+
+pub fn advancing_exchange(
+    me: NodeId,
+    line: &Line,
+    victim: NodeId,
+    kept: &Tag,
+    event: &Event,
+) -> Exchange
+    ensures { (y : a_line.Line) → result ≡ exchange_with y (advancing_row me line.now victim kept.now event.now) }
+{
+    match event {
+        Event::Advance => {
+            let after = Pending::Clearing {
+                line: *line,
+                victim,
+                word: *kept,
+            };
+            stays(tag(me, purging(Some(victim)), purging(kept.forw)), after)
+        }
+        _ => no_exchange(),
+    }
+}
+
+pub fn clearing_allows(event: &Event) -> bool
+    ensures { result ≡ clearing_allows event.now }
+{
+    matches!(event, Event::Clear)
+}
+
+pub fn clearing_exchange(line: &Line, victim: NodeId, kept: &Tag, event: &Event) -> Exchange
+    ensures { (y : a_line.Line) → result ≡ exchange_with y (clearing_row line.now victim kept.now event.now) }
+{
+    match event {
+        Event::Clear => {
+            let after = Pending::Purging {
+                line: *line,
+                seen: None,
+            };
+            stays(tag(victim, purged(kept), invalid()), after)
+        }
+        _ => no_exchange(),
+    }
+}

@@ -1,0 +1,193 @@
+//! Short ways to write the words and the exchanges of the table.
+ghost use Rattle.std.specs.Prelude.{◌≡◌};
+ghost use Rattle.sci_core.specs.State.{word, held, unheld, lent, memory_word, invalid};
+ghost use Rattle.sci_core.specs.Row.{exchange_with, stays, takes, takes_and_answers, gives, gives_and_answers, queued, purging, leaving, attached, purged, settled, listed, home, home_or_listed, no_row};
+
+use crate::lines::Line;
+use crate::pending::Pending;
+use crate::rows::{Carry, Change, Exchange, Place};
+use sci_words::{Kind, Mem, MemState, NodeId, Tag};
+
+pub fn word(kind: Kind, forw: Option<NodeId>, back: Option<NodeId>) -> Tag
+    ensures { result ≡ word kind forw back }
+{
+    Tag {
+        kind,
+        held: false,
+        forw,
+        back,
+    }
+}
+
+pub fn invalid() -> Tag
+    ensures { result ≡ invalid }
+{
+    word(Kind::Invalid, None, None)
+}
+
+pub fn queued(forw: Option<NodeId>) -> Tag
+    ensures { result ≡ queued forw }
+{
+    word(Kind::Queued, forw, None)
+}
+
+pub fn purging(forw: Option<NodeId>) -> Tag
+    ensures { result ≡ purging forw }
+{
+    word(Kind::Purging, forw, None)
+}
+
+pub fn leaving(forw: Option<NodeId>) -> Tag
+    ensures { result ≡ leaving forw }
+{
+    word(Kind::Leaving, forw, None)
+}
+
+/// The old head's word, with the actor in front of it.
+pub fn attached(me: NodeId, found: &Tag) -> Tag
+    ensures { result ≡ attached me found.now }
+{
+    word(Kind::Valid, found.forw, Some(me))
+}
+
+/// The victim's word.
+pub fn purged(found: &Tag) -> Tag
+    ensures { result ≡ purged found.now }
+{
+    word(Kind::Purged, found.forw, found.back)
+}
+
+/// A settled front.
+pub fn settled(dirty: bool, forw: Option<NodeId>) -> Tag
+    ensures { result ≡ settled dirty forw }
+{
+    word(if dirty { Kind::Dirty } else { Kind::Fresh }, forw, None)
+}
+
+pub fn held(tag: &Tag) -> Tag
+    ensures { result ≡ held tag.now }
+{
+    Tag { held: true, ..*tag }
+}
+
+pub fn unheld(tag: &Tag) -> Tag
+    ensures { result ≡ unheld tag.now }
+{
+    Tag {
+        held: false,
+        ..*tag
+    }
+}
+
+/// Memory's word without a list.
+pub fn home() -> Mem
+    ensures { result ≡ home }
+{
+    Mem {
+        state: MemState::Home,
+        lent: false,
+        forw: None,
+    }
+}
+
+/// Memory's word with a list: GONE if the list is dirty.
+pub fn listed(dirty: bool, head: NodeId) -> Mem
+    ensures { result ≡ listed dirty head }
+{
+    Mem {
+        state: if dirty {
+            MemState::Gone
+        } else {
+            MemState::Fresh
+        },
+        lent: false,
+        forw: Some(head),
+    }
+}
+
+/// Memory's word where its data is valid.
+pub fn home_or_listed(head: &Option<NodeId>) -> Mem
+    ensures { result ≡ home_or_listed head.now }
+{
+    match head {
+        Some(head) => listed(false, *head),
+        None => home(),
+    }
+}
+
+pub fn lent(mem: &Mem) -> Mem
+    ensures { result ≡ lent mem.now }
+{
+    Mem { lent: true, ..*mem }
+}
+
+/// The change of the node's tag.
+pub fn tag(node: NodeId, before: Tag, after: Tag) -> Change
+    ensures { result ≡ Change.OfTag node before after }
+{
+    Change::OfTag {
+        node,
+        before,
+        after,
+    }
+}
+
+/// The change of memory's word.
+pub fn memory(before: Mem, after: Mem) -> Change
+    ensures { result ≡ Change.OfMemory before after }
+{
+    Change::OfMemory { before, after }
+}
+
+/// No slot is moved.
+pub fn stays(change: Change, after: Pending) -> Exchange
+    ensures { result ≡ record { change = change; carry = Carry.Stays; after = after; answer = None } }
+{
+    Exchange {
+        change,
+        carry: Carry::Stays,
+        after,
+        answer: None,
+    }
+}
+
+/// A slot is taken.
+pub fn takes(change: Change, place: Place, after: Pending) -> Exchange
+    ensures { result ≡ record { change = change; carry = Carry.Takes place; after = after; answer = None } }
+{
+    Exchange {
+        change,
+        carry: Carry::Takes(place),
+        after,
+        answer: None,
+    }
+}
+
+/// A line is given back into its slot.
+pub fn gives(change: Change, place: Place, line: &Line, after: Pending) -> Exchange
+    ensures { result ≡ record { change = change; carry = Carry.Gives place line.now; after = after; answer = None } }
+{
+    Exchange {
+        change,
+        carry: Carry::Gives(place, *line),
+        after,
+        answer: None,
+    }
+}
+
+/// The same exchange, which answers this line.
+pub fn answering(exchange: Exchange, line: &Line) -> Exchange
+    ensures { result ≡ record exchange { answer = Some line.now } }
+{
+    Exchange {
+        answer: Some(*line),
+        ..exchange
+    }
+}
+
+/// What stands for the exchange of an event that is not allowed.
+pub fn no_exchange() -> Exchange
+    ensures { result ≡ record { change = no_row.change; carry = no_row.carry; after = Pending.Idle; answer = None } }
+{
+    stays(memory(home(), home()), Pending::Idle)
+}

@@ -1,0 +1,122 @@
+//! One line's whole state as a value.
+ghost use Rattle.std.specs.Prelude.{◌≡◌, ◌<◌, ◌≤◌, ◌⊎◌, ◌↔◌, IfOk, IsTrue};
+ghost use Rattle.sci_words.specs.Tag.{tag_well_formed, tag_links_below};
+ghost use Rattle.sci_words.specs.Mem.{mem_well_formed, mem_links_below};
+ghost use Rattle.sci_core.specs.Run.{IsLawfulLine};
+ghost use Rattle.sci_core.specs.Whole.{nodes_of, state_of, opened_whole};
+
+use crate::keeps::Keeps;
+use crate::lines::Line;
+use crate::outcomes::OpenRefusal;
+use crate::pending::Pending;
+use sci_words::{Kind, LineNo, Mem, MemState, NodeId, Tag};
+use std::alloc::Global;
+use std::marker::Model;
+
+/// The state of one line of 1 to 64 nodes: the memory word, each node's tag and pending step, and all slots. Between any
+/// two of its calls it is lawful.
+#[derive(Drop)]
+pub struct Whole<K: Keeps> {
+    pub(crate) keep: K,
+    pub(crate) number: LineNo,
+    pub(crate) memory: Mem,
+    pub(crate) tags: Vec<Tag>,
+    pub(crate) steps: Vec<Pending>,
+    pub(crate) memory_slot: Option<Line>,
+    pub(crate) slots: Vec<Option<Line>>,
+}
+
+impl<K: Keeps> Model for Whole<K> {
+    ghost use Rattle.sci_core.specs.Whole.{WholeLine, IsSound};
+
+    ghost Value = { WholeLine K };
+
+    ghost view = { λ w. record { keep = w.keep; number = w.number; memory = w.memory; tags = w.tags.items; steps = w.steps.items; memory_slot = w.memory_slot; slots = w.slots.items } };
+
+    ghost invariant = { λ w. IsSound (K.fits w.keep w.number) record { keep = w.keep; number = w.number; memory = w.memory; tags = w.tags.items; steps = w.steps.items; memory_slot = w.memory_slot; slots = w.slots.items } };
+}
+
+impl<K: Keeps> Whole<K> {
+    /// A line that nobody has used: HOME, all tags Invalid, and `line` in every slot. The refusals: 6 for 0 or more than
+    /// 64 nodes, then 7 where memory ran out.
+    pub fn open(
+        alloc: Global,
+        nodes: u16,
+        number: LineNo,
+        line: Line,
+        keep: K,
+    ) -> Result<Whole<K>, OpenRefusal>
+        requires { K.fits keep number line.words }
+        ensures nodes { (result ≡ Err OpenRefusal.BadNodes) ↔ ((nodes ≡ 0) ⊎ (64 < nodes)) }
+        ensures opened { IfOk result (λ w. w ≡ opened_whole keep number nodes line) }
+    {
+        if nodes == 0 || nodes > 64 {
+            return Err(OpenRefusal::BadNodes);
+        }
+        let invalid = Tag {
+            kind: Kind::Invalid,
+            held: false,
+            forw: None,
+            back: None,
+        };
+        let tags = vec![in alloc; invalid; usize::from(nodes)]?;
+        let steps = vec![in alloc; Pending::Idle; usize::from(nodes)]?;
+        let slots = vec![in alloc; Some(line); usize::from(nodes)]?;
+        Ok(Whole {
+            keep,
+            number,
+            memory: Mem {
+                state: MemState::Home,
+                lent: false,
+                forw: None,
+            },
+            tags,
+            steps,
+            memory_slot: Some(line),
+            slots,
+        })
+    }
+
+    /// How many nodes there are, 1 to 64. What stands is lawful, here and between any two calls.
+    pub fn nodes(&self) -> u16
+        ensures nodes { result ≡ nodes_of self.now }
+        ensures range { (0 < result) × (result ≤ 64) }
+        ensures lawful { IsLawfulLine (nodes_of self.now) (K.fits self.now.keep self.now.number) (state_of self.now) }
+    {
+        self.tags.len() as u16
+    }
+
+    /// The line's number.
+    pub fn number(&self) -> LineNo
+        ensures { result ≡ self.now.number }
+    {
+        self.number
+    }
+
+    /// The memory word as it stands.
+    pub fn mem(&self) -> Mem
+        ensures value { result ≡ (state_of self.now).memory }
+        ensures well_formed { IsTrue (mem_well_formed result) }
+        ensures links { IsTrue (mem_links_below (nodes_of self.now) result) }
+    {
+        self.memory
+    }
+
+    /// A node's tag as it stands.
+    pub fn tag(&self, node: NodeId) -> Tag
+        requires { node < nodes_of self.now }
+        ensures value { result ≡ (state_of self.now).tags node }
+        ensures well_formed { IsTrue (tag_well_formed result) }
+        ensures links { IsTrue (tag_links_below (nodes_of self.now) result) }
+    {
+        self.tags[usize::from(node.get())]
+    }
+
+    /// A node's pending step as it stands.
+    pub fn pending(&self, node: NodeId) -> Pending
+        requires { node < nodes_of self.now }
+        ensures { result ≡ (state_of self.now).steps node }
+    {
+        self.steps[usize::from(node.get())]
+    }
+}

@@ -1,0 +1,40 @@
+-- What the command `script` writes. This project's profile.
+use Rattle.std.specs.Prelude.{◌≡◌, ℕ, ◌<◌, ◌≤◌, List, [], length, Ok, Err, ◌⊎◌}
+use Rattle.sci_sim.specs.declared.commands.Size.{Size}
+use Rattle.sci_sim.specs.declared.commands.Opening.{Opening}
+use Rattle.sci_sim.specs.declared.commands.Step.{Step}
+use Rattle.sci_sim.specs.declared.refusals.ScriptRefusal.{ScriptRefusal}
+use Rattle.sci_sim.specs.declared.refusals.ScriptRefusal.TheVariants.{OutOfMemory, BadCommand, BadNumber, NotDone, WriteFailed}
+use Rattle.sci_sim.specs.declared.faults.SimFault.{SimFault}
+use Rattle.sci_sim.specs.declared.faults.SimFault.TheVariants.{CannotRead, CannotWrite, InputTooLong, Refused}
+use Rattle.sci_sim.specs.declared.wholes.WholesDesk.{WholesDesk}
+use Rattle.sci_sim.specs.Format.{script_of}
+use Rattle.sci_sim.specs.Run.{PrintsAll, Leaves}
+use Rattle.sci_sim.specs.Wholes.{IsOpened, wholes_is_open, wholes_does}
+
+-- the input is a script, and this is the text that it prints
+abbrev pub Serves : List ℕ → List ℕ → Type 0
+Serves input text =
+    (length input ≤ 1048576) × (size : Size) × (openings : List Opening) × (steps : List Step) × (script_of input ≡ Ok (size, openings, steps))
+    × (s t : WholesDesk) × IsOpened size openings s × PrintsAll wholes_is_open wholes_does s steps text t
+
+-- the input is a script, whose run fails and leaves this text
+abbrev pub StopsRunning : ScriptRefusal → List ℕ → List ℕ → Type 0
+StopsRunning e input written =
+    (length input ≤ 1048576) × (size : Size) × (openings : List Opening) × (steps : List Step) × (script_of input ≡ Ok (size, openings, steps))
+    × (s t : WholesDesk) × IsOpened size openings s × Leaves wholes_is_open wholes_does size.nodes s steps e written t
+
+-- the reader of scripts refuses the input, or memory ran out before the run
+abbrev pub IsRefused : ScriptRefusal → List ℕ → Type 0
+IsRefused OutOfMemory input = Unit {0}
+IsRefused (BadCommand n) input = (length input ≤ 1048576) × (script_of input ≡ Err (BadCommand n))
+IsRefused (BadNumber n) input = (length input ≤ 1048576) × (script_of input ≡ Err (BadNumber n))
+IsRefused (NotDone n) input = ⊥
+IsRefused WriteFailed input = ⊥
+
+-- what is written where the command fails; a fault of reading comes before any other
+abbrev pub Stops : SimFault → List ℕ → List ℕ → Type 0
+Stops CannotRead input written = written ≡ []
+Stops CannotWrite input written = StopsRunning WriteFailed input written
+Stops InputTooLong input written = (1048576 < length input) × (written ≡ [])
+Stops (Refused e) input written = (IsRefused e input × (written ≡ [])) ⊎ StopsRunning e input written

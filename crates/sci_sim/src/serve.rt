@@ -1,0 +1,43 @@
+//! The command `script`, from the bytes of a script to its text.
+
+ghost use Rattle.std.specs.Prelude.{◌≡◌, ◌≤◌, ℕ, List, length, OnOk, IfErr, IfSome};
+ghost use Rattle.sci_sim.specs.Fault.{fault_of};
+ghost use Rattle.std.specs.Io.KnownBytes.{Appends};
+ghost use Rattle.sci_sim.specs.Serve.{Serves, Stops};
+
+use crate::faults::SimFault;
+use crate::input::read_input;
+use crate::reader::read_script;
+use crate::refusals::ScriptRefusal;
+use crate::running::run;
+use crate::wholes::WholesDesk;
+use std::alloc::Global;
+use std::io::{Read, Write};
+
+/// Runs the script that an input is, and writes its text.
+fn serve_input<W: Write>(alloc: Global, input: &[u8], writer: &mut W) -> Result<(), ScriptRefusal>
+    requires { length input.now ≤ 1048576 }
+    ensures ok { OnOk result ((text : List ℕ) × Serves input.now text × Appends (W.contents writer.old) (W.contents writer.new) text) }
+    ensures err { IfErr result (λ e. (written : List ℕ) × Stops (fault_of e) input.now written
+        × Appends (W.contents writer.old) (W.contents writer.new) written) }
+{
+    let script = read_script(alloc, input)?;
+    let mut desk = WholesDesk::open(alloc, &script)?;
+    run(&script, &mut desk, writer)
+}
+
+/// Reads a script to its end, runs it, and writes its text.
+pub fn serve_script<R: Read, W: Write>(
+    alloc: Global,
+    reader: &mut R,
+    writer: &mut W,
+) -> Result<(), SimFault>
+    ensures ok { OnOk result (IfSome (R.remaining reader.old) (λ input. (text : List ℕ) × Serves input text
+        × Appends (W.contents writer.old) (W.contents writer.new) text)) }
+    ensures err { IfErr result (λ e. IfSome (R.remaining reader.old) (λ input. (written : List ℕ) × Stops e input written
+        × Appends (W.contents writer.old) (W.contents writer.new) written)) }
+{
+    let input = read_input(alloc, reader)?;
+    serve_input(alloc, &input, writer)?;
+    Ok(())
+}

@@ -1,0 +1,351 @@
+ghost use Rattle.std.specs.Prelude.{Some};
+
+use crate::faults::SimFault;
+use crate::refusals::ScriptRefusal;
+use crate::serve::serve_script;
+use std::alloc::{AllocError, Global};
+use std::io;
+use std::io::{ErrorKind, Read, Write};
+use std::process::Abort;
+use std::test::*;
+
+/// Gives one byte a read, and each other read is interrupted.
+#[derive(Drop)]
+struct OneByte<'a> {
+    rest: &'a [u8],
+    interrupted: bool,
+}
+
+impl Read for OneByte<'_> {
+    fn read(&mut self, buf: &mut [u8]) -> io::Result<usize> {
+        self.interrupted = !self.interrupted;
+        if self.interrupted {
+            return Err(io::Error::from(ErrorKind::Interrupted));
+        }
+        match self.rest {
+            [first, rest @ ..] if !buf.is_empty() => {
+                buf[0] = *first;
+                self.rest = rest;
+                Ok(1)
+            }
+            _ => Ok(0),
+        }
+    }
+}
+
+/// Fails at each read.
+#[derive(Drop)]
+struct Broken;
+
+impl Read for Broken {
+    fn read(&mut self, _buf: &mut [u8]) -> io::Result<usize> {
+        Err(io::Error::from(ErrorKind::Other))
+    }
+}
+
+/// Takes two bytes a write, and fails when it is full; each other write is interrupted.
+#[derive(Drop)]
+struct Narrow {
+    held: Vec<u8>,
+    room: usize,
+    interrupted: bool,
+}
+
+impl Write for Narrow {
+    ghost contents = { λ w. Some w.held.items };
+
+    fn write(&mut self, buf: &[u8]) -> io::Result<usize> {
+        self.interrupted = !self.interrupted;
+        if self.interrupted {
+            return Err(io::Error::from(ErrorKind::Interrupted));
+        }
+        let count = buf.len().min(2).min(self.room);
+        if count == 0 {
+            return Err(io::Error::from(ErrorKind::Other));
+        }
+        self.held.extend_from_slice(&buf[..count])?;
+        self.room -= count;
+        Ok(count)
+    }
+
+    fn flush(&mut self) -> io::Result<()> {
+        Ok(())
+    }
+}
+
+/// A script, its fault if it has one, and its text.
+type Case = (&'static str, Option<SimFault>, &'static str);
+
+fn refused(refusal: ScriptRefusal) -> Option<SimFault> {
+    Some(SimFault::Refused(refusal))
+}
+
+const SHARERS: &str =
+    "memory 3 1\nload 0 0 0\ndone 0\nload 1 0 0\ndone 1\nload 2 0 0\ndone 2\nlist 0\n";
+
+const SHARED: &str = "node 0 read 0 stamp 0\nnode 1 read 0 stamp 0\nnode 2 read 0 stamp 0\n\
+    line 0 FRESH 2: 2 HEAD_FRESH, 1 MID_VALID, 0 TAIL_VALID\n";
+
+fn check(rt: &impl Abort, alloc: Global, cases: &[Case]) {
+    for (script, fault, text) in cases {
+        let mut out = Vec::new(alloc);
+        let end = serve_script(alloc, &mut script.as_bytes(), &mut out);
+        assert_eq!(rt; end.err(), *fault, "of {script}");
+        assert!(rt; out.as_slice() == text.as_bytes(), "text of {script}");
+    }
+}
+
+#[test]
+fn reads(rt: HostRuntime) {
+    check(
+        &rt,
+        rt.alloc(),
+        &[
+            (SHARERS, None, SHARED),
+            ("memory 1 1", None, ""),
+            ("memory 1 1\nlist 0\n", None, "line 0 HOME\n"),
+        ],
+    );
+}
+
+#[test]
+fn writes(rt: HostRuntime) {
+    check(
+        &rt,
+        rt.alloc(),
+        &[
+            (
+                "memory 2 1\nstore 0 0 0 7\ndone 0\nload 1 0 0\ndone 1\nlist 0\n",
+                None,
+                "node 0 wrote stamp 1\nnode 1 read 7 stamp 1\nline 0 GONE 1: 1 HEAD_DIRTY, 0 TAIL_VALID\n",
+            ),
+            (
+                "memory 2 1\nstore 0 0 0 7\ndone 0\nevict 0 0\ndone 0\nlist 0\nload 1 0 0\ndone 1\n",
+                None,
+                "node 0 wrote stamp 1\nnode 0 out\nline 0 HOME\nnode 1 read 7 stamp 1\n",
+            ),
+            (
+                "memory 3 1\nload 0 0 0\ndone 0\nload 1 0 0\ndone 1\nload 2 0 0\ndone 2\nstore 2 0 0 5\nturn 2\n\
+                 list 0\nturn 2\nlist 0\nturn 2\nlist 0\nturn 2\nlist 0\nturn 2\nlist 0\nturn 2\nlist 0\n\
+                 turn 2\nlist 0\nturn 2\nlist 0\nturn 2\nlist 0\nturn 2\nlist 0\n",
+                None,
+                "node 0 read 0 stamp 0\nnode 1 read 0 stamp 0\nnode 2 read 0 stamp 0\n\
+                 line 0 FRESH 2: 2 CONVERT, 1 MID_VALID, 0 TAIL_VALID\n\
+                 line 0 GONE 2: 2 CONVERT, 1 MID_VALID, 0 TAIL_VALID\n\
+                 line 0 GONE 2: 2 PURGING, 1 MID_VALID, 0 TAIL_VALID\n\
+                 line 0 GONE 2: 2 PURGING, 1 PURGED, 0 TAIL_VALID\nline 0 GONE 2: 2 PURGING, 0 TAIL_VALID\n\
+                 line 0 GONE 2: 2 PURGING, 0 TAIL_VALID\nline 0 GONE 2: 2 PURGING, 0 PURGED\n\
+                 line 0 GONE 2: 2 PURGING\nline 0 GONE 2: 2 PURGING\nnode 2 wrote stamp 1\n\
+                 line 0 GONE 2: 2 ONLY_DIRTY\n",
+            ),
+            (
+                "memory 3 1\nstore 0 0 0 5\ndone 0\nstore 0 0 0 6\nturn 0\nload 1 0 0\nturn 1\nturn 1\n\
+                 load 2 0 0\nturn 2\nturn 2\nlist 0\nturn 2\nturn 1\nturn 0\ndone 1\ndone 2\nlist 0\n",
+                None,
+                "node 0 wrote stamp 1\nline 0 GONE 2: 2 QUEUED, 1 QUEUED, 0 PURGING\nnode 2 waits\n\
+                 node 1 waits\nnode 0 wrote stamp 2\nnode 1 read 6 stamp 2\nnode 2 read 6 stamp 2\n\
+                 line 0 GONE 2: 2 HEAD_DIRTY, 1 MID_VALID, 0 TAIL_VALID\n",
+            ),
+            (
+                "memory 1 1\nopen 0 18446744073709551615 0 0 0 0 0 0 0 0\nstore 0 0 0 5\ndone 0\nlist 0\n\
+                 load 0 0 0\ndone 0\n",
+                None,
+                "node 0 refused 11\nline 0 GONE 0: 0 ONLY_DIRTY\nnode 0 read 0 stamp 18446744073709551615\n",
+            ),
+            (
+                "memory 1 1\nopen 0 18446744073709551614 0 0 0 0 0 0 0 0\nstore 0 0 0 5\ndone 0\nstore 0 0 0 6\n\
+                 done 0\nload 0 0 0\ndone 0\n",
+                None,
+                "node 0 wrote stamp 18446744073709551615\nnode 0 refused 11\n\
+                 node 0 read 5 stamp 18446744073709551615\n",
+            ),
+        ],
+    );
+}
+
+#[test]
+fn exits(rt: HostRuntime) {
+    check(
+        &rt,
+        rt.alloc(),
+        &[
+            (
+                "memory 1 1\nload 0 0 0\ndone 0\nlist 0\nevict 0 0\ndone 0\nlist 0\nevict 0 0\ndone 0\n",
+                None,
+                "node 0 read 0 stamp 0\nline 0 FRESH 0: 0 ONLY_FRESH\nnode 0 out\nline 0 HOME\nnode 0 out\n",
+            ),
+            (
+                "memory 3 1\nload 0 0 0\ndone 0\nload 1 0 0\ndone 1\nload 2 0 0\ndone 2\nstore 0 0 0 5\ndone 0\n\
+                 list 0\nload 1 0 0\ndone 1\n",
+                None,
+                "node 0 read 0 stamp 0\nnode 1 read 0 stamp 0\nnode 2 read 0 stamp 0\nnode 0 wrote stamp 1\n\
+                 line 0 GONE 0: 0 ONLY_DIRTY\nnode 1 read 5 stamp 1\n",
+            ),
+            (
+                "memory 3 1\nload 0 0 0\ndone 0\nload 1 0 0\ndone 1\nload 2 0 0\ndone 2\nevict 1 0\nturn 1\n\
+                 evict 0 0\nturn 0\nlist 0\nturn 1\nturn 0\nlist 0\nturn 0\nturn 1\nturn 1\nlist 0\n",
+                None,
+                "node 0 read 0 stamp 0\nnode 1 read 0 stamp 0\nnode 2 read 0 stamp 0\n\
+                 line 0 FRESH 2: 2 HEAD_FRESH, 1 ROLL, 0 ROLL\nnode 1 waits\n\
+                 line 0 FRESH 2: 2 HEAD_FRESH, 1 ROLL\nnode 0 out\nnode 1 out\nline 0 FRESH 2: 2 ONLY_FRESH\n",
+            ),
+            (
+                "memory 4 1\nload 0 0 0\ndone 0\nload 1 0 0\ndone 1\nload 2 0 0\ndone 2\nload 3 0 0\ndone 3\n\
+                 evict 1 0\nturn 1\nturn 1\ntag 0 0\nstore 3 0 0 9\nturn 3\nturn 3\nturn 3\nturn 3\nturn 3\n\
+                 turn 3\nlist 0\ntag 0 1\nturn 3\ntag 0 1\nturn 3\nturn 1\nlist 0\nturn 1\ndone 3\nlist 0\n",
+                None,
+                "node 0 read 0 stamp 0\nnode 1 read 0 stamp 0\nnode 2 read 0 stamp 0\nnode 3 read 0 stamp 0\n\
+                 tag 0 0 TAIL_VALID forw - back 2\nline 0 GONE 3: 3 PURGING, 1 ROLL, 0 TAIL_VALID\n\
+                 tag 0 1 ROLL forw 0 back 2\ntag 0 1 ROLL forw 0 back 3\nnode 3 waits\n\
+                 line 0 GONE 3: 3 PURGING, 0 TAIL_VALID\nnode 1 out\nnode 3 wrote stamp 1\n\
+                 line 0 GONE 3: 3 ONLY_DIRTY\n",
+            ),
+        ],
+    );
+}
+
+#[test]
+fn late_comers(rt: HostRuntime) {
+    check(
+        &rt,
+        rt.alloc(),
+        &[
+            (
+                "memory 2 1\nload 0 0 0\ndone 0\nstore 0 0 0 5\nturn 0\nload 1 0 0\nturn 1\nturn 1\nturn 1\n\
+                 list 0\nturn 1\nturn 0\nlist 0\nturn 0\nturn 1\nturn 1\nlist 0\ndone 0\nlist 0\n",
+                None,
+                "node 0 read 0 stamp 0\nline 0 FRESH 1: 1 QUEUED, 0 CONVERT\nnode 1 waits\n\
+                 line 0 FRESH 1: 1 QUEUED, 0 ONLY_FRESH\nnode 0 waits\nnode 1 read 0 stamp 0\n\
+                 line 0 FRESH 1: 1 HEAD_FRESH, 0 TAIL_VALID\nnode 0 wrote stamp 1\nline 0 GONE 0: 0 ONLY_DIRTY\n",
+            ),
+            (
+                "memory 3 1\nstore 0 0 0 7\ndone 0\nload 1 0 0\ndone 1\nevict 1 0\nturn 1\nturn 1\nlist 0\n\
+                 store 0 0 0 9\ndone 0\nload 2 0 0\nturn 2\nturn 2\nturn 1\nlist 0\nturn 2\nturn 1\nturn 1\n\
+                 turn 1\nturn 1\ndone 2\ndone 1\nlist 0\n",
+                None,
+                "node 0 wrote stamp 1\nnode 1 read 7 stamp 1\nline 0 GONE 1: 1 LEAVING, 0 ONLY_DIRTY\n\
+                 node 0 wrote stamp 2\nline 0 GONE 2: 2 QUEUED, 1 QUEUED, 0 ONLY_DIRTY\nnode 2 waits\n\
+                 node 1 waits\nnode 2 read 9 stamp 2\nnode 1 out\nline 0 GONE 2: 2 HEAD_DIRTY, 0 TAIL_VALID\n",
+            ),
+            (
+                "memory 2 1\nstore 0 0 0 7\ndone 0\nevict 0 0\nturn 0\nload 1 0 0\nturn 1\nturn 1\nturn 0\n\
+                 list 0\nturn 0\ndone 1\ndone 0\nlist 0\n",
+                None,
+                "node 0 wrote stamp 1\nline 0 GONE 1: 1 QUEUED, 0 ONLY_DIRTY\nnode 0 waits\n\
+                 node 1 read 7 stamp 1\nnode 0 out\nline 0 GONE 1: 1 ONLY_DIRTY\n",
+            ),
+        ],
+    );
+}
+
+#[test]
+fn refusals(rt: HostRuntime) {
+    let command = |line| refused(ScriptRefusal::BadCommand(line));
+    let number = |line| refused(ScriptRefusal::BadNumber(line));
+    check(
+        &rt,
+        rt.alloc(),
+        &[
+            ("", command(1), ""),
+            ("\n", command(2), ""),
+            ("memory 0 1", number(1), ""),
+            ("memory 1 1\nlode 0 0 0", command(2), ""),
+            ("memory 1 1\nload 0 0 8", number(2), ""),
+            ("memory 1 1\nturn 0", command(2), ""),
+            ("memory 1 1\nlist 0\nturn 0", command(3), "line 0 HOME\n"),
+            ("memory 1 1\nload 0 0 0\nload 0 0 0", command(3), ""),
+            (
+                "memory 1 1\nlist 0\nopen 0 0 0 0 0 0 0 0 0 0",
+                command(3),
+                "",
+            ),
+            (
+                "memory 2 1\nstore 0 0 0 5\ndone 0\nstore 0 0 0 6\nturn 0\nload 1 0 0\ndone 1\n",
+                refused(ScriptRefusal::NotDone(7)),
+                "node 0 wrote stamp 1\n",
+            ),
+        ],
+    );
+}
+
+#[test]
+fn one_byte_at_a_time(rt: HostRuntime) {
+    let mut reader = OneByte {
+        rest: SHARERS.as_bytes(),
+        interrupted: false,
+    };
+    let mut writer = Narrow {
+        held: Vec::new(rt.alloc()),
+        room: 1000,
+        interrupted: false,
+    };
+    let end = serve_script(rt.alloc(), &mut reader, &mut writer);
+    assert!(rt; end.is_ok());
+    assert!(rt; writer.held.as_slice() == SHARED.as_bytes());
+}
+
+#[test]
+fn readers_and_writers_that_fail(rt: HostRuntime) {
+    let mut out = Vec::new(rt.alloc());
+    let end = serve_script(rt.alloc(), &mut Broken, &mut out);
+    assert_eq!(rt; end, Err(SimFault::CannotRead));
+    assert!(rt; out.is_empty());
+    let mut writer = Narrow {
+        held: Vec::new(rt.alloc()),
+        room: 29,
+        interrupted: false,
+    };
+    let end = serve_script(rt.alloc(), &mut SHARERS.as_bytes(), &mut writer);
+    assert_eq!(rt; end, Err(SimFault::CannotWrite));
+    assert!(rt; writer.held.as_slice() == &SHARED.as_bytes()[..29]);
+}
+
+fn input(alloc: Global, length: usize) -> Result<Vec<u8>, AllocError> {
+    let mut input = vec![in alloc; b' '; length]?;
+    if length > 0 {
+        input[0] = b'#';
+    }
+    Ok(input)
+}
+
+#[test]
+fn long_inputs(rt: HostRuntime) -> Result<(), Fail> {
+    let cases = [
+        (1_048_576, refused(ScriptRefusal::BadCommand(2))),
+        (1_048_577, Some(SimFault::InputTooLong)),
+    ];
+    for (length, fault) in cases {
+        let input = input(rt.alloc(), length)?;
+        let mut out = Vec::new(rt.alloc());
+        let end = serve_script(rt.alloc(), &mut input.as_slice(), &mut out);
+        assert_eq!(rt; end.err(), fault);
+    }
+    Ok(())
+}
+
+#[test]
+fn texts_of_faults(rt: HostRuntime) -> Result<(), Fail> {
+    let cases = [
+        (SimFault::CannotRead, "cannot read"),
+        (SimFault::CannotWrite, "cannot write"),
+        (SimFault::InputTooLong, "refused 23"),
+        (SimFault::Refused(ScriptRefusal::OutOfMemory), "refused 7"),
+        (
+            SimFault::Refused(ScriptRefusal::BadCommand(1)),
+            "refused 16 at line 1",
+        ),
+        (
+            SimFault::Refused(ScriptRefusal::BadNumber(20)),
+            "refused 17 at line 20",
+        ),
+        (
+            SimFault::Refused(ScriptRefusal::NotDone(300)),
+            "refused 18 at line 300",
+        ),
+    ];
+    for (fault, text) in cases {
+        let shown = format!(in rt.alloc(); "{fault}")?;
+        assert!(rt; shown.as_str() == text, "of {text}");
+    }
+    Ok(())
+}

@@ -1,0 +1,5 @@
+pub mod Layout
+pub mod Tag
+pub mod Mem
+pub mod Codes
+pub mod Refused

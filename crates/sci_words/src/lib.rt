@@ -1,0 +1,24 @@
+//! The words of one line: a tag word for each node's cache entry, and one memory word.
+//!
+//! [`write_tag`] and [`write_mem`] give a word's code in 64 bits, and [`read_tag`] and [`read_mem`] read it again or say why
+//! they refuse it. [`name`] and [`mem_name`] give the names that listings show.
+#![tactic(auto)]
+
+mod codec;
+mod layouts;
+mod memory;
+mod names;
+mod nodes;
+mod numbers;
+mod refusals;
+mod tags;
+
+pub use codec::{read_mem, read_tag, write_mem, write_tag};
+pub use memory::{Mem, MemState};
+pub use names::{mem_name, name};
+pub use nodes::{LineNo, NodeId};
+pub use refusals::WordRefusal;
+pub use tags::{Kind, Tag};
+
+#[cfg(test)]
+mod tests;
