@@ -10,7 +10,8 @@ use Rattle.sci_words.specs.Tag.{tag_well_formed}
 use Rattle.sci_core.specs.declared.lines.Line.{Line}
 use Rattle.sci_core.specs.declared.pending.Pending.{Pending}
 use Rattle.sci_core.specs.State.{invalid, blank}
-use Rattle.sci_core.specs.Exact.{IsExact, line_in}
+use Rattle.sci_core.specs.Exact.{IsExact}
+use Rattle.sci_core.specs.Step.{line_in}
 use Rattle.sci_core.specs.Whole.{WholeLine, nodes_of, state_of, IsSound}
 use Rattle.sci_core.specs.Closed.{ClosedLine, IsClosed, IsExactClosed, IsReadOff}
 use Rattle.sci_core.proofs.Idle.{memory_at_home, at_home as slot_at_home}

@@ -10,7 +10,7 @@ use Rattle.sci_core.specs.State.{State}
 use Rattle.sci_core.specs.Law.{is_front, is_valid}
 use Rattle.sci_core.specs.Chain.{IsPath, IsBehind, forward}
 use Rattle.sci_core.specs.Fronts.{IsFrontWord, IsBodyWord, IsWaiting}
-use Rattle.sci_core.specs.Sharers.{IsValidSharer, IsDirtySharer, IsSoleSharer, MayWrite, is_dirty}
+use Rattle.sci_core.specs.Sharers.{IsValidSharer, IsDirtySharer, IsSoleSharer, MayWrite, is_dirty_sharer}
 use Rattle.sci_core.specs.Outside.{IsOutsider}
 use Rattle.sci_core.specs.Lawful.{Lawful}
 use Rattle.sci_core.specs.Headline.{IsCoherent}
@@ -59,10 +59,10 @@ body_behind : (fronts body : List ℕ) (i j : ℕ) → Contains fronts i → Con
 body_behind [] body i j c d = absurd (contains_none i c)
 body_behind (x ∷ xs) body i j c d = ⊎_elim (λ e. inl (sym e, Contains-append_right xs body j d)) (λ h. inr (body_behind xs body i j h d)) (contains_cases x xs i c)
 
-dirty_is_front : (k : Kind) → is_dirty k ≡ true → is_front k ≡ true
+dirty_is_front : (k : Kind) → is_dirty_sharer k ≡ true → is_front k ≡ true
 dirty_is_front k d = grind (arith, d)
 
-dirty_is_valid : (k : Kind) → is_dirty k ≡ true → is_valid k ≡ true
+dirty_is_valid : (k : Kind) → is_dirty_sharer k ≡ true → is_valid k ≡ true
 dirty_is_valid k d = grind (arith, d)
 
 waiting_not_valid : (t : Tag) (p : Pending) → IsWaiting t p → is_valid t.kind ≡ true → ⊥

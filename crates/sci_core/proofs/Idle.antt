@@ -9,7 +9,8 @@ use Rattle.sci_core.specs.State.{State, invalid}
 use Rattle.sci_core.specs.Shape.{Phase, shape, phase_of, flag_of}
 use Rattle.sci_core.specs.Law.{Law, Witness, Below, suits, may_be_outside, is_front, is_body, is_valid, is_dirty_front}
 use Rattle.sci_core.specs.Chain.{IsPath, forward}
-use Rattle.sci_core.specs.Exact.{is_settled, line_in, IsExact}
+use Rattle.sci_core.specs.Exact.{is_closed_kind, IsExact}
+use Rattle.sci_core.specs.Step.{line_in}
 use Rattle.sci_core.proofs.ReadBack.Ranked.{Stands, stands}
 use Rattle.sci_core.proofs.ReadBack.Chain.{chain_of_law}
 use Rattle.sci_core.proofs.ReadBack.BackLinks.{back_links_of_law}
@@ -19,25 +20,25 @@ use Rattle.sci_core.proofs.ReadBack.LastFront.{not_both}
 pub all_idle : (n : ℕ) (s : State) → ((i : ℕ) → i < n → s.steps i ≡ Pending.Idle) → ((i : ℕ) → n ≤ i → (s.tags i ≡ invalid) × (s.steps i ≡ Pending.Idle)) → (i : ℕ) → s.steps i ≡ Pending.Idle
 all_idle n s h u i = ⊎_elim (λ l. h i l) (λ l. (u i l).1) (cases_lt i n)
 
-idle_kinds : (p : Phase) (k : Kind) → p ≡ Phase.Idle → suits p k ≡ true → k ≢ Kind.Purged → is_settled k ≡ true
+idle_kinds : (p : Phase) (k : Kind) → p ≡ Phase.Idle → suits p k ≡ true → k ≢ Kind.Purged → is_closed_kind k ≡ true
 idle_kinds p k e h n = grind (arith, e, h, n)
 
-settled_front : (k : Kind) → is_settled k ≡ true → is_front k ≡ true → (k ≡ Kind.Fresh) ⊎ (k ≡ Kind.Dirty)
+settled_front : (k : Kind) → is_closed_kind k ≡ true → is_front k ≡ true → (k ≡ Kind.Fresh) ⊎ (k ≡ Kind.Dirty)
 settled_front k h f = grind (arith, h, f)
 
-settled_body : (k : Kind) → is_settled k ≡ true → is_body k ≡ true → k ≡ Kind.Valid
+settled_body : (k : Kind) → is_closed_kind k ≡ true → is_body k ≡ true → k ≡ Kind.Valid
 settled_body k h f = grind (arith, h, f)
 
-settled_valid : (k : Kind) → is_settled k ≡ true → k ≢ Kind.Invalid → is_valid k ≡ true
+settled_valid : (k : Kind) → is_closed_kind k ≡ true → k ≢ Kind.Invalid → is_valid k ≡ true
 settled_valid k h f = grind (arith, h, f)
 
-settled_not_roll : (k : Kind) → is_settled k ≡ true → k ≢ Kind.Roll
+settled_not_roll : (k : Kind) → is_closed_kind k ≡ true → k ≢ Kind.Roll
 settled_not_roll k h e = grind (arith, h, e)
 
-settled_not_purging : (k : Kind) → is_settled k ≡ true → k ≢ Kind.Purging
+settled_not_purging : (k : Kind) → is_closed_kind k ≡ true → k ≢ Kind.Purging
 settled_not_purging k h e = grind (arith, h, e)
 
-outside_invalid : (p : Phase) (k : Kind) → p ≡ Phase.Idle → is_settled k ≡ true → may_be_outside p k ≡ true → k ≡ Kind.Invalid
+outside_invalid : (p : Phase) (k : Kind) → p ≡ Phase.Idle → is_closed_kind k ≡ true → may_be_outside p k ≡ true → k ≡ Kind.Invalid
 outside_invalid p k e h m = grind (arith, e, h, m)
 
 fresh_not_gone : (p : Phase) (k : Kind) (f : Bool) → k ≡ Kind.Fresh → is_dirty_front k p f ≡ true → ⊥
@@ -85,7 +86,7 @@ module _ (s : State) (g : Witness) (o : Law (shape s) g) (idle : (i : ℕ) → s
       (λ z. let e = o.outside.cleared i (omega (arith, z)) k in let q = phase_idle (g.clearer i) in grind (arith, e, q))
       (cases_lt 0 (g.rank i))
 
-  pub settled_kind : (i : ℕ) → is_settled (s.tags i).kind ≡ true
+  pub settled_kind : (i : ℕ) → is_closed_kind (s.tags i).kind ≡ true
   settled_kind i = idle_kinds (phase_of (s.steps i)) (s.tags i).kind (phase_idle i) (o.own.suited i) (not_purged i)
 
   -- the last front is the first entry

@@ -8,7 +8,7 @@ use Rattle.sci_core.specs.declared.pending.Pending.{Pending}
 use Rattle.sci_core.specs.declared.events.Event.{Event}
 use Rattle.sci_core.specs.declared.outcomes.Outcome.{Outcome}
 use Rattle.sci_core.specs.declared.outcomes.NotInTurn.{NotInTurn}
-use Rattle.sci_core.specs.State.{State, update}
+use Rattle.sci_core.specs.State.{State, update, opened}
 use Rattle.sci_core.specs.Row.{settled}
 use Rattle.sci_core.specs.Law.{is_valid}
 use Rattle.sci_core.specs.Answers.{Answers, Exchanges, FitsEvent, Makes, is_allowed, row_at}
@@ -16,18 +16,26 @@ use Rattle.sci_core.specs.Run.{HasValue, IsLawfulLine, ValueAfter, KeepsLawful, 
 use Rattle.sci_core.specs.Sharers.{IsSoleSharer}
 use Rattle.sci_core.specs.Step.{Finds, looked, is_look}
 use Rattle.sci_core.specs.Table.{has_row, row_of}
-use Rattle.sci_core.specs.Whole.{WholeLine, IsRuled, IsSameLine, nodes_of, state_of}
+use Rattle.sci_core.specs.Whole.{WholeLine, IsRuled, IsSameLine, nodes_of, state_of, opened_whole}
 use Rattle.sci_core.proofs.Going.Forms.{Going, made, value_after}
-use Rattle.sci_core.proofs.Ruled.{ruled_path, ruled_lawful, ruled_coherent}
+use Rattle.sci_core.proofs.Opening.{opened_witness, opened_is_lawful, opened_links}
+use Rattle.sci_core.proofs.Ruled.{ruled_path, ruled_lawful, ruled_facts, ruled_coherent}
 use Rattle.sci_core.proofs.SoleSharer.{sole_sharer}
 use Rattle.sci_core.proofs.Sound.{going, ruled_after, ruled_looked}
+use Rattle.sci_core.proofs.States.{opened_state}
 use Rattle.sci_core.proofs.Unique.{value_unique}
 
 -- a ruled line has its witness's value
 pub ruled_value : (n : ℕ) (fits : List ℕ → Type 0) (s : State) (r : IsRuled n fits s) → HasValue n fits s r.witness.value
 ruled_value n fits s r =
     let path = ruled_path n fits s r in
-    record { chain = path.0; lawful = ruled_lawful n fits s r path.0 path.1; coherent = ruled_coherent n fits s r path.0 path.1 }
+    record { chain = path.0; lawful = ruled_lawful n fits s r path.0 path.1; coherent = ruled_coherent n fits s r path.0 path.1; remembered = ruled_facts n fits s r path.0 path.1 }
+
+-- a line just opened has the value that it was opened with
+pub opened_value : {K : Type 0} (fits : List ℕ → Type 0) (keep : K) (number n : ℕ) (line : Line) → fits line.words → HasValue n fits (state_of (opened_whole keep number n line)) line
+opened_value fits keep number n line h =
+    subst (λ (s : State). HasValue n fits s line) (sym (opened_state keep number n line))
+    (ruled_value n fits (opened n line) record { witness = opened_witness line; law = opened_is_lawful n line; links = opened_links n line; words = record { memory = refl; tags = λ i. refl }; fit = h })
 
 -- a line has one value
 pub one_value : (n : ℕ) (fits : List ℕ → Type 0) (s : State) (v w : Line) → HasValue n fits s v → HasValue n fits s w → v ≡ w

@@ -4,7 +4,8 @@ use Rattle.sci_core.specs.declared.pending.Pending.{Pending}
 use Rattle.sci_core.specs.State.{State}
 use Rattle.sci_core.specs.Whole.{IsRuled}
 use Rattle.sci_core.specs.Chain.{IsPath, forward}
-use Rattle.sci_core.specs.Exact.{IsExact, line_in}
+use Rattle.sci_core.specs.Exact.{IsExact}
+use Rattle.sci_core.specs.Step.{line_in}
 use Rattle.sci_core.specs.Facts.{RemembersTruly}
 use Rattle.sci_core.specs.Headline.{IsCoherent}
 use Rattle.sci_core.specs.Lawful.{Lawful, IsLawful}

@@ -1,30 +1,24 @@
 -- An exact sharing list: what a line is once nobody is doing anything. IEEE Std 1596-1992.
-use Rattle.std.specs.Prelude.{◌≡◌, ◌≢◌, ◌⊎◌, ◌↔◌, ◌<◌, ℕ, Bool, true, false, Option, Some, None, List, All, AllPairs, Contains}
+use Rattle.std.specs.Prelude.{◌≡◌, ◌≢◌, ◌⊎◌, ◌↔◌, ◌<◌, ℕ, Bool, true, false, Some, List, All, AllPairs, Contains}
 use Rattle.sci_words.specs.declared.tags.Kind.{Kind}
 use Rattle.sci_words.specs.declared.tags.Tag.{Tag}
 use Rattle.sci_words.specs.declared.memory.Mem.{Mem}
 use Rattle.sci_words.specs.declared.memory.MemState.{MemState}
 use Rattle.sci_core.specs.declared.lines.Line.{Line}
-use Rattle.sci_core.specs.State.{blank}
 use Rattle.sci_core.specs.Chain.{IsPath}
 
-abbrev pub is_settled : Kind → Bool
-is_settled Kind.Invalid = true
-is_settled Kind.Fresh = true
-is_settled Kind.Dirty = true
-is_settled Kind.Valid = true
-is_settled _ = false
-
--- the line in a slot at home
-abbrev pub line_in : Option Line → Line
-line_in None = blank
-line_in (Some l) = l
+abbrev pub is_closed_kind : Kind → Bool
+is_closed_kind Kind.Invalid = true
+is_closed_kind Kind.Fresh = true
+is_closed_kind Kind.Dirty = true
+is_closed_kind Kind.Valid = true
+is_closed_kind _ = false
 
 -- memory isn't lent, no tag is held, and every kind is Invalid, Fresh, Dirty or Valid
 pub record IsSettled (n : ℕ) (memory : Mem) (tags : ℕ → Tag) : Type 0 where
   pub not_lent : memory.lent ≡ false
   pub not_held : (i : ℕ) → i < n → (tags i).held ≡ false
-  pub kinds : (i : ℕ) → i < n → is_settled (tags i).kind ≡ true
+  pub kinds : (i : ℕ) → i < n → is_closed_kind (tags i).kind ≡ true
 
 -- the forward links from memory name distinct nodes below the number of nodes, and end
 pub record IsEnding (n : ℕ) (memory : Mem) (tags : ℕ → Tag) (nodes : List ℕ) : Type 0 where

@@ -6,16 +6,18 @@ use Rattle.sci_core.specs.declared.outcomes.Outcome.{Outcome}
 use Rattle.sci_core.specs.declared.outcomes.NotInTurn.{NotInTurn}
 use Rattle.sci_core.specs.State.{State}
 use Rattle.sci_core.specs.Answers.{Answers, is_allowed}
+use Rattle.sci_core.specs.Facts.{RemembersTruly}
 use Rattle.sci_core.specs.Headline.{IsCoherent}
 use Rattle.sci_core.specs.Lawful.{Lawful}
 use Rattle.sci_core.specs.Sharers.{IsSoleSharer}
 use Rattle.sci_core.specs.Table.Purging.{written}
 
--- lawful and coherent, with this value (Culler and Singh)
+-- lawful and coherent, with this value (Culler and Singh), and what its nodes have seen, told or kept still fits
 pub record HasValue (n : ℕ) (fits : List ℕ → Type 0) (s : State) (v : Line) : Type 0 where
   pub chain : List ℕ
   pub lawful : Lawful n fits s chain v
   pub coherent : IsCoherent n s chain v
+  pub remembered : RemembersTruly s chain
 
 -- lawful and coherent
 abbrev pub IsLawfulLine : ℕ → (List ℕ → Type 0) → State → Type 0
@@ -35,7 +37,7 @@ pub record KeepsLawful (n : ℕ) (fits : List ℕ → Type 0) (s : State) (me : 
   pub after : HasValue n fits t next
   pub change : ValueAfter s value me e r t next
 
--- how many exchanges an outcome is
+-- how many done events an outcome is
 abbrev pub done_in : Outcome → ℕ
 done_in (Outcome.Done answer) = 1
 done_in (Outcome.Missed word) = 0

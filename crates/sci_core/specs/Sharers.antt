@@ -8,14 +8,14 @@ use Rattle.sci_core.specs.Law.{is_valid}
 abbrev pub IsValidSharer : State → ℕ → Type 0
 IsValidSharer s i = is_valid (s.tags i).kind ≡ true
 
-abbrev pub is_dirty : Kind → Bool
-is_dirty Kind.Dirty = true
-is_dirty Kind.Purging = true
-is_dirty _ = false
+abbrev pub is_dirty_sharer : Kind → Bool
+is_dirty_sharer Kind.Dirty = true
+is_dirty_sharer Kind.Purging = true
+is_dirty_sharer _ = false
 
 -- a dirty sharer is Dirty or Purging
 abbrev pub IsDirtySharer : State → ℕ → Type 0
-IsDirtySharer s i = is_dirty (s.tags i).kind ≡ true
+IsDirtySharer s i = is_dirty_sharer (s.tags i).kind ≡ true
 
 -- it may write: it is Purging, and nobody stands behind it
 abbrev pub MayWrite : State → ℕ → Type 0

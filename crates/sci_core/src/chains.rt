@@ -9,7 +9,8 @@ use sci_words::NodeId;
 use std::alloc::{AllocError, Global};
 
 impl<K: Keeps> Whole<K> {
-    /// The sharing list: the nodes from memory's forward link on, along the forward links. Empty under HOME.
+    /// The sharing list: the nodes from memory's forward link on, along the forward links. Empty under HOME. Err: memory ran
+    /// out.
     pub fn chain(&self, alloc: Global) -> Result<Vec<NodeId>, AllocError>
         ensures { IfOk result (λ nodes. IsChain (nodes_of self.now) (state_of self.now) nodes.items) }
     {

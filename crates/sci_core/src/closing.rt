@@ -2,7 +2,7 @@
 ghost use Rattle.std.specs.Prelude.{◌≡◌, ℕ, ◌<◌, IfOk, map};
 ghost use Rattle.sci_core.specs.declared.pending.Pending.TheVariants.{Idle};
 ghost use Rattle.sci_core.specs.Closed.{IsExactClosed, IsReadOff};
-ghost use Rattle.sci_core.specs.Exact.{line_in};
+ghost use Rattle.sci_core.specs.Step.{line_in};
 ghost use Rattle.sci_core.specs.Whole.{nodes_of, state_of};
 
 use crate::keeps::Keeps;

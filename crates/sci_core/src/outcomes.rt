@@ -5,7 +5,8 @@ use std::alloc::AllocError;
 /// What a step came to.
 #[derive(Clone, Copy, Debug, PartialEq, Eq)]
 pub enum Outcome {
-    /// The event's exchange was made; the line that it answers, where it answers one.
+    /// The event's exchange was made, or the node looked at its own tag; the line that the event answers, where it answers
+    /// one.
     Done(Option<Line>),
     /// Another word was found than the one that the exchange asks for: the word found. Nothing changed.
     Missed(u64),
@@ -19,8 +20,14 @@ pub enum Outcome {
 pub struct NotInTurn;
 
 impl NotInTurn {
+    ghost use Rattle.std.specs.Prelude.{◌≡◌};
+
     /// The refusal's number.
-    pub const NUMBER: u8 = 8;
+    pub fn number(self) -> u8
+        ensures { result ≡ 8 }
+    {
+        8
+    }
 }
 
 /// Why a line was not opened.

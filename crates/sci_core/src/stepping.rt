@@ -29,7 +29,7 @@ fn is_look(event: &Event) -> bool
     matches!(event, Event::Look)
 }
 
-// How many exchanges an outcome is.
+// How many done events an outcome is.
 fn done_in(outcome: &Outcome) -> usize
     ensures done { result ≡ done_in outcome.now }
     ensures few { result ≤ 1 }
@@ -182,10 +182,10 @@ impl<K: Keeps> Whole<K> {
         self.steps[place_of(node)] = after;
     }
 
-    /// One event of one node. Done: its exchange was made, and the line that it answers, where it answers one. Missed:
-    /// another word was found than the exchange's word before; the word found, and nothing changed. Refusal 8: the node's
-    /// pending step doesn't allow the event, and nothing changed. The line is lawful before and after, and its value
-    /// changes only where words were written, by the only valid sharer.
+    /// One event of one node. Done: its exchange was made, or the node looked at its own tag; the line that the event
+    /// answers, where it answers one. Missed: another word was found than the exchange's word before; the word found, and
+    /// nothing changed. Refusal 8: the node's pending step doesn't allow the event, and nothing changed. The line is lawful
+    /// before and after, and its value changes only where words were written, by the only valid sharer.
     pub fn step(&mut self, node: NodeId, event: Event) -> Result<Outcome, NotInTurn>
         requires node { node < nodes_of self.old }
         requires fits { FitsEvent (K.fits self.old.keep self.old.number) event }

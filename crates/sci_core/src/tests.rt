@@ -2,6 +2,8 @@
 ghost use Rattle.std.specs.Prelude.{◌≡◌, ◌<◌, All};
 ghost use Rattle.sci_core.specs.Whole.{nodes_of};
 
+mod growths;
+
 use super::*;
 use sci_words::{Kind, MemState, NodeId, Tag};
 use std::alloc::Global;

@@ -2,7 +2,7 @@
 ghost use Rattle.std.specs.Prelude.{◌≡◌, ◌<◌, ◌≤◌, ◌⊎◌, ◌↔◌, IfOk, IsTrue};
 ghost use Rattle.sci_words.specs.Tag.{tag_well_formed, tag_links_below};
 ghost use Rattle.sci_words.specs.Mem.{mem_well_formed, mem_links_below};
-ghost use Rattle.sci_core.specs.Run.{IsLawfulLine};
+ghost use Rattle.sci_core.specs.Run.{HasValue, IsLawfulLine};
 ghost use Rattle.sci_core.specs.Whole.{nodes_of, state_of, opened_whole};
 
 use crate::keeps::Keeps;
@@ -38,7 +38,7 @@ impl<K: Keeps> Model for Whole<K> {
 
 impl<K: Keeps> Whole<K> {
     /// A line that nobody has used: HOME, all tags Invalid, and `line` in every slot. The refusals: 6 for 0 or more than
-    /// 64 nodes, then 7 where memory ran out.
+    /// 64 nodes, then 7 where memory ran out. The line is lawful, and its value is `line`.
     pub fn open(
         alloc: Global,
         nodes: u16,
@@ -49,6 +49,7 @@ impl<K: Keeps> Whole<K> {
         requires { K.fits keep number line.words }
         ensures nodes { (result ≡ Err OpenRefusal.BadNodes) ↔ ((nodes ≡ 0) ⊎ (64 < nodes)) }
         ensures opened { IfOk result (λ w. w ≡ opened_whole keep number nodes line) }
+        ensures value { IfOk result (λ w. HasValue nodes (K.fits keep number) (state_of w) line) }
     {
         if nodes == 0 || nodes > 64 {
             return Err(OpenRefusal::BadNodes);

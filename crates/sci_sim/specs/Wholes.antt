@@ -28,9 +28,16 @@ after_turn Moved call = call
 after_turn Waiting call = call
 after_turn (Done answer) call = None
 
--- which answers a call may give, and which calls are open after it
+-- no other line changes than that of the node's call
+abbrev pub ChangesLineOf : Option Call → List (WholeLine AnyWords) → List (WholeLine AnyWords) → Type 0
+ChangesLineOf None before after = after ≡ before
+ChangesLineOf (Some call) before after = (whole : WholeLine AnyWords) × (after ≡ slice_set before call.line whole)
+
+-- which answers a call may give, which calls are open after it, and which lines it leaves as they were
 abbrev pub wholes_does : WholesDesk → Event → WholesDesk → Type 0
-wholes_does s (Began node line goal) t = t.calls.items ≡ slice_set s.calls.items node (Some (record { line = line; goal = goal }))
-wholes_does s (Turned node turn) t = t.calls.items ≡ slice_set s.calls.items node (after_turn turn (slice_index_or s.calls.items node None))
+wholes_does s (Began node line goal) t = (t.calls.items ≡ slice_set s.calls.items node (Some (record { line = line; goal = goal })))
+    × (t.wholes.items ≡ s.wholes.items)
+wholes_does s (Turned node turn) t = (t.calls.items ≡ slice_set s.calls.items node (after_turn turn (slice_index_or s.calls.items node None)))
+    × ChangesLineOf (slice_index_or s.calls.items node None) s.wholes.items t.wholes.items
 wholes_does s (SawMem line mem) t = (t ≡ s) × ((d : WholeLine AnyWords) → mem ≡ (slice_index_or s.wholes.items line d).memory)
 wholes_does s (SawTag line node tag) t = (t ≡ s) × ((d : WholeLine AnyWords) → tag ≡ slice_index_or (slice_index_or s.wholes.items line d).tags node invalid)

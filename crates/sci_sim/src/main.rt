@@ -26,7 +26,7 @@ use faults::SimFault;
 use serve::serve_script;
 use std::alloc::AllocError;
 use std::fs::File;
-use std::io;
+use std::io::{self, ErrorKind};
 use std::process::ExitCode;
 
 fn command<'a>(rt: &impl AllocGlobal) -> Result<Command<'a>, AllocError> {
@@ -52,24 +52,33 @@ fn script(rt: &HostRuntime, path: Option<&str>) -> Result<(), SimFault> {
     }
 }
 
-fn main(rt: HostRuntime) -> io::Result<ExitCode> {
-    let words: Vec<String> = std::env::args(&rt)?.collect(rt.alloc())?;
-    let command = command(&rt)?;
-    let matches = match command.try_get_matches_from(words.as_slice()) {
-        Ok(matches) => matches,
-        Err(error) => {
-            error.print(&rt)?;
-            return Ok(ExitCode::from(error.exit_code() as u8));
-        }
-    };
-    let Some(("script", options)) = matches.subcommand() else {
-        return Ok(ExitCode::from(2));
-    };
-    match script(&rt, options.get_str("FILE")) {
-        Ok(()) => Ok(ExitCode::SUCCESS),
+/// The status of a run with these arguments. An argument that isn't UTF-8 can't be read.
+fn scisim(rt: &HostRuntime) -> Result<ExitCode, SimFault> {
+    let arguments = std::env::args(rt).map_err(|error| match error.kind() {
+        ErrorKind::OutOfMemory => SimFault::from(AllocError),
+        _ => SimFault::CannotRead,
+    })?;
+    let words: Vec<String> = arguments.collect(rt.alloc())?;
+    match command(rt)?.try_get_matches_from(words.as_slice()) {
+        Ok(matches) => match matches.subcommand() {
+            Some(("script", options)) => script(rt, options.get_str("FILE")).map(
+                |()| ExitCode::SUCCESS,
+            ),
+            _ => Ok(ExitCode::from(2)),
+        },
+        Err(error) => match (error.exit_code(), error.print(rt)) {
+            (0, Err(_)) => Err(SimFault::CannotWrite),
+            (status, _) => Ok(ExitCode::from(status as u8)),
+        },
+    }
+}
+
+fn main(rt: HostRuntime) -> ExitCode {
+    match scisim(&rt) {
+        Ok(status) => status,
         Err(fault) => {
-            eprintln!(rt; "scisim: {fault}")?;
-            Ok(ExitCode::FAILURE)
+            let _ = eprintln!(rt; "scisim: {fault}");
+            ExitCode::FAILURE
         }
     }
 }

@@ -182,6 +182,14 @@ fn exits(rt: HostRuntime) {
                  line 0 GONE 0: 0 ONLY_DIRTY\nnode 1 read 5 stamp 1\n",
             ),
             (
+                "memory 3 1\nload 0 0 0\ndone 0\nload 1 0 0\ndone 1\nload 2 0 0\ndone 2\nstore 0 0 0 5\n\
+                 turn 0\nturn 0\nturn 0\nturn 0\nturn 0\nturn 0\nturn 0\nturn 0\nturn 0\nturn 0\nturn 0\n\
+                 turn 0\nturn 0\nturn 0\nturn 0\nturn 0\nturn 0\nlist 0\nturn 0\nlist 0\n",
+                None,
+                "node 0 read 0 stamp 0\nnode 1 read 0 stamp 0\nnode 2 read 0 stamp 0\nline 0 GONE 0: 0 PURGING\n\
+                 node 0 wrote stamp 1\nline 0 GONE 0: 0 ONLY_DIRTY\n",
+            ),
+            (
                 "memory 3 1\nload 0 0 0\ndone 0\nload 1 0 0\ndone 1\nload 2 0 0\ndone 2\nevict 1 0\nturn 1\n\
                  evict 0 0\nturn 0\nlist 0\nturn 1\nturn 0\nlist 0\nturn 0\nturn 1\nturn 1\nlist 0\n",
                 None,

@@ -1,7 +1,7 @@
 use Rattle.std.proofs.Common.{rules, ◌≡◌, ℕ, ◌<◌, map, sym, subst}
 use Rattle.sci_core.specs.declared.pending.Pending.{Pending}
 use Rattle.sci_core.specs.Closed.{IsReadOff}
-use Rattle.sci_core.specs.Exact.{line_in}
+use Rattle.sci_core.specs.Step.{line_in}
 use Rattle.sci_core.specs.Whole.{WholeLine, nodes_of, state_of}
 use Rattle.sci_core.proofs.AtRest.{closed_as, exact_as, read_off_as}
 use Rattle.sci_core.proofs.whole.Whole.closed.Goals as goal

@@ -1,0 +1,4 @@
+pub mod Carried
+pub mod Took
+pub mod Short
+pub mod Storing

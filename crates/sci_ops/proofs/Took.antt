@@ -1,0 +1,37 @@
+-- A plan is followed call by call.
+use Rattle.std.proofs.Common.{◌≡◌, ℕ, Some, None, [], ◌∷◌, refl, sym, subst}
+use Rattle.sci_words.specs.declared.tags.Tag.{Tag}
+use Rattle.sci_words.specs.declared.memory.Mem.{Mem}
+use Rattle.sci_core.specs.declared.events.Event.{Event}
+use Rattle.sci_core.specs.declared.outcomes.Outcome.{Outcome}
+use Rattle.sci_port.specs.Call.{Call, Own, MemWas, TagWas, Stepped}
+use Rattle.sci_ops.specs.declared.answers.Turn.{Turn}
+use Rattle.sci_ops.specs.declared.answers.End.{End}
+use Rattle.sci_ops.specs.Plan.{Plan, own, mem, tag, exchange, ends, turn_after, Follows, Takes}
+
+-- an exchange
+pub took_step : {S : Type 0} {gives : S → Call → S → Type 0} {e : Event} {end : End} {s t : S} {r : Turn} (o : Outcome) → gives s (Stepped e o) t → r ≡ turn_after end o → Takes gives (exchange e end) s r t
+took_step {e = e} {t = t} o h q = record { calls = Stepped e o ∷ []; chain = (t, h, refl); follows = (refl, q) }
+
+-- a load, and then the plan that its word leads to
+pub took_mem : {S : Type 0} {gives : S → Call → S → Type 0} {k : Mem → Plan} {q : Plan} {s mid t : S} {r : Turn} (m : Mem) → gives s (MemWas (Some m)) mid → k m ≡ q → Takes gives q mid r t → Takes gives (mem k) s r t
+took_mem {k = k} {mid = mid} {r = r} m h e rest = record { calls = MemWas (Some m) ∷ rest.calls; chain = (mid, h, rest.chain); follows = subst (λ (p : Plan). Follows p rest.calls r) (sym e) rest.follows }
+
+pub no_mem : {S : Type 0} {gives : S → Call → S → Type 0} {k : Mem → Plan} {s t : S} → gives s (MemWas None) t → Takes gives (mem k) s Turn.Waiting t
+no_mem {t = t} h = record { calls = MemWas None ∷ []; chain = (t, h, refl); follows = refl }
+
+pub took_own : {S : Type 0} {gives : S → Call → S → Type 0} {k : Tag → Plan} {q : Plan} {s mid t : S} {r : Turn} (m : Tag) → gives s (Own (Some m)) mid → k m ≡ q → Takes gives q mid r t → Takes gives (own k) s r t
+took_own {k = k} {mid = mid} {r = r} m h e rest = record { calls = Own (Some m) ∷ rest.calls; chain = (mid, h, rest.chain); follows = subst (λ (p : Plan). Follows p rest.calls r) (sym e) rest.follows }
+
+pub no_own : {S : Type 0} {gives : S → Call → S → Type 0} {k : Tag → Plan} {s t : S} → gives s (Own None) t → Takes gives (own k) s Turn.Waiting t
+no_own {t = t} h = record { calls = Own None ∷ []; chain = (t, h, refl); follows = refl }
+
+pub took_tag : {S : Type 0} {gives : S → Call → S → Type 0} {n : ℕ} {k : Tag → Plan} {q : Plan} {s mid t : S} {r : Turn} (m : Tag) → gives s (TagWas n (Some m)) mid → k m ≡ q → Takes gives q mid r t → Takes gives (tag n k) s r t
+took_tag {n = n} {k = k} {mid = mid} {r = r} m h e rest = record { calls = TagWas n (Some m) ∷ rest.calls; chain = (mid, h, rest.chain); follows = (refl, subst (λ (p : Plan). Follows p rest.calls r) (sym e) rest.follows) }
+
+pub no_tag : {S : Type 0} {gives : S → Call → S → Type 0} {n : ℕ} {k : Tag → Plan} {s t : S} → gives s (TagWas n None) t → Takes gives (tag n k) s Turn.Waiting t
+no_tag {n = n} {t = t} h = record { calls = TagWas n None ∷ []; chain = (t, h, refl); follows = (refl, refl) }
+
+-- no call
+pub took_none : {S : Type 0} {gives : S → Call → S → Type 0} {r : Turn} {s : S} → Takes gives (ends r) s r s
+took_none = record { calls = []; chain = refl; follows = refl }

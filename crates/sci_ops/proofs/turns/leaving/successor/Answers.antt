@@ -1,0 +1,12 @@
+use Rattle.std.proofs.Common.{rules}
+use Rattle.sci_ops.proofs.Took.{took_tag, no_tag, took_none}
+use Rattle.sci_ops.proofs.turns.leaving.successor.Goals as goal
+
+pub returns-in_default-clause-calls : goal.returns-in_default-clause-calls
+returns-in_default-clause-calls g c = no_tag c.in_default.ensures.gives
+
+pub returns-then-is_behind-clause-calls : goal.returns-then-is_behind-clause-calls
+returns-then-is_behind-clause-calls g c = took_tag _ c.in-Some.ensures.gives (search rules) c.go_on.ensures.calls
+
+pub returns-else-is_behind-clause-calls : goal.returns-else-is_behind-clause-calls
+returns-else-is_behind-clause-calls g c = took_tag _ c.in-Some.ensures.gives (search rules) took_none

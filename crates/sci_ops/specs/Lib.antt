@@ -1,0 +1,4 @@
+pub mod Change
+pub mod Operation
+pub mod Plan
+pub mod Table

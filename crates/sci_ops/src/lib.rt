@@ -1,0 +1,16 @@
+//! Operations on a line: loads, writes and evictions, which take turns over a port.
+#![tactic(auto)]
+
+mod answers;
+mod found;
+mod goals;
+mod ops;
+mod refusals;
+#[cfg(test)]
+mod tests;
+mod turns;
+
+pub use answers::{Answer, End, Turn};
+pub use goals::{Goal, WordNo, Write};
+pub use ops::Op;
+pub use refusals::{BadWord, StampsSpent};

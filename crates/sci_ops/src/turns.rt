@@ -1,0 +1,90 @@
+//! What a turn does in each pending step.
+ghost use Rattle.std.specs.Prelude.{◌≡◌, true};
+ghost use Rattle.sci_core.specs.Answers.{is_allowed, FitsEvent};
+ghost use Rattle.sci_ops.specs.Change.{StoresFitting};
+ghost use Rattle.sci_ops.specs.Plan.{Takes, exchange};
+ghost use Rattle.sci_ops.specs.Table.{turn_in, move, seen_end, out_end};
+
+mod entering;
+mod idle;
+mod leaving;
+mod writing;
+
+use crate::answers::{End, Turn};
+use crate::goals::Goal;
+use crate::turns::entering::{in_queue, queueing};
+use crate::turns::idle::idle;
+use crate::turns::leaving::{leaving, promoted, rolling};
+use crate::turns::writing::{converting, purging};
+use sci_core::{Event, Pending};
+use sci_port::Port;
+
+/// Tries an exchange, which ends the turn so once it is made.
+fn exchange<P: Port>(port: &mut P, event: Event, end: End) -> Turn
+    requires allowed { is_allowed (P.way port.old).nodes (P.way port.old).node (P.at_step port.old) event ≡ true }
+    requires fits { FitsEvent (P.Keep.fits (P.keep port.old) (P.way port.old).number) event }
+    ensures calls { Takes P.gives (exchange event end) port.old result port.new }
+    ensures same_way { P.way port.new ≡ P.way port.old }
+    ensures same_fact { P.keep port.new ≡ P.keep port.old }
+{
+    let outcome = port.step(event);
+    end.turn_after(outcome)
+}
+
+/// Tries an exchange after which the operation goes on.
+fn go_on<P: Port>(port: &mut P, event: Event) -> Turn
+    requires allowed { is_allowed (P.way port.old).nodes (P.way port.old).node (P.at_step port.old) event ≡ true }
+    requires fits { FitsEvent (P.Keep.fits (P.keep port.old) (P.way port.old).number) event }
+    ensures calls { Takes P.gives (move event) port.old result port.new }
+    ensures same_way { P.way port.new ≡ P.way port.old }
+    ensures same_fact { P.keep port.new ≡ P.keep port.old }
+{
+    exchange(port, event, End::Moved)
+}
+
+/// What the exchange ends with that gives a line to a load.
+fn seen_end(goal: Goal) -> End
+    ensures { result ≡ seen_end goal }
+{
+    match goal {
+        Goal::Load => End::Seen,
+        Goal::Write(_) | Goal::Evict => End::Moved,
+    }
+}
+
+/// What the exchange ends with that makes the node's tag Invalid.
+fn out_end(goal: Goal) -> End
+    ensures { result ≡ out_end goal }
+{
+    match goal {
+        Goal::Evict => End::Out,
+        Goal::Load | Goal::Write(_) => End::Moved,
+    }
+}
+
+/// One turn towards a goal, by the node's pending step.
+pub fn turn_towards<P: Port>(port: &mut P, goal: Goal) -> Turn
+    requires fits { StoresFitting (P.Keep.fits (P.keep port.old) (P.way port.old).number) goal }
+    ensures calls { Takes P.gives (turn_in goal (P.way port.old).node (P.at_step port.old)) port.old result port.new }
+    ensures same_way { P.way port.new ≡ P.way port.old }
+    ensures same_fact { P.keep port.new ≡ P.keep port.old }
+{
+    match port.pending() {
+        Pending::Idle => idle(port, goal),
+        Pending::Holding { .. } => exchange(port, Event::Unhold, seen_end(goal)),
+        Pending::Queueing { forw } => queueing(port, forw),
+        Pending::Fetching { .. } | Pending::WritingBack { .. } => go_on(port, Event::ReturnMemory),
+        Pending::InQueue { forw, dirty, copy } => in_queue(port, goal, forw, dirty, copy),
+        Pending::Copying { .. } => go_on(port, Event::ReturnCopy),
+        Pending::Ready { .. } => exchange(port, Event::Settle, seen_end(goal)),
+        Pending::Converting { turned, .. } => converting(port, turned),
+        Pending::Purging { line, .. } => purging(port, goal, line),
+        Pending::Advancing { .. } => go_on(port, Event::Advance),
+        Pending::Clearing { .. } => go_on(port, Event::Clear),
+        Pending::Leaving { dirty, .. } => leaving(port, dirty),
+        Pending::Promoted { .. } => promoted(port),
+        Pending::Parted { .. } => exchange(port, Event::Left, out_end(goal)),
+        Pending::Rolling { told, .. } => rolling(port, told),
+        Pending::Unlinked { .. } => exchange(port, Event::Rolled, out_end(goal)),
+    }
+}

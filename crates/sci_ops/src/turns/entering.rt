@@ -1,0 +1,65 @@
+//! The turns of a node that enters the list.
+ghost use Rattle.std.specs.Prelude.{◌≡◌};
+ghost use Rattle.sci_port.specs.Owes.{IsSoundStep};
+ghost use Rattle.sci_ops.specs.Plan.{Takes};
+ghost use Rattle.sci_ops.specs.Table.{queueing, in_queue, attach};
+
+use crate::answers::Turn;
+use crate::found::{may_attach_dirty, may_attach_fresh};
+use crate::goals::Goal;
+use crate::turns::{exchange, go_on, seen_end};
+use sci_core::{Event, Line, Pending};
+use sci_port::Port;
+use sci_words::{MemState, NodeId};
+
+/// Queueing: it enters the list before the head that it found, or looks for the head again.
+pub fn queueing<P: Port>(port: &mut P, forw: Option<NodeId>) -> Turn
+    requires step { P.at_step port.old ≡ Pending.Queueing forw }
+    ensures calls { Takes P.gives (queueing forw) port.old result port.new }
+    ensures same_way { P.way port.new ≡ P.way port.old }
+    ensures same_fact { P.keep port.new ≡ P.keep port.old }
+{
+    let Some(mem) = port.mem() else {
+        return Turn::Waiting;
+    };
+    if mem.lent {
+        Turn::Waiting
+    } else if mem.forw != forw {
+        go_on(port, Event::Requeue(mem.forw))
+    } else {
+        match mem.state {
+            MemState::Home | MemState::Fresh => go_on(port, Event::PrependValid),
+            MemState::Gone => go_on(port, Event::PrependGone),
+        }
+    }
+}
+
+#[tactic(auto, using(crate::proofs::Carried::when_carried))]
+/// InQueue: it attaches the old head behind itself, or settles where there was none.
+pub fn in_queue<P: Port>(
+    port: &mut P,
+    goal: Goal,
+    forw: Option<NodeId>,
+    dirty: bool,
+    copy: Option<Line>,
+) -> Turn
+    requires step { P.at_step port.old ≡ Pending.InQueue forw dirty copy }
+    requires sound { IsSoundStep (P.way port.old).nodes (P.Keep.fits (P.keep port.old) (P.way port.old).number) (Pending.InQueue forw dirty copy) }
+    ensures calls { Takes P.gives (in_queue goal forw dirty copy) port.old result port.new }
+    ensures same_way { P.way port.new ≡ P.way port.old }
+    ensures same_fact { P.keep port.new ≡ P.keep port.old }
+{
+    let Some(forw) = forw else {
+        return exchange(port, Event::Settle, seen_end(goal));
+    };
+    let Some(found) = port.tag(forw) else {
+        return Turn::Waiting;
+    };
+    if may_attach_fresh(dirty, &copy, &found) {
+        go_on(port, Event::AttachFresh(found))
+    } else if may_attach_dirty(dirty, &copy, &found) {
+        go_on(port, Event::AttachDirty(found))
+    } else {
+        Turn::Waiting
+    }
+}

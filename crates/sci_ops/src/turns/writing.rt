@@ -1,0 +1,100 @@
+//! The turns of a head on its way to write.
+ghost use Rattle.std.specs.Prelude.{◌≡◌, ◌<◌, Some, None};
+ghost use Rattle.sci_ops.specs.Change.{StoresFitting};
+ghost use Rattle.sci_ops.specs.Plan.{Takes, tag};
+ghost use Rattle.sci_ops.specs.Table.{converting, purging, purge, write};
+
+use crate::answers::{End, Turn};
+use crate::found::{is_valid, may_adopt, names};
+use crate::goals::Goal;
+use crate::turns::{exchange, go_on};
+use sci_core::{Event, Line, Pending};
+use sci_port::Port;
+use sci_words::NodeId;
+
+/// Converting: it turns the home to GONE, or gives up where it is no longer the head.
+pub fn converting<P: Port>(port: &mut P, turned: bool) -> Turn
+    requires step { (forw : _) × (P.at_step port.old ≡ Pending.Converting forw turned) }
+    ensures calls { Takes P.gives (converting (P.way port.old).node turned) port.old result port.new }
+    ensures same_way { P.way port.new ≡ P.way port.old }
+    ensures same_fact { P.keep port.new ≡ P.keep port.old }
+{
+    if turned {
+        return go_on(port, Event::Converted);
+    }
+    let me = port.node();
+    let Some(mem) = port.mem() else {
+        return Turn::Waiting;
+    };
+    if names(me, &mem.forw) {
+        go_on(port, Event::FreshToGone)
+    } else {
+        go_on(port, Event::Unconverted)
+    }
+}
+
+/// Purging: it purges the next entry, or writes where there is none.
+pub fn purging<P: Port>(port: &mut P, goal: Goal, line: Line) -> Turn
+    requires step { (seen : _) × (P.at_step port.old ≡ Pending.Purging line seen) }
+    requires fits { StoresFitting (P.Keep.fits (P.keep port.old) (P.way port.old).number) goal }
+    requires line { P.Keep.fits (P.keep port.old) (P.way port.old).number line.words }
+    ensures calls { Takes P.gives (purging goal (P.way port.old).node line) port.old result port.new }
+    ensures same_way { P.way port.new ≡ P.way port.old }
+    ensures same_fact { P.keep port.new ≡ P.keep port.old }
+{
+    let Some(tag) = port.own() else {
+        return Turn::Waiting;
+    };
+    match tag.forw {
+        Some(next) => purge(port, next),
+        None => write(port, goal, line),
+    }
+}
+
+#[tactic(auto, using(crate::proofs::Carried::carried, crate::proofs::Carried::carried_with))]
+// It purges the next entry, or lets one that leaves know who is in front of it.
+fn purge<P: Port>(port: &mut P, next: NodeId) -> Turn
+    requires node { next < (P.way port.old).nodes }
+    requires step { (line : _) × (P.at_step port.old ≡ Pending.Purging line (Some (Some next))) }
+    ensures calls { Takes P.gives (tag next (purge (P.way port.old).node)) port.old result port.new }
+    ensures same_way { P.way port.new ≡ P.way port.old }
+    ensures same_fact { P.keep port.new ≡ P.keep port.old }
+{
+    let me = port.node();
+    let Some(found) = port.tag(next) else {
+        return Turn::Waiting;
+    };
+    if is_valid(&found) {
+        go_on(port, Event::PurgeOne(found))
+    } else if may_adopt(me, &found) {
+        go_on(port, Event::Adopt(found))
+    } else {
+        Turn::Waiting
+    }
+}
+
+// It writes into the line that it keeps, if the stamp can count one more write.
+fn write<P: Port>(port: &mut P, goal: Goal, line: Line) -> Turn
+    requires step { P.at_step port.old ≡ Pending.Purging line (Some None) }
+    requires fits { StoresFitting (P.Keep.fits (P.keep port.old) (P.way port.old).number) goal }
+    requires line { P.Keep.fits (P.keep port.old) (P.way port.old).number line.words }
+    ensures calls { Takes P.gives (write goal line) port.old result port.new }
+    ensures same_way { P.way port.new ≡ P.way port.old }
+    ensures same_fact { P.keep port.new ≡ P.keep port.old }
+{
+    let Goal::Write(write) = goal else {
+        return go_on(port, Event::Written(None));
+    };
+    if line.stamp < u64::MAX {
+        let words = write.change(&line.words);
+        let before = line.words;
+        let stamp = line.stamp + 1;
+        exchange(
+            port,
+            Event::Written(Some(words)),
+            End::Wrote { before, stamp },
+        )
+    } else {
+        exchange(port, Event::Written(None), End::Spent)
+    }
+}

@@ -1,0 +1,104 @@
+//! Ports to a line that is lent, event by event.
+ghost use Rattle.std.specs.Prelude.{◌≡◌, ◌<◌};
+
+use super::recording::{Recorder, Trace};
+use super::*;
+use sci_core::{Event, Line, Outcome, Pending, Whole};
+use sci_words::{Kind, MemState, NodeId, Tag};
+use std::process::Abort;
+use std::test::Fail;
+
+const LINE: Line = Line {
+    words: [1, 2, 3, 4, 5, 6, 7, 8],
+    stamp: 40,
+};
+
+fn node(number: u16) -> NodeId
+    requires { number < 255 }
+    ensures { result ≡ number }
+{
+    match NodeId::new(number) {
+        Some(node) => node,
+        None => unreachable!(),
+    }
+}
+
+fn fresh(forw: Option<NodeId>) -> Tag {
+    Tag {
+        kind: Kind::Fresh,
+        held: false,
+        forw,
+        back: None,
+    }
+}
+
+/// One event of a node through a port that records it, if there is that node and its step allows it.
+#[tactic(auto, using(sci_core::proofs::Fitting::any_event_fits))]
+fn step(
+    whole: &mut Whole<AnyWords>,
+    trace: &mut Trace,
+    number: u16,
+    event: Event,
+) -> Option<Outcome> {
+    let node = NodeId::new(number)?;
+    if node.get() >= whole.nodes() {
+        return None;
+    }
+    let mut solo = Solo::new(whole, node);
+    let mut port = Recorder::new(&mut solo, trace);
+    if port.pending().allows(node, port.nodes(), &event) {
+        Some(port.step(event))
+    } else {
+        None
+    }
+}
+
+#[test]
+fn steps_two_readers(rt: HostRuntime) -> Result<(), Fail> {
+    let mut whole = Whole::open(rt.alloc(), 2, 0, LINE, AnyWords)?;
+    let mut trace = Trace::new(rt.alloc());
+    for (number, event, outcome) in [
+        (0, Event::Queue(None), Some(Outcome::Done(None))),
+        (0, Event::PrependValid, Some(Outcome::Done(None))),
+        (0, Event::ReturnMemory, Some(Outcome::Done(None))),
+        (0, Event::Settle, Some(Outcome::Done(Some(LINE)))),
+        (0, Event::Convert(fresh(None)), Some(Outcome::Done(None))),
+        (1, Event::Queue(Some(node(0))), Some(Outcome::Done(None))),
+        (1, Event::PrependValid, Some(Outcome::Done(None))),
+        (0, Event::FreshToGone, Some(Outcome::Missed(0x111))),
+        (1, Event::Settle, None),
+        (0, Event::Unconverted, Some(Outcome::Done(None))),
+        (0, Event::Look, Some(Outcome::Done(None))),
+    ] {
+        assert_eq!(rt; step(&mut whole, &mut trace, number, event), outcome);
+    }
+    let events = trace.events()?;
+    assert_eq!(rt; events.len(), 10);
+    assert_eq!(rt; events.get(7), Some(&(node(0), Event::FreshToGone)));
+    assert_eq!(rt; events.get(8), Some(&(node(0), Event::Unconverted)));
+    Ok(())
+}
+
+#[test]
+fn loads_the_words_that_stand(rt: HostRuntime) -> Result<(), Fail> {
+    let mut whole = Whole::open(rt.alloc(), 3, 7, LINE, AnyWords)?;
+    let mut trace = Trace::new(rt.alloc());
+    let first = node(2);
+    if first.get() < whole.nodes() {
+        let mut port = Solo::new(&mut whole, first);
+        assert_eq!(rt; port.node().get(), 2);
+        assert_eq!(rt; port.nodes(), 3);
+        assert_eq!(rt; port.number(), 7);
+        assert_eq!(rt; port.pending(), Pending::Idle);
+        assert_eq!(rt; port.mem().map(|mem| mem.state), Some(MemState::Home));
+        let mut recorder = Recorder::new(&mut port, &mut trace);
+        assert_eq!(rt; recorder.own().map(|tag| tag.kind), Some(Kind::Invalid));
+        assert_eq!(rt;
+            recorder.tag(node(1)).map(|tag| tag.kind),
+            Some(Kind::Invalid)
+        );
+    }
+    assert_eq!(rt; trace.events()?.get(0), Some(&(first, Event::Look)));
+    assert_eq!(rt; trace.events()?.len(), 1);
+    Ok(())
+}
