@@ -1,5 +1,5 @@
 -- A ruled line has a value; what an event changes of it.
-use Rattle.std.proofs.Common.{length, get_or, slice_get, ◌≡◌, ℕ, ◌+◌, ◌<◌, true, false, Option, Some, None, Result, Ok, Err, List, [], ◌∷◌, ◌++◌, refl, sym, subst, arith}
+use Rattle.std.proofs.Common.{length, get_or, slice_get, ◌≡◌, ℕ, ◌+◌, ◌<◌, true, false, Option, Some, None, Result, Ok, Err, List, [], ◌∷◌, ◌++◌, refl, sym, ap, subst, ◌∙◌, arith}
 use Rattle.std.proofs.lemmas.Bool.Decides.{nat_tests}
 use Rattle.std.proofs.lemmas.Option.{slice_get_read}
 use Rattle.sci_words.specs.declared.tags.Tag.{Tag}
@@ -12,11 +12,13 @@ use Rattle.sci_core.specs.State.{State, update, opened}
 use Rattle.sci_core.specs.Row.{settled}
 use Rattle.sci_core.specs.Law.{is_valid}
 use Rattle.sci_core.specs.Answers.{Answers, Exchanges, FitsEvent, Makes, is_allowed, row_at}
-use Rattle.sci_core.specs.Run.{HasValue, IsLawfulLine, ValueAfter, KeepsLawful, Trail, Runs, IsRefused, done_in}
+use Rattle.sci_core.specs.PendingStep.{IsOwnWord}
+use Rattle.sci_core.specs.Run.{HasValue, IsLawfulLine, ValueAfter, AnswersValue, KeepsLawful, Trail, Runs, IsRefused, done_in}
 use Rattle.sci_core.specs.Sharers.{IsSoleSharer}
-use Rattle.sci_core.specs.Step.{Finds, looked, is_look}
+use Rattle.sci_core.specs.Step.{looked, is_look}
 use Rattle.sci_core.specs.Table.{has_row, row_of}
 use Rattle.sci_core.specs.Whole.{WholeLine, IsRuled, IsSameLine, nodes_of, state_of, opened_whole}
+use Rattle.sci_core.proofs.Answered.{HasLine, answered, line_is_value, purging_has}
 use Rattle.sci_core.proofs.Going.Forms.{Going, made, value_after}
 use Rattle.sci_core.proofs.Opening.{opened_witness, opened_is_lawful, opened_links}
 use Rattle.sci_core.proofs.Ruled.{ruled_path, ruled_lawful, ruled_facts, ruled_coherent}
@@ -54,51 +56,62 @@ sole_after s t me w h e o =
     subst P (sym e) (own_valid s.tags me w h, still_sole s.tags me w h o.1)
 
 -- who writes is Purging, and has seen that nobody stands behind it
-writes_from : (n me : ℕ) (p : Pending) (words : List ℕ) → has_row n me p (Event.Written (Some words)) ≡ true → (l : Line) × (p ≡ Pending.Purging l (Some None))
+writes_from : (n me : ℕ) (p : Pending) (words : Option (List ℕ)) → has_row n me p (Event.Written words) ≡ true → (l : Line) × (p ≡ Pending.Purging l (Some None))
 writes_from n me (Pending.Purging l (Some None)) words h = (l, refl)
 writes_from n me (Pending.Purging l None) words h = absurd (cc)
 writes_from n me (Pending.Purging l (Some (Some x))) words h = absurd (cc)
 writes_from n me _ words h = absurd (cc)
 
+-- a line that is answered is the value, and its node a valid sharer
+answers_value : (n : ℕ) (fits : List ℕ → Type 0) (s t : State) (me : ℕ) (e : Event) (answer : Option Line) (w : Line) → IsOwnWord (s.steps me) (s.tags me) → Makes n s me e answer t → HasValue n fits t w → AnswersValue me (Ok (Outcome.Done answer)) t w
+answers_value n fits s t me e None w o m h = tt
+answers_value n fits s t me e (Some line) w o m h =
+    let has : HasLine t me line = answered n s me e line t o m in
+    (sym (line_is_value n fits t me line w h has), has.0)
+
 module _ (n : ℕ) (fits : List ℕ → Type 0) (s : State) (r : IsRuled n fits s) (me : ℕ) (below : me < n) where
   pub looked_keeps : KeepsLawful n fits s me Event.Look (Ok (Outcome.Done None)) (looked s me)
   looked_keeps =
       let after : IsRuled n fits (looked s me) = ruled_looked n fits s r me below in
-      record { value = r.witness.value; next = r.witness.value; before = ruled_value n fits s r; after = ruled_value n fits (looked s me) after; change = refl }
+      record { value = r.witness.value; next = r.witness.value; before = ruled_value n fits s r; after = ruled_value n fits (looked s me) after; change = refl; answer = tt }
 
-  -- the writer is the only valid sharer, before and after
-  writer : (words : List ℕ) → has_row n me (s.steps me) (Event.Written (Some words)) ≡ true → IsSoleSharer s me
-  writer words h =
+  -- the writer keeps the value
+  writer_keeps : (l : Line) → s.steps me ≡ Pending.Purging l (Some None) → s.steps me ≡ Pending.Purging r.witness.value (Some None)
+  writer_keeps l e =
+      let before : HasValue n fits s r.witness.value = ruled_value n fits s r in
+      let same : r.witness.value ≡ l = line_is_value n fits s me l r.witness.value before (purging_has s me l (Some None) e (before.lawful.steps.own_word me)) in
+      e ∙ ap (λ (x : Line). Pending.Purging x (Some None)) (sym same)
+
+  written_tags : (p : Pending) (l : Line) (words : Option (List ℕ)) → p ≡ Pending.Purging l (Some None) → (made s me (row_of me p (Event.Written words))).tags ≡ update s.tags me (settled true None)
+  written_tags p l words e = subst (λ (q : Pending). (made s me (row_of me q (Event.Written words))).tags ≡ update s.tags me (settled true None)) (sym e) refl
+
+  made_value : (e : Event) (answer : Option Line) (w : Line) → has_row n me (s.steps me) e ≡ true → w ≡ value_after e r.witness.value → ValueAfter s r.witness.value me e (Ok (Outcome.Done answer)) (made s me (row_at s me e)) w
+  made_value (Event.Written words) answer w h e =
       let p = writes_from n me (s.steps me) words h in
-      sole_sharer s r.witness r.law me p.0 p.1
+      let sole : IsSoleSharer s me = sole_sharer s r.witness r.law me p.0 p.1 in
+      (e, sole, sole_after s (made s me (row_at s me (Event.Written words))) me (settled true None) refl (written_tags (s.steps me) p.0 words p.1) sole, writer_keeps p.0 p.1)
+  made_value _ answer w h e = e
 
-  written_tags : (p : Pending) (l : Line) (words : List ℕ) → p ≡ Pending.Purging l (Some None) → (made s me (row_of me p (Event.Written (Some words)))).tags ≡ update s.tags me (settled true None)
-  written_tags p l words e = subst (λ (q : Pending). (made s me (row_of me q (Event.Written (Some words)))).tags ≡ update s.tags me (settled true None)) (sym e) refl
-
-  made_value : (e : Event) (answer : Option Line) (v w : Line) → has_row n me (s.steps me) e ≡ true → w ≡ value_after e v → ValueAfter s v me e (Ok (Outcome.Done answer)) (made s me (row_at s me e)) w
-  made_value (Event.Written (Some words)) answer v w h e =
-      let p = writes_from n me (s.steps me) words h in
-      let sole : IsSoleSharer s me = writer words h in
-      (e, sole, sole_after s (made s me (row_at s me (Event.Written (Some words)))) me (settled true None) refl (written_tags (s.steps me) p.0 words p.1) sole)
-  made_value (Event.Written None) answer v w h e = e
-  made_value _ answer v w h e = e
-
-  pub made_keeps : (e : Event) (answer : Option Line) → has_row n me (s.steps me) e ≡ true → Finds s (row_at s me e).change → FitsEvent fits e → KeepsLawful n fits s me e (Ok (Outcome.Done answer)) (made s me (row_at s me e))
-  made_keeps e answer h f k =
-      let go : Going n s r.witness me e (row_at s me e) = going n fits s r me below e h f in
-      let after : IsRuled n fits (made s me (row_at s me e)) = ruled_after n fits s r me below e h f k in
+  pub made_keeps : (e : Event) (answer : Option Line) → Makes n s me e answer (made s me (row_at s me e)) → FitsEvent fits e → KeepsLawful n fits s me e (Ok (Outcome.Done answer)) (made s me (row_at s me e))
+  made_keeps e answer m k =
+      let before : HasValue n fits s r.witness.value = ruled_value n fits s r in
+      let go : Going n s r.witness me e (row_at s me e) = going n fits s r me below e m.allowed m.finds in
+      let ruled : IsRuled n fits (made s me (row_at s me e)) = ruled_after n fits s r me below e m.allowed m.finds k in
+      let after : HasValue n fits (made s me (row_at s me e)) ruled.witness.value = ruled_value n fits (made s me (row_at s me e)) ruled in
       record {
         value = r.witness.value;
-        next = after.witness.value;
-        before = ruled_value n fits s r;
-        after = ruled_value n fits (made s me (row_at s me e)) after;
-        change = made_value e answer r.witness.value after.witness.value h go.value;
+        next = ruled.witness.value;
+        before = before;
+        after = after;
+        change = made_value e answer ruled.witness.value m.allowed go.value;
+        answer = answers_value n fits s (made s me (row_at s me e)) me e answer ruled.witness.value (before.lawful.steps.own_word me) m after;
       }
 
 -- a look or an exchange
 pub done_keeps : (n : ℕ) (fits : List ℕ → Type 0) (s t : State) (me : ℕ) (e : Event) (answer : Option Line) → IsRuled n fits s → me < n → FitsEvent fits e → Makes n s me e answer t → KeepsLawful n fits s me e (Ok (Outcome.Done answer)) t
 done_keeps n fits s t me e answer r below fit m =
-    subst (λ (u : State). KeepsLawful n fits s me e (Ok (Outcome.Done answer)) u) (sym m.next) (made_keeps n fits s r me below e answer m.allowed m.finds fit)
+    let makes : Makes n s me e answer (made s me (row_at s me e)) = subst (λ (u : State). Makes n s me e answer u) m.next m in
+    subst (λ (u : State). KeepsLawful n fits s me e (Ok (Outcome.Done answer)) u) (sym m.next) (made_keeps n fits s r me below e answer makes fit)
 
 -- what a value holds for, another that is equal holds for
 moved : (n : ℕ) (fits : List ℕ → Type 0) (s : State) (v w : Line) → v ≡ w → HasValue n fits s v → HasValue n fits s w
@@ -129,24 +142,22 @@ pub look_keeps : (n : ℕ) (fits : List ℕ → Type 0) (s t : State) (me : ℕ)
 look_keeps n fits s t me r below e = subst (λ (u : State). KeepsLawful n fits s me Event.Look (Ok (Outcome.Done None)) u) (sym e) (looked_keeps n fits s r me below)
 
 -- a lawful line in which nothing changed
-pub still_keeps : (n : ℕ) (fits : List ℕ → Type 0) (s t : State) (me : ℕ) (e : Event) (r : Result Outcome NotInTurn) → IsLawfulLine n fits s → t ≡ s → ((v : Line) → ValueAfter s v me e r s v) → KeepsLawful n fits s me e r t
-still_keeps n fits s t me e r o h k = subst (λ (u : State). KeepsLawful n fits s me e r u) (sym h) record { value = o.0; next = o.0; before = o.1; after = o.1; change = k o.0 }
+pub still_keeps : (n : ℕ) (fits : List ℕ → Type 0) (s t : State) (me : ℕ) (e : Event) (r : Result Outcome NotInTurn) → IsLawfulLine n fits s → t ≡ s → ((v : Line) → ValueAfter s v me e r s v × AnswersValue me r s v) → KeepsLawful n fits s me e r t
+still_keeps n fits s t me e r o h k = subst (λ (u : State). KeepsLawful n fits s me e r u) (sym h) record { value = o.0; next = o.0; before = o.1; after = o.1; change = (k o.0).0; answer = (k o.0).1 }
 
 missed_same : (s : State) (me : ℕ) (e : Event) (w : ℕ) (v : Line) → ValueAfter s v me e (Ok (Outcome.Missed w)) s v
-missed_same s me (Event.Written (Some words)) w v = refl
-missed_same s me (Event.Written None) w v = refl
+missed_same s me (Event.Written words) w v = refl
 missed_same s me _ w v = refl
 
 refused_same : (s : State) (me : ℕ) (e : Event) (x : NotInTurn) (v : Line) → ValueAfter s v me e (Err x) s v
-refused_same s me (Event.Written (Some words)) x v = refl
-refused_same s me (Event.Written None) x v = refl
+refused_same s me (Event.Written words) x v = refl
 refused_same s me _ x v = refl
 
 pub missed_keeps : (n : ℕ) (fits : List ℕ → Type 0) (s t : State) (me : ℕ) (e : Event) (w : ℕ) → IsLawfulLine n fits s → t ≡ s → KeepsLawful n fits s me e (Ok (Outcome.Missed w)) t
-missed_keeps n fits s t me e w o h = still_keeps n fits s t me e (Ok (Outcome.Missed w)) o h (missed_same s me e w)
+missed_keeps n fits s t me e w o h = still_keeps n fits s t me e (Ok (Outcome.Missed w)) o h (λ v. (missed_same s me e w v, tt))
 
 pub refused_keeps : (n : ℕ) (fits : List ℕ → Type 0) (s t : State) (me : ℕ) (e : Event) (x : NotInTurn) → IsLawfulLine n fits s → t ≡ s → KeepsLawful n fits s me e (Err x) t
-refused_keeps n fits s t me e x o h = still_keeps n fits s t me e (Err x) o h (refused_same s me e x)
+refused_keeps n fits s t me e x o h = still_keeps n fits s t me e (Err x) o h (λ v. (refused_same s me e x v, tt))
 
 -- what an exchange comes to is what the step answers
 pub exchange_answers : (n : ℕ) (s t : State) (me : ℕ) (e : Event) (o : Outcome) → is_look e ≡ false → Exchanges n s me e o t → Answers n s me e (Ok o) t

@@ -14,6 +14,7 @@ pub mod Unique
 pub mod Ranges
 pub mod Forming
 pub mod Ruled
+pub mod Answered
 pub mod Lawfully
 pub mod Walking
 pub mod Fitting

@@ -1,6 +1,7 @@
 -- Runs of a line: it is lawful and coherent between any two events, and only a write changes its value.
 use Rattle.std.specs.Prelude.{◌≡◌, ℕ, ◌+◌, false, Option, Some, None, Result, Ok, Err, List, [], ◌∷◌, take, slice_get}
 use Rattle.sci_core.specs.declared.lines.Line.{Line}
+use Rattle.sci_core.specs.declared.pending.Pending.{Pending}
 use Rattle.sci_core.specs.declared.events.Event.{Event}
 use Rattle.sci_core.specs.declared.outcomes.Outcome.{Outcome}
 use Rattle.sci_core.specs.declared.outcomes.NotInTurn.{NotInTurn}
@@ -9,7 +10,7 @@ use Rattle.sci_core.specs.Answers.{Answers, is_allowed}
 use Rattle.sci_core.specs.Facts.{RemembersTruly}
 use Rattle.sci_core.specs.Headline.{IsCoherent}
 use Rattle.sci_core.specs.Lawful.{Lawful}
-use Rattle.sci_core.specs.Sharers.{IsSoleSharer}
+use Rattle.sci_core.specs.Sharers.{IsValidSharer, IsSoleSharer}
 use Rattle.sci_core.specs.Table.Purging.{written}
 
 -- lawful and coherent, with this value (Culler and Singh), and what its nodes have seen, told or kept still fits
@@ -23,11 +24,16 @@ pub record HasValue (n : ℕ) (fits : List ℕ → Type 0) (s : State) (v : Line
 abbrev pub IsLawfulLine : ℕ → (List ℕ → Type 0) → State → Type 0
 IsLawfulLine n fits s = (v : Line) × HasValue n fits s v
 
--- the value after an event: the words that are written, with the next stamp, and then the writer is the only valid sharer
--- before and after; no other event changes it
+-- the value after an event. A writer is Purging the value and has seen that nobody stands behind it, and is the only valid
+-- sharer before and after: what it writes, with the next stamp, or the value as it was. No other event changes the value
 abbrev pub ValueAfter : State → Line → ℕ → Event → Result Outcome NotInTurn → State → Line → Type 0
-ValueAfter s v me (Event.Written (Some words)) (Ok (Outcome.Done answer)) t w = (w ≡ written v (Some words)) × IsSoleSharer s me × IsSoleSharer t me
+ValueAfter s v me (Event.Written words) (Ok (Outcome.Done answer)) t w = (w ≡ written v words) × IsSoleSharer s me × IsSoleSharer t me × (s.steps me ≡ Pending.Purging v (Some None))
 ValueAfter s v me e r t w = w ≡ v
+
+-- a line that the node's event answers is the value after it, and the node is a valid sharer
+abbrev pub AnswersValue : ℕ → Result Outcome NotInTurn → State → Line → Type 0
+AnswersValue me (Ok (Outcome.Done (Some line))) t w = (line ≡ w) × IsValidSharer t me
+AnswersValue me r t w = Unit {0}
 
 -- an event from a lawful line to a lawful line
 pub record KeepsLawful (n : ℕ) (fits : List ℕ → Type 0) (s : State) (me : ℕ) (e : Event) (r : Result Outcome NotInTurn) (t : State) : Type 0 where
@@ -36,6 +42,7 @@ pub record KeepsLawful (n : ℕ) (fits : List ℕ → Type 0) (s : State) (me : 
   pub before : HasValue n fits s value
   pub after : HasValue n fits t next
   pub change : ValueAfter s value me e r t next
+  pub answer : AnswersValue me r t next
 
 -- how many done events an outcome is
 abbrev pub done_in : Outcome → ℕ

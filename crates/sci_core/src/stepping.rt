@@ -185,7 +185,8 @@ impl<K: Keeps> Whole<K> {
     /// One event of one node. Done: its exchange was made, or the node looked at its own tag; the line that the event
     /// answers, where it answers one. Missed: another word was found than the exchange's word before; the word found, and
     /// nothing changed. Refusal 8: the node's pending step doesn't allow the event, and nothing changed. The line is lawful
-    /// before and after, and its value changes only where words were written, by the only valid sharer.
+    /// before and after, and its value changes only where words were written, by the only valid sharer. A line that is
+    /// answered is the value, and the node is a valid sharer with it.
     pub fn step(&mut self, node: NodeId, event: Event) -> Result<Outcome, NotInTurn>
         requires node { node < nodes_of self.old }
         requires fits { FitsEvent (K.fits self.old.keep self.old.number) event }

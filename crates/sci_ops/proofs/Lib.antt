@@ -1,4 +1,7 @@
+pub mod Answering
 pub mod Carried
 pub mod Took
 pub mod Short
 pub mod Storing
+pub mod Valued
+pub mod Ending

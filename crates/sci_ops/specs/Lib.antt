@@ -1,4 +1,7 @@
+pub mod Alone
+pub mod Answers
 pub mod Change
 pub mod Operation
 pub mod Plan
 pub mod Table
+pub mod Values

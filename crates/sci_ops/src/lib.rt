@@ -1,6 +1,7 @@
 //! Operations on a line: loads, writes and evictions, which take turns over a port.
 #![tactic(auto)]
 
+mod alone;
 mod answers;
 mod found;
 mod goals;
@@ -10,7 +11,8 @@ mod refusals;
 mod tests;
 mod turns;
 
+pub use alone::Steps;
 pub use answers::{Answer, End, Turn};
 pub use goals::{Goal, WordNo, Write};
 pub use ops::Op;
-pub use refusals::{BadWord, StampsSpent};
+pub use refusals::BadWord;

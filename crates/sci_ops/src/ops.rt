@@ -1,15 +1,21 @@
 //! Operations.
 ghost use Rattle.std.specs.Prelude.{◌≡◌, ◌<◌, ◌↔◌, IfOk, IsErr};
+ghost use Rattle.sci_core.specs.Whole.{IsSameLine, nodes_of, state_of};
+ghost use Rattle.sci_port.specs.Solo.{Gives};
 ghost use Rattle.sci_ops.specs.declared.goals.Write as a_write;
+ghost use Rattle.sci_ops.specs.Answers.{AnswersAt};
 ghost use Rattle.sci_ops.specs.Change.{StoresFitting};
 ghost use Rattle.sci_ops.specs.Plan.{Takes, LoadsAtMost};
 ghost use Rattle.sci_ops.specs.Table.{turn_of, begun, after_turn};
+ghost use Rattle.sci_ops.specs.Values.{IsTrueTurn};
 
 use crate::answers::{Answer, Turn};
 use crate::goals::{Goal, WordNo, Write};
 use crate::refusals::BadWord;
-use crate::turns::turn_towards;
-use sci_port::Port;
+use crate::turns::{read_stamp, turn_towards};
+use sci_core::{Keeps, Whole};
+use sci_port::{Port, Solo};
+use sci_words::NodeId;
 use std::marker::Model;
 
 /// An operation of a node on a line: what it is for and, once it has ended, its answer.
@@ -76,11 +82,15 @@ impl Op {
     }
 
     #[tactic(auto, using(crate::proofs::Short::three_loads))]
-    /// One turn, by the table of turns: at most three loads and then at most one exchange, which the pending step allows.
-    /// A turn after the end gives the answer again, and asks nothing of the port.
+    /// One turn, by the table of turns: at most three loads and then at most one exchange, which the pending step allows. An
+    /// answer is what the last of these calls gave. Seen: a load; Settle or Unhold was done, and answered this line. Wrote: a
+    /// write; from Purging of a line with these words and a stamp one less, what the write makes of them was written. Spent: a
+    /// write; from Purging of a line whose stamp is `u64::MAX`, nothing was. Out: an eviction; the node's own tag was Invalid, or
+    /// Left or Rolled made it so. A turn after the end gives the answer again, and asks nothing of the port.
     pub fn turn<P: Port>(&mut self, port: &mut P) -> Turn
         requires fits { StoresFitting (P.Keep.fits (P.keep port.old) (P.way port.old).number) self.old.goal }
         ensures calls { Takes P.gives (turn_of self.old (P.way port.old).node (P.at_step port.old)) port.old result port.new }
+        ensures answers { AnswersAt P.gives P.at_step self.old (P.way port.old).node port.old result port.new }
         ensures loads { LoadsAtMost 3 (turn_of self.old (P.way port.old).node (P.at_step port.old)) }
         ensures op { self.new ≡ after_turn self.old result }
         ensures same_way { P.way port.new ≡ P.way port.old }
@@ -89,10 +99,27 @@ impl Op {
         if let Some(answer) = self.answer {
             return Turn::Done(answer);
         }
+        read_stamp(&port.pending());
         let turn = turn_towards(port, self.goal);
         if let Turn::Done(answer) = turn {
             self.answer = Some(answer);
         }
         turn
+    }
+
+    /// One turn of a node on a line that is lent to it: `turn` over its `Solo`. An answer is true of the line before and after
+    /// the turn. Seen: the line's value, and the node is a valid sharer of it. Wrote: the words before are those of the value
+    /// before, whose stamp is one less, the value after is what the write makes of them, with the stamp, and the node is the
+    /// only valid sharer before and after. Spent: the stamp of the value is `u64::MAX`, the value stays, and the node is the
+    /// only valid sharer before and after. Out: the node's tag is Invalid.
+    pub fn turn_on<K: Keeps>(&mut self, whole: &mut Whole<K>, node: NodeId) -> Turn
+        requires node { node < nodes_of whole.old }
+        requires fits { StoresFitting (K.fits whole.old.keep whole.old.number) self.old.goal }
+        ensures same { IsSameLine whole.old whole.new }
+        ensures calls { Takes (λ s call t. Gives (nodes_of whole.old) (K.fits whole.old.keep whole.old.number) s node call t) (turn_of self.old node ((state_of whole.old).steps node)) (state_of whole.old) result (state_of whole.new) }
+        ensures answers { IsTrueTurn (nodes_of whole.old) (K.fits whole.old.keep whole.old.number) self.old node (state_of whole.old) result (state_of whole.new) }
+        ensures op { self.new ≡ after_turn self.old result }
+    {
+        self.turn(&mut Solo::new(whole, node))
     }
 }

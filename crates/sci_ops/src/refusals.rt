@@ -6,16 +6,12 @@
 pub struct BadWord;
 
 impl BadWord {
-    /// The refusal's number.
-    pub const NUMBER: u8 = 10;
-}
+    ghost use Rattle.std.specs.Prelude.{◌≡◌};
 
-/// Refusal 11: the stamp of the line counts no more writes.
-#[derive(Clone, Copy, Debug, PartialEq, Eq, thiserror::Error)]
-#[error("11: the stamp counts no more writes")]
-pub struct StampsSpent;
-
-impl StampsSpent {
     /// The refusal's number.
-    pub const NUMBER: u8 = 11;
+    pub fn number(self) -> u8
+        ensures { result ≡ 10 }
+    {
+        10
+    }
 }

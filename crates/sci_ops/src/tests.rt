@@ -1,10 +1,17 @@
 //! Operations worked out by hand from the table of turns.
-ghost use Rattle.std.specs.Prelude.{◌≡◌, ◌<◌};
+ghost use Rattle.std.specs.Prelude.{◌≡◌, ◌<◌, None, IfOk};
+ghost use Rattle.sci_core.specs.Whole.{state_of};
+ghost use Rattle.sci_ops.specs.Alone.{IsAtRest};
+
+mod replays;
 
 use super::*;
-use sci_core::{AnyWords, Line, Whole};
+use sci_core::{AnyWords, Line, OpenRefusal, Whole};
 use sci_port::Solo;
 use sci_words::NodeId;
+use std::alloc::Global;
+use std::marker::Brand;
+use std::sync::ledger::{Blank, Ledger};
 use std::test::Fail;
 
 const SEEN: Answer = Answer::Seen {
@@ -12,8 +19,16 @@ const SEEN: Answer = Answer::Seen {
     stamp: 0,
 };
 
-// The operation's answer after so many turns, none of which waits.
+// One turn, if there is that node.
 #[tactic(auto, using(crate::proofs::Storing::any_store_fits))]
+fn turn(whole: &mut Whole<AnyWords>, node: NodeId, op: &mut Op) -> Option<Turn> {
+    if node.get() >= whole.nodes() {
+        return None;
+    }
+    Some(op.turn_on(whole, node))
+}
+
+// The operation's answer after so many turns, none of which waits.
 fn take(
     whole: &mut Whole<AnyWords>,
     number: u16,
@@ -22,16 +37,12 @@ fn take(
 ) -> Option<Answer> {
     let mut op = op.ok()?;
     let node = NodeId::new(number)?;
-    if node.get() >= whole.nodes() {
-        return None;
-    }
-    let mut solo = Solo::new(whole, node);
     for _ in 1..turns {
-        if op.turn(&mut solo) != Turn::Moved {
+        if turn(whole, node, &mut op)? != Turn::Moved {
             return None;
         }
     }
-    match op.turn(&mut solo) {
+    match turn(whole, node, &mut op)? {
         Turn::Done(answer) => Some(answer),
         Turn::Moved | Turn::Waiting => None,
     }
@@ -81,6 +92,89 @@ fn writes_from_the_tail_in_18_turns(rt: HostRuntime) -> Result<(), Fail> {
 }
 
 #[test]
+fn writes_from_the_head_in_10_turns(rt: HostRuntime) -> Result<(), Fail> {
+    let mut whole = Whole::open(rt.alloc(), 3, 0, Line::ZERO, AnyWords)?;
+    for (number, turns) in [(0, 4), (1, 5), (2, 5)] {
+        assert_eq!(rt;
+            take(&mut whole, number, Ok(Op::load()), turns),
+            Some(SEEN),
+            "by {number}"
+        );
+    }
+    let before = [0; 8];
+    let wrote = take(&mut whole, 2, Op::store(0, 5), 10);
+    assert_eq!(rt; wrote, Some(Answer::Wrote { before, stamp: 1 }));
+    Ok(())
+}
+
+// Three nodes and a line that nobody has used.
+fn opened(alloc: Global) -> Result<Whole<AnyWords>, OpenRefusal>
+    ensures { IfOk result (λ w. IsAtRest (state_of w)) }
+{
+    Whole::open(alloc, 3, 0, Line::ZERO, AnyWords)
+}
+
+// The operation's answer, taken to its end where every node is Idle.
+#[tactic(auto, using(crate::proofs::Storing::any_store_fits))]
+fn take_alone<L: Ledger>(
+    whole: &mut Whole<AnyWords>,
+    number: u16,
+    mut op: Op,
+    steps: &mut Steps<L>,
+) -> Option<Answer>
+    requires begins { op.answer ≡ None }
+    requires rest { IsAtRest (state_of whole.old) }
+    ensures rest { IsAtRest (state_of whole.new) }
+{
+    let node = NodeId::new(number)?;
+    if node.get() >= whole.nodes() {
+        return None;
+    }
+    let mut solo = Solo::new(whole, node);
+    Some(op.alone(&mut solo, steps))
+}
+
+// Reads by three nodes, a write by the tail, a read, and exits, each alone.
+fn answers_alone<L: Ledger>(
+    whole: &mut Whole<AnyWords>,
+    store: Op,
+    blank: Blank,
+) -> [Option<Answer>; 7]
+    requires begins { store.answer ≡ None }
+    requires rest { IsAtRest (state_of whole.old) }
+    requires name { blank.name ≡ L.name }
+    requires parts { blank.parts ≡ L.parts }
+    requires some { 0 < L.parts }
+{
+    let mut steps = Steps::<L>::open(blank);
+    let first = take_alone(whole, 0, Op::load(), &mut steps);
+    let second = take_alone(whole, 1, Op::load(), &mut steps);
+    let third = take_alone(whole, 2, Op::load(), &mut steps);
+    let wrote = take_alone(whole, 0, store, &mut steps);
+    let seen = take_alone(whole, 1, Op::load(), &mut steps);
+    let out = take_alone(whole, 0, Op::evict(), &mut steps);
+    let last = take_alone(whole, 1, Op::evict(), &mut steps);
+    [first, second, third, wrote, seen, out, last]
+}
+
+#[test]
+fn ends_alone(rt: HostRuntime) -> Result<(), Fail> {
+    let mut whole = opened(rt.alloc())?;
+    let store = Op::write_line([5, 0, 0, 0, 0, 0, 0, 0]);
+    let answers = answers_alone::<Brand>(&mut whole, store, Blank::new(1));
+    let before = [0; 8];
+    let words = [5, 0, 0, 0, 0, 0, 0, 0];
+    let read = Answer::Seen { words, stamp: 1 };
+    let wrote = Answer::Wrote { before, stamp: 1 };
+    let out = Answer::Out;
+    let wanted = [SEEN, SEEN, SEEN, wrote, read, out, out];
+    for (answer, wanted) in answers.iter().zip(wanted.iter()) {
+        assert_eq!(rt; *answer, Some(*wanted));
+    }
+    Ok(())
+}
+
+#[test]
 fn spends_the_last_stamp(rt: HostRuntime) -> Result<(), Fail> {
     let last = Line {
         words: [0; 8],
@@ -104,6 +198,5 @@ fn refuses_words_above_7(rt: HostRuntime) {
     assert_eq!(rt; Op::add(8, 0), Err(BadWord));
     assert!(rt; Op::store(7, 0).is_ok());
     assert!(rt; Op::add(7, 0).is_ok());
-    assert_eq!(rt; BadWord::NUMBER, 10);
-    assert_eq!(rt; StampsSpent::NUMBER, 11);
+    assert_eq!(rt; BadWord.number(), 10);
 }

@@ -1,6 +1,7 @@
 //! What a turn does in each pending step.
-ghost use Rattle.std.specs.Prelude.{◌≡◌, true};
+ghost use Rattle.std.specs.Prelude.{◌≡◌, ◌≤◌, true};
 ghost use Rattle.sci_core.specs.Answers.{is_allowed, FitsEvent};
+ghost use Rattle.sci_ops.specs.Answers.{HasStamp};
 ghost use Rattle.sci_ops.specs.Change.{StoresFitting};
 ghost use Rattle.sci_ops.specs.Plan.{Takes, exchange};
 ghost use Rattle.sci_ops.specs.Table.{turn_in, move, seen_end, out_end};
@@ -59,6 +60,20 @@ fn out_end(goal: Goal) -> End
     match goal {
         Goal::Evict => End::Out,
         Goal::Load | Goal::Write(_) => End::Moved,
+    }
+}
+
+// A stamp is a u64.
+fn in_range(stamp: u64)
+    ensures { stamp ≤ 18446744073709551615 }
+{}
+
+/// Reads the stamp of a line that is to be written over.
+pub fn read_stamp(pending: &Pending)
+    ensures { HasStamp pending.now }
+{
+    if let Pending::Purging { line, .. } = pending {
+        in_range(line.stamp);
     }
 }
 

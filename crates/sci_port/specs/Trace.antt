@@ -11,6 +11,8 @@ passed me (Stepped e (Outcome.Done answer)) = (me, e) ∷ []
 passed me (Stepped e (Outcome.Missed word)) = (me, e) ∷ []
 passed me _ = []
 
--- unless memory was refused, the events after are those before and then these
+-- where there is none to keep the trace is as before; else, unless memory was refused, the events after are those before and
+-- then these
 abbrev pub Records : Bool → List (ℕ × Event) → List (ℕ × Event) → Bool → List (ℕ × Event) → Type 0
+Records cut before [] cut_after after = (cut_after ≡ cut) × (after ≡ before)
 Records cut before events cut_after after = cut_after ≡ false → (cut ≡ false) × (after ≡ before ++ events)

@@ -1,6 +1,8 @@
 //! Ports to a line that is lent, event by event.
 ghost use Rattle.std.specs.Prelude.{◌≡◌, ◌<◌};
 
+mod growths;
+
 use super::recording::{Recorder, Trace};
 use super::*;
 use sci_core::{Event, Line, Outcome, Pending, Whole};
@@ -53,19 +55,29 @@ fn step(
     }
 }
 
+// A reader who turns to a writer, until a second reader comes in before it.
+fn two_readers() -> [(u16, Event, Outcome); 8] {
+    [
+        (0, Event::Queue(None), Outcome::Done(None)),
+        (0, Event::PrependValid, Outcome::Done(None)),
+        (0, Event::ReturnMemory, Outcome::Done(None)),
+        (0, Event::Settle, Outcome::Done(Some(LINE))),
+        (0, Event::Convert(fresh(None)), Outcome::Done(None)),
+        (1, Event::Queue(Some(node(0))), Outcome::Done(None)),
+        (1, Event::PrependValid, Outcome::Done(None)),
+        (0, Event::FreshToGone, Outcome::Missed(0x111)),
+    ]
+}
+
 #[test]
 fn steps_two_readers(rt: HostRuntime) -> Result<(), Fail> {
     let mut whole = Whole::open(rt.alloc(), 2, 0, LINE, AnyWords)?;
     let mut trace = Trace::new(rt.alloc());
+    for (number, event, outcome) in two_readers() {
+        let answer = step(&mut whole, &mut trace, number, event);
+        assert_eq!(rt; answer, Some(outcome));
+    }
     for (number, event, outcome) in [
-        (0, Event::Queue(None), Some(Outcome::Done(None))),
-        (0, Event::PrependValid, Some(Outcome::Done(None))),
-        (0, Event::ReturnMemory, Some(Outcome::Done(None))),
-        (0, Event::Settle, Some(Outcome::Done(Some(LINE)))),
-        (0, Event::Convert(fresh(None)), Some(Outcome::Done(None))),
-        (1, Event::Queue(Some(node(0))), Some(Outcome::Done(None))),
-        (1, Event::PrependValid, Some(Outcome::Done(None))),
-        (0, Event::FreshToGone, Some(Outcome::Missed(0x111))),
         (1, Event::Settle, None),
         (0, Event::Unconverted, Some(Outcome::Done(None))),
         (0, Event::Look, Some(Outcome::Done(None))),

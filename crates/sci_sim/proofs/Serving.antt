@@ -1,11 +1,11 @@
 -- The faults of the command `script`.
 use Rattle.std.proofs.Common.{◌≤◌, ℕ, List, [], length, Result, Ok, Err, OnOk, IfErr, refl, inl, inr}
-use Rattle.sci_sim.specs.declared.refusals.ScriptRefusal.{ScriptRefusal}
-use Rattle.sci_sim.specs.declared.refusals.ScriptRefusal.TheVariants.{OutOfMemory, BadCommand, BadNumber, NotDone, WriteFailed}
+use Rattle.sci_script.specs.declared.refusals.ScriptRefusal.{ScriptRefusal}
+use Rattle.sci_script.specs.declared.refusals.ScriptRefusal.TheVariants.{OutOfMemory, BadCommand, BadNumber, NotDone, WriteFailed}
 use Rattle.sci_sim.specs.declared.faults.SimFault.{SimFault}
 use Rattle.sci_sim.specs.declared.faults.SimFault.TheVariants.{CannotRead, CannotWrite, InputTooLong, Refused}
 use Rattle.sci_sim.specs.Fault.{fault_of}
-use Rattle.sci_sim.specs.Format.{Fails, script_of}
+use Rattle.sci_script.specs.Format.{Fails, script_of}
 use Rattle.sci_sim.specs.Input.{IsReadFault}
 use Rattle.sci_sim.specs.Serve.{Stops, StopsRunning}
 

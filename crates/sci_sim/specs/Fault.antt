@@ -1,6 +1,6 @@
 -- A script's refusal as a fault of the program. This project's profile.
-use Rattle.sci_sim.specs.declared.refusals.ScriptRefusal.{ScriptRefusal}
-use Rattle.sci_sim.specs.declared.refusals.ScriptRefusal.TheVariants.{OutOfMemory, BadCommand, BadNumber, NotDone, WriteFailed}
+use Rattle.sci_script.specs.declared.refusals.ScriptRefusal.{ScriptRefusal}
+use Rattle.sci_script.specs.declared.refusals.ScriptRefusal.TheVariants.{OutOfMemory, BadCommand, BadNumber, NotDone, WriteFailed}
 use Rattle.sci_sim.specs.declared.faults.SimFault.{SimFault}
 use Rattle.sci_sim.specs.declared.faults.SimFault.TheVariants.{CannotWrite, Refused}
 

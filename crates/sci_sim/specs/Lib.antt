@@ -1,13 +1,3 @@
-pub mod Words
-pub mod Size
-pub mod Openings
-pub mod Format
-pub mod Event
-pub mod Text
-pub mod Run
-pub mod Calls
-pub mod Unused
-pub mod Wholes
 pub mod Fault
 pub mod Input
 pub mod Serve

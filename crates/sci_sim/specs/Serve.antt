@@ -1,28 +1,26 @@
 -- What the command `script` writes. This project's profile.
 use Rattle.std.specs.Prelude.{◌≡◌, ℕ, ◌<◌, ◌≤◌, List, [], length, Ok, Err, ◌⊎◌}
-use Rattle.sci_sim.specs.declared.commands.Size.{Size}
-use Rattle.sci_sim.specs.declared.commands.Opening.{Opening}
-use Rattle.sci_sim.specs.declared.commands.Step.{Step}
-use Rattle.sci_sim.specs.declared.refusals.ScriptRefusal.{ScriptRefusal}
-use Rattle.sci_sim.specs.declared.refusals.ScriptRefusal.TheVariants.{OutOfMemory, BadCommand, BadNumber, NotDone, WriteFailed}
+use Rattle.sci_script.specs.declared.commands.Size.{Size}
+use Rattle.sci_script.specs.declared.commands.Opening.{Opening}
+use Rattle.sci_script.specs.declared.commands.Step.{Step}
+use Rattle.sci_script.specs.declared.refusals.ScriptRefusal.{ScriptRefusal}
+use Rattle.sci_script.specs.declared.refusals.ScriptRefusal.TheVariants.{OutOfMemory, BadCommand, BadNumber, NotDone, WriteFailed}
 use Rattle.sci_sim.specs.declared.faults.SimFault.{SimFault}
 use Rattle.sci_sim.specs.declared.faults.SimFault.TheVariants.{CannotRead, CannotWrite, InputTooLong, Refused}
-use Rattle.sci_sim.specs.declared.wholes.WholesDesk.{WholesDesk}
-use Rattle.sci_sim.specs.Format.{script_of}
-use Rattle.sci_sim.specs.Run.{PrintsAll, Leaves}
-use Rattle.sci_sim.specs.Wholes.{IsOpened, wholes_is_open, wholes_does}
+use Rattle.sci_script.specs.Format.{script_of}
+use Rattle.sci_script.specs.ScriptText.{IsTextOf, IsLeftOf}
 
--- the input is a script, and this is the text that it prints
+-- the input is a script, and this is its text
 abbrev pub Serves : List ℕ → List ℕ → Type 0
 Serves input text =
     (length input ≤ 1048576) × (size : Size) × (openings : List Opening) × (steps : List Step) × (script_of input ≡ Ok (size, openings, steps))
-    × (s t : WholesDesk) × IsOpened size openings s × PrintsAll wholes_is_open wholes_does s steps text t
+    × IsTextOf size openings steps text
 
 -- the input is a script, whose run fails and leaves this text
 abbrev pub StopsRunning : ScriptRefusal → List ℕ → List ℕ → Type 0
 StopsRunning e input written =
     (length input ≤ 1048576) × (size : Size) × (openings : List Opening) × (steps : List Step) × (script_of input ≡ Ok (size, openings, steps))
-    × (s t : WholesDesk) × IsOpened size openings s × Leaves wholes_is_open wholes_does size.nodes s steps e written t
+    × IsLeftOf size openings steps e written
 
 -- the reader of scripts refuses the input, or memory ran out before the run
 abbrev pub IsRefused : ScriptRefusal → List ℕ → Type 0

@@ -3,9 +3,9 @@
 ghost use Rattle.std.specs.Prelude.{◌≡◌};
 ghost use Rattle.sci_sim.specs.Fault.{fault_of};
 ghost use Rattle.sci_sim.specs.declared.faults.SimFault.TheVariants.{Refused};
-ghost use Rattle.sci_sim.specs.declared.refusals.ScriptRefusal.TheVariants.{OutOfMemory};
+ghost use Rattle.sci_script.specs.declared.refusals.ScriptRefusal.TheVariants.{OutOfMemory};
 
-use crate::refusals::ScriptRefusal;
+use sci_script::ScriptRefusal;
 use std::alloc::AllocError;
 use thiserror::Error;
 

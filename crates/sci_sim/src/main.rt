@@ -1,25 +1,11 @@
 //! `scisim script [FILE]`: runs a script.
 #![tactic(auto)]
 
-mod answers;
-mod commands;
-mod desk;
 mod faults;
 mod input;
-mod line_commands;
-mod line_words;
-mod loads;
-mod numbers;
-mod reader;
-mod refusals;
-mod running;
 mod serve;
 #[cfg(test)]
 mod tests;
-mod texts;
-mod turns;
-mod wholes;
-mod writing;
 
 use clap::{Arg, Command};
 use faults::SimFault;

@@ -7,10 +7,7 @@ ghost use Rattle.sci_sim.specs.Serve.{Serves, Stops};
 
 use crate::faults::SimFault;
 use crate::input::read_input;
-use crate::reader::read_script;
-use crate::refusals::ScriptRefusal;
-use crate::running::run;
-use crate::wholes::WholesDesk;
+use sci_script::{ScriptRefusal, WholeDesk, read_script};
 use std::alloc::Global;
 use std::io::{Read, Write};
 
@@ -22,8 +19,8 @@ fn serve_input<W: Write>(alloc: Global, input: &[u8], writer: &mut W) -> Result<
         × Appends (W.contents writer.old) (W.contents writer.new) written) }
 {
     let script = read_script(alloc, input)?;
-    let mut desk = WholesDesk::open(alloc, &script)?;
-    run(&script, &mut desk, writer)
+    let mut desk = WholeDesk::open(alloc, &script)?;
+    script.run(alloc, &mut desk, writer)
 }
 
 /// Reads a script to its end, runs it, and writes its text.

@@ -1,0 +1,9 @@
+pub mod Listed
+pub mod Locks
+pub mod Calling
+pub mod Composing
+pub mod Lending
+pub mod Seating
+pub mod Ordered
+pub mod Ending
+pub mod Staying

@@ -1,0 +1,18 @@
+use Rattle.std.proofs.Common.{◌≡◌, ◌+◌, Some, false, vec_len}
+use Rattle.sci_core.specs.declared.pending.Pending.TheVariants.{Idle}
+use Rattle.sci_coarse.specs.Seats.{AreIdleFrom}
+use Rattle.sci_coarse.proofs.line.CoarseLine.join_all.Given as goal
+
+abbrev pub invariant-loop-seat : goal.invariant-loop-seat
+invariant-loop-seat g l = record {
+  of : l.root.table_id ≡ l.self.table.shared.table_id;
+  live : l.root.me.0.of ≡ Some l.self.terms;
+  unheld : l.root.me.0.holds ≡ false;
+  first : l.root.me.0.node ≡ 0;
+  joined : l.root.me.0.joined ≡ vec_len l.seats + 1;
+  idle : l.root.me.0.pending ≡ Idle;
+  seats : AreIdleFrom l.self 1 l.seats.items;
+}
+
+abbrev pub decreases-loop-seat : goal.decreases-loop-seat
+decreases-loop-seat g l = goal.left-loop-seat g l

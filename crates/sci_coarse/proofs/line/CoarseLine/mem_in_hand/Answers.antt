@@ -1,0 +1,13 @@
+use Rattle.std.proofs.Common.{◌≡◌, ◌<◌, ℕ, true, Some, refl, sym, ◌∙◌, ap, subst}
+use Rattle.sci_core.specs.Whole.{WholeLine, nodes_of, state_of}
+use Rattle.sci_core.specs.Answers.{is_allowed}
+use Rattle.sci_port.specs.Call.{Own, MemWas, TagWas, Stepped}
+use Rattle.sci_coarse.specs.Rule.{IsOn}
+use Rattle.sci_coarse.proofs.Lending.{whole_hand, same_hand, lent, same_given}
+use Rattle.sci_coarse.proofs.line.CoarseLine.mem_in_hand.Goals as goal
+
+pub slot_mut-whole-requires : goal.slot_mut-whole-requires
+slot_mut-whole-requires g c = let h = c.requires.hand in (c.requires.of, (h.0, whole_hand c.args.token.now.me.1 h.0 h.1))
+
+pub returns-clause-called : goal.returns-clause-called
+returns-clause-called g c = let h = c.requires.hand in λ node. lent g.K.Keeps.fits node (MemWas (Some c.mem_of_whole.result)) c.args.token.now.me h.0 c.slot_mut-whole.result.now c.slot_mut-whole.result.now h.1 c.slot_mut-whole.ensures.value (c.mem_of_whole.ensures node)

@@ -1,0 +1,7 @@
+pub mod Standings
+pub mod Views
+pub mod Rule
+pub mod Regions
+pub mod Seats
+pub mod Ports
+pub mod Ends

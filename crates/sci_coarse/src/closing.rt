@@ -1,0 +1,117 @@
+//! How a line is closed, and its seats with it.
+ghost use Rattle.std.specs.Prelude.{◌≡◌, ℕ, ◌↔◌, ◌<◌, ◌≤◌, Some, false, IsTrue, IfOk, IfErr, vec_len};
+ghost use Rattle.sci_core.specs.declared.pending.Pending.TheVariants.{Idle};
+ghost use Rattle.sci_core.specs.Whole.{nodes_of, state_of};
+ghost use Rattle.sci_coarse.specs.Rule.{IsOn, IsLawfulWhole};
+ghost use Rattle.sci_coarse.specs.Seats.{AreIdle, AreIdleFrom, IsOnePerNode, IsRightRefusal, SitsAt};
+ghost use Rattle.sci_coarse.specs.Ends.{IsEnd};
+
+use crate::line::CoarseLine;
+use crate::seats::{Seat, Token};
+use crate::views::Together;
+use sci_core::{Closed, Keeps, Whole};
+use sci_words::LineNo;
+use std::alloc::Global;
+
+/// A line that was not closed. The line and the seats come back as they were.
+#[derive(Drop)]
+pub struct FinishRefusal<K: Keeps> {
+    pub line: CoarseLine<K>,
+    pub seats: Vec<Seat<K>>,
+    /// 9: the seats are not one per node in order. 7: memory ran out.
+    pub refusal: u8,
+}
+
+// The seat is that of the node of this number, at a line of this number.
+fn sits_at<K: Keeps>(seat: &Seat<K>, place: usize, number: LineNo) -> bool
+    ensures { IsTrue result ↔ SitsAt number place seat.now }
+{
+    usize::from(seat.node().get()) == place && seat.number() == number
+}
+
+impl<K: Keeps> CoarseLine<K> {
+    // The list has one seat per node, in order, with this line's number.
+    fn has_seats(&self, seats: &[Seat<K>]) -> bool
+        ensures { IsTrue result ↔ IsOnePerNode self.now seats.now }
+    {
+        if seats.len() != usize::from(self.terms.nodes) {
+            return false;
+        }
+        for (place, seat) in seats.iter().enumerate() {
+            if !sits_at(seat, place, self.terms.number) {
+                return false;
+            }
+        }
+        true
+    }
+
+    /// The line as it stands once nobody uses it any more: an exact sharing list. The seats are to be of this very line, and
+    /// Idle. The refusals: 9 where they are not one per node in order with this line's number, then 7 where memory ran out.
+    /// Both hand the line and the seats back.
+    pub fn finish(self, alloc: Global, seats: Vec<Seat<K>>) -> Result<Closed, FinishRefusal<K>>
+        requires { AreIdle self seats.items }
+        ensures seats { IfOk result (λ _. IsOnePerNode self seats.items) }
+        ensures ok { IfOk result (λ c. IsEnd K.fits self.terms c) }
+        ensures err { IfErr result (λ e. (e.line ≡ self) × (e.seats ≡ seats) × IsRightRefusal self seats.items e.refusal) }
+    {
+        if !self.has_seats(&seats) {
+            return Err(FinishRefusal {
+                line: self,
+                seats,
+                refusal: 9,
+            });
+        }
+        let count = usize::from(self.terms.nodes);
+        let (Ok(tags), Ok(lines)) = (
+            Vec::with_capacity(alloc, count),
+            Vec::with_capacity(alloc, count),
+        ) else {
+            return Err(FinishRefusal {
+                line: self,
+                seats,
+                refusal: 7,
+            });
+        };
+        let root = self.join_all(seats);
+        let whole = self.lay_open(root);
+        Ok(whole.closed_in(tags, lines))
+    }
+
+    // Joins all seats to the first.
+    fn join_all(&self, mut seats: Vec<Seat<K>>) -> Token<K>
+        requires seats { AreIdleFrom self.now 0 seats.items }
+        requires len { vec_len seats ≡ self.now.terms.nodes }
+        ensures of { (result.table_id ≡ self.now.table.shared.table_id) × (result.me.0.of ≡ Some self.now.terms) }
+        ensures view { (result.me.0.node ≡ 0) × (result.me.0.joined ≡ 1) × (result.me.0.pending ≡ Idle) × (result.me.0.holds ≡ false) }
+    {
+        let Seat {
+            token: mut root,
+            node: _,
+            standing: _,
+        } = seats.remove(0);
+        while let Some(seat) = seats.pop() {
+            let Seat {
+                token,
+                node: _,
+                standing: _,
+            } = seat;
+            self.table.shared.join_seat::<Together>(&mut root, token);
+        }
+        root
+    }
+
+    // The whole line, after the last region.
+    fn lay_open(self, root: Token<K>) -> Whole<K>
+        requires of { (root.table_id ≡ self.table.shared.table_id) × (root.me.0.of ≡ Some self.terms) }
+        requires view { (root.me.0.node ≡ 0) × (root.me.0.joined ≡ 1) × (root.me.0.pending ≡ Idle) × (root.me.0.holds ≡ false) }
+        ensures on { IsOn self.terms result }
+        ensures lawful { IsLawfulWhole K.fits result }
+        ensures idle { (i : ℕ) → i < nodes_of result → (state_of result).steps i ≡ Idle }
+    {
+        let CoarseLine { table, terms: _ } = self;
+        let mut closed = table.close_with(root);
+        let whole = closed.take(0);
+        closed.free();
+        whole
+    }
+}

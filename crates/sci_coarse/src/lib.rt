@@ -1,0 +1,20 @@
+//! A line that threads share, under one lock word: its seats, one per node, and their ports.
+#![tactic(auto)]
+
+mod calls;
+mod closing;
+mod line;
+mod opening;
+mod port;
+mod regions;
+mod seats;
+mod standing;
+mod stepping;
+#[cfg(test)]
+mod tests;
+mod views;
+
+pub use closing::FinishRefusal;
+pub use line::CoarseLine;
+pub use port::CoarsePort;
+pub use seats::Seat;

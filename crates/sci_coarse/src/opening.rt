@@ -1,0 +1,95 @@
+//! How a line is made, with its seats.
+ghost use Rattle.std.specs.Prelude.{◌≡◌, ◌<◌, ◌≤◌, ◌⊎◌, ◌↔◌, ℕ, Some, false, [], IfOk, vec_len, vec_capacity};
+ghost use Rattle.sci_core.specs.declared.pending.Pending.TheVariants.{Idle};
+ghost use Rattle.sci_coarse.specs.Seats.{AreIdleFrom, HasTerms};
+ghost use Rattle.sci_coarse.specs.Views.{first_view};
+
+use crate::line::CoarseLine;
+use crate::seats::{Seat, Token};
+use crate::standing::Standing;
+use crate::views::{Apart, Terms};
+use atomic_table::Table;
+use sci_core::{Keeps, Line, OpenRefusal, Pending, Whole};
+use sci_words::{LineNo, NodeId};
+use std::alloc::Global;
+
+// A seat in no step.
+fn idle_seat<K: Keeps>(token: Token<K>, node: NodeId, terms: Terms<K>) -> Seat<K>
+    requires of { token.me.0.of ≡ Some terms }
+    requires view { (token.me.0.node ≡ node) × (token.me.0.pending ≡ Idle) × (token.me.0.joined ≡ terms.nodes) × (token.me.0.holds ≡ false) }
+    requires hand { token.me.1 ≡ [] }
+    requires below { node < terms.nodes }
+    ensures token { result.token ≡ token }
+    ensures node { result.node ≡ node }
+    ensures standing { (result.standing.terms ≡ terms) × (result.standing.pending ≡ Idle) }
+{
+    Seat {
+        token,
+        node,
+        standing: Standing::new(terms, Pending::Idle),
+    }
+}
+
+// One of the first numbers is a node's.
+fn node_of(number: u16) -> NodeId
+    requires { number < 64 }
+    ensures { result ≡ number }
+{
+    match NodeId::new(number) {
+        Some(node) => node,
+        None => unreachable!(),
+    }
+}
+
+impl<K: Keeps> CoarseLine<K> {
+    /// A line that nobody has used, HOME, with `line` in every slot, and its seats, node i's at place i. The refusals: 6 for
+    /// 0 or more than 64 nodes, then 7 where memory ran out.
+    pub fn new(
+        alloc: Global,
+        nodes: u16,
+        number: LineNo,
+        line: Line,
+        keep: K,
+    ) -> Result<(CoarseLine<K>, Vec<Seat<K>>), OpenRefusal>
+        requires { K.fits keep number line.words }
+        ensures nodes { (result ≡ Err OpenRefusal.BadNodes) ↔ ((nodes ≡ 0) ⊎ (64 < nodes)) }
+        ensures terms { IfOk result (λ r. HasTerms r.0 nodes number keep) }
+        ensures seats { IfOk result (λ r. (vec_len r.1 ≡ nodes) × AreIdleFrom r.0 0 r.1.items) }
+    {
+        let whole = Whole::open(alloc, nodes, number, line, keep)?;
+        // What is opened is lawful.
+        let _ = whole.nodes();
+        let mut seats = Vec::with_capacity(alloc, usize::from(nodes))?;
+        let mut slots = Vec::with_capacity(alloc, 1)?;
+        slots.push_reserved(whole);
+        let terms = Terms {
+            nodes,
+            number,
+            keep,
+        };
+        let Ok((table, root)) = Table::new(alloc, &[0], slots, &terms) else {
+            return Err(OpenRefusal::OutOfMemory);
+        };
+        let line = CoarseLine { table, terms };
+        line.seat_all(root, &mut seats);
+        Ok((line, seats))
+    }
+
+    // Makes all seats, in room that was taken before.
+    fn seat_all(&self, mut root: Token<K>, seats: &mut Vec<Seat<K>>)
+        requires of { root.table_id ≡ self.now.table.shared.table_id }
+        requires view { root.me ≡ (first_view self.now.terms, []) }
+        requires room { (seats.old.items ≡ []) × (vec_len seats.old ≡ 0) × (self.now.terms.nodes ≤ vec_capacity seats.old) }
+        ensures len { vec_len seats.new ≡ self.now.terms.nodes }
+        ensures seats { AreIdleFrom self.now 0 seats.new.items }
+    {
+        for number in 1..self.terms.nodes {
+            let token = self.table.shared.split_seat::<Apart>(&mut root);
+            seats.push_reserved(idle_seat(token, node_of(number), self.terms));
+        }
+        let first = idle_seat(root, node_of(0), self.terms);
+        if seats.insert(0, first).is_err() {
+            unreachable!();
+        }
+    }
+}

@@ -1,0 +1,100 @@
+//! A region of a seat: the lock word is taken, a call is made on the line in hand, and the lock word is given back.
+ghost use Rattle.std.specs.Prelude.{◌≡◌, ◌≢◌, ◌<◌, ℕ, Some, true, false, [], ◌∷◌, MatchBool};
+ghost use Rattle.sci_core.specs.Answers.{is_allowed, FitsEvent};
+ghost use Rattle.sci_core.specs.Whole as wholes;
+ghost use Rattle.sci_core.specs.Whole.{nodes_of, state_of};
+ghost use Rattle.sci_port.specs.Call.{Own, MemWas, TagWas, Stepped};
+ghost use Rattle.sci_coarse.specs.Regions.{HasTaken, HasMissed, HasCalled, MayGive, given};
+ghost use Rattle.sci_coarse.specs.Rule.{IsOn};
+
+use crate::calls::{look_whole, mem_of_whole, step_whole, tag_of_whole};
+use crate::line::CoarseLine;
+use crate::seats::Token;
+use crate::standing::Standing;
+use crate::views::{Gives, Takes};
+use sci_core::{Event, Keeps, Outcome};
+use sci_words::{Mem, NodeId, Tag};
+
+const FREE: u64 = 0;
+
+const TAKEN: u64 = 1;
+
+impl<K: Keeps> CoarseLine<K> {
+    // Takes the lock word, or finds it taken.
+    pub(crate) fn take(&self, token: &mut Token<K>) -> bool
+        requires of { (token.old.table_id ≡ self.now.table.shared.table_id) × (token.old.me.0.of ≡ Some self.now.terms) }
+        requires free { (token.old.me.0.holds ≡ false) × (token.old.me.1 ≡ []) }
+        ensures same { (token.new.table_id ≡ token.old.table_id) × (token.new.id ≡ token.old.id) }
+        ensures taken { MatchBool result (HasTaken K.fits token.old.me token.new.me) (HasMissed token.old.me token.new.me) }
+    {
+        self.table
+            .shared
+            .compare_exchange::<Takes<K>>(token, 0, FREE, TAKEN)
+            == FREE
+    }
+
+    // Gives the lock word back, and with it the line in hand.
+    pub(crate) fn give(&self, token: &mut Token<K>)
+        requires of { (token.old.table_id ≡ self.now.table.shared.table_id) × (token.old.me.0.of ≡ Some self.now.terms) }
+        requires held { token.old.me.0.holds ≡ true }
+        requires hand { (w : wholes.WholeLine _) × (x : wholes.WholeLine _) × (token.old.me.0.take ≡ Some w) × (token.old.me.1 ≡ (0, x) ∷ []) × MayGive K.fits token.old.me.0.node w x }
+        ensures same { (token.new.table_id ≡ token.old.table_id) × (token.new.id ≡ token.old.id) }
+        ensures given { given token.old.me token.new.me }
+    {
+        self.table.shared.store::<Gives<K>>(token, 0, FREE)
+    }
+
+    // A node's step of the line in hand, and its pending step after.
+    pub(crate) fn step_in_hand(
+        &self,
+        token: &mut Token<K>,
+        node: NodeId,
+        event: Event,
+    ) -> (Outcome, Standing<K>)
+        requires of { token.old.table_id ≡ self.now.table.shared.table_id }
+        requires hand { (w : wholes.WholeLine _) × (token.old.me.1 ≡ (0, w) ∷ []) × IsOn self.now.terms w × (node < nodes_of w) × (is_allowed (nodes_of w) node ((state_of w).steps node) event ≡ true) }
+        requires fits { FitsEvent (K.fits self.now.terms.keep self.now.terms.number) event }
+        ensures same { (token.new.table_id ≡ token.old.table_id) × (token.new.id ≡ token.old.id) }
+        ensures called { HasCalled K.fits node (Stepped event result.0) token.old.me token.new.me }
+        ensures terms { result.1.terms ≡ self.now.terms }
+        ensures pending { (x : wholes.WholeLine _) → token.new.me.1 ≡ (0, x) ∷ [] → result.1.pending ≡ (state_of x).steps node }
+    {
+        let whole = token.slot_mut(&self.table.shared, 0);
+        step_whole(whole, self.terms, node, event)
+    }
+
+    // A node's look at its own tag in the line in hand, and its pending step after.
+    pub(crate) fn own_in_hand(&self, token: &mut Token<K>, node: NodeId) -> (Tag, Standing<K>)
+        requires of { token.old.table_id ≡ self.now.table.shared.table_id }
+        requires hand { (w : wholes.WholeLine _) × (token.old.me.1 ≡ (0, w) ∷ []) × IsOn self.now.terms w × (node < nodes_of w) }
+        ensures same { (token.new.table_id ≡ token.old.table_id) × (token.new.id ≡ token.old.id) }
+        ensures called { HasCalled K.fits node (Own (Some result.0)) token.old.me token.new.me }
+        ensures terms { result.1.terms ≡ self.now.terms }
+        ensures pending { (x : wholes.WholeLine _) → token.new.me.1 ≡ (0, x) ∷ [] → result.1.pending ≡ (state_of x).steps node }
+    {
+        let whole = token.slot_mut(&self.table.shared, 0);
+        look_whole(whole, self.terms, node)
+    }
+
+    // The memory word of the line in hand.
+    pub(crate) fn mem_in_hand(&self, token: &mut Token<K>) -> Mem
+        requires of { token.old.table_id ≡ self.now.table.shared.table_id }
+        requires hand { (w : wholes.WholeLine _) × (token.old.me.1 ≡ (0, w) ∷ []) }
+        ensures same { (token.new.table_id ≡ token.old.table_id) × (token.new.id ≡ token.old.id) }
+        ensures called { (node : ℕ) → HasCalled K.fits node (MemWas (Some result)) token.old.me token.new.me }
+    {
+        let whole = token.slot_mut(&self.table.shared, 0);
+        mem_of_whole(whole)
+    }
+
+    // A node's tag in the line in hand.
+    pub(crate) fn tag_in_hand(&self, token: &mut Token<K>, other: NodeId) -> Tag
+        requires of { token.old.table_id ≡ self.now.table.shared.table_id }
+        requires hand { (w : wholes.WholeLine _) × (token.old.me.1 ≡ (0, w) ∷ []) × (other < nodes_of w) }
+        ensures same { (token.new.table_id ≡ token.old.table_id) × (token.new.id ≡ token.old.id) }
+        ensures called { (node : ℕ) → HasCalled K.fits node (TagWas other (Some result)) token.old.me token.new.me }
+    {
+        let whole = token.slot_mut(&self.table.shared, 0);
+        tag_of_whole(whole, other)
+    }
+}

@@ -1,0 +1,69 @@
+//! The calls of a seat, each one region. Where the lock word was found taken, nothing is done.
+ghost use Rattle.std.specs.Prelude.{◌≡◌, ◌<◌, true};
+ghost use Rattle.sci_core.specs.Answers.{is_allowed, FitsEvent};
+ghost use Rattle.sci_port.specs.Call.{Own, MemWas, TagWas, Stepped};
+ghost use Rattle.sci_coarse.specs.Seats.{IsSeatOf, HasMade};
+
+use crate::line::CoarseLine;
+use crate::seats::Seat;
+use sci_core::{Event, Keeps, Outcome};
+use sci_words::{Mem, NodeId, Tag};
+
+impl<K: Keeps> Seat<K> {
+    // An event of the node that its pending step allows.
+    pub(crate) fn step(&mut self, line: &CoarseLine<K>, event: Event) -> Outcome
+        requires of { IsSeatOf line.now self.old }
+        requires allowed { is_allowed self.old.standing.terms.nodes self.old.node self.old.standing.pending event ≡ true }
+        requires fits { FitsEvent (K.fits self.old.standing.terms.keep self.old.standing.terms.number) event }
+        ensures made { HasMade K.fits self.old (Stepped event result) self.new }
+    {
+        if !line.take(&mut self.token) {
+            return Outcome::Busy;
+        }
+        let (outcome, standing) = line.step_in_hand(&mut self.token, self.node, event);
+        line.give(&mut self.token);
+        self.standing = standing;
+        outcome
+    }
+
+    // The node's own tag, looked at.
+    pub(crate) fn own(&mut self, line: &CoarseLine<K>) -> Option<Tag>
+        requires of { IsSeatOf line.now self.old }
+        ensures made { HasMade K.fits self.old (Own result) self.new }
+    {
+        if !line.take(&mut self.token) {
+            return None;
+        }
+        let (tag, standing) = line.own_in_hand(&mut self.token, self.node);
+        line.give(&mut self.token);
+        self.standing = standing;
+        Some(tag)
+    }
+
+    // The memory word.
+    pub(crate) fn mem(&mut self, line: &CoarseLine<K>) -> Option<Mem>
+        requires of { IsSeatOf line.now self.old }
+        ensures made { HasMade K.fits self.old (MemWas result) self.new }
+    {
+        if !line.take(&mut self.token) {
+            return None;
+        }
+        let mem = line.mem_in_hand(&mut self.token);
+        line.give(&mut self.token);
+        Some(mem)
+    }
+
+    // A node's tag.
+    pub(crate) fn tag(&mut self, line: &CoarseLine<K>, other: NodeId) -> Option<Tag>
+        requires of { IsSeatOf line.now self.old }
+        requires other { other < self.old.standing.terms.nodes }
+        ensures made { HasMade K.fits self.old (TagWas other result) self.new }
+    {
+        if !line.take(&mut self.token) {
+            return None;
+        }
+        let tag = line.tag_in_hand(&mut self.token, other);
+        line.give(&mut self.token);
+        Some(tag)
+    }
+}

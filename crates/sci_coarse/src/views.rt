@@ -1,0 +1,92 @@
+//! What a seat knows of its line, the rule of the line's table, and what each step of the table tells.
+use atomic_table::{Join, Play, Split, TableRule};
+use sci_core::{Keeps, Pending, Whole};
+use sci_words::LineNo;
+use std::marker::PhantomData;
+
+/// What is fixed of a line: how many nodes it has, its number, and which words fit it.
+#[derive(Clone, Copy)]
+pub struct Terms<K: Keeps> {
+    pub nodes: u16,
+    pub number: LineNo,
+    pub keep: K,
+}
+
+/// What a seat knows. No value of it is made.
+pub struct View<K: Keeps> {
+    /// The line that it is a seat of. None: it was joined to another seat.
+    pub of: Option<Terms<K>>,
+    pub node: u64,
+    /// The number of the next seat that is split off this one, or 0.
+    pub next: u64,
+    /// The seats from this number on were joined to this one.
+    pub joined: u64,
+    /// It has taken the lock word, and has the line in hand.
+    pub holds: bool,
+    pub pending: Pending,
+    /// How many regions it has made.
+    pub regions: u64,
+    /// How many of its takes found the lock word taken.
+    pub misses: u64,
+    /// The line, as its last region took it.
+    pub take: Option<Whole<K>>,
+    /// The line, as its last region gave it back.
+    pub give: Option<Whole<K>>,
+}
+
+pub struct Locking<K> {
+    keep: PhantomData<K>,
+}
+
+impl<K: Keeps> TableRule<Whole<K>, View<K>, Terms<K>> for Locking<K> {
+    ghost use Rattle.sci_coarse.specs.Rule.{Locked};
+    ghost use Rattle.sci_coarse.specs.Views.{first_view};
+
+    ghost holds = { λ t. Locked K.fits t };
+
+    ghost first = { λ t. first_view t };
+}
+
+/// The lock word is taken, or was found taken.
+pub struct Takes<K> {
+    keep: PhantomData<K>,
+}
+
+impl<K: Keeps> Play<Whole<K>, View<K>> for Takes<K> {
+    ghost use Rattle.sci_coarse.specs.Regions.{taken};
+
+    ghost then = { λ st m r w. taken K.fits m r w };
+}
+
+/// The lock word is given back.
+pub struct Gives<K> {
+    keep: PhantomData<K>,
+}
+
+impl<K: Keeps> Play<Whole<K>, View<K>> for Gives<K> {
+    ghost use Rattle.sci_coarse.specs.Regions.{given};
+
+    ghost then = { λ st m r w. given m w };
+}
+
+/// The next node's seat is made.
+pub struct Apart;
+
+impl<K: Keeps> Split<View<K>> for Apart {
+    ghost use Rattle.sci_coarse.specs.Views.{split_view, new_view};
+
+    ghost left = { λ v. split_view v };
+
+    ghost right = { λ v. new_view v };
+}
+
+/// A seat is joined to the first.
+pub struct Together;
+
+impl<K: Keeps> Join<View<K>> for Together {
+    ghost use Rattle.sci_coarse.specs.Views.{joined_view, spent_view};
+
+    ghost both = { λ v w. joined_view w.node v };
+
+    ghost spent = { spent_view };
+}

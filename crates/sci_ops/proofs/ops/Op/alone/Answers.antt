@@ -1,0 +1,59 @@
+use Rattle.std.proofs.Common.{refl, arith, suc, ◌∙◌}
+use Rattle.sci_core.specs.Whole.{nodes_of, state_of}
+use Rattle.sci_port.specs.declared.solo.Solo.{Solo}
+use Rattle.sci_ops.specs.declared.answers.Turn.{Turn}
+use Rattle.sci_ops.specs.Alone.{turn, no_turn}
+use Rattle.sci_ops.proofs.Ending.Falls.{alone_at_rest, bound_at_rest}
+use Rattle.sci_ops.proofs.Ending.Turning.{turns}
+use Rattle.sci_ops.proofs.ops.Op.alone.Goals as goal
+
+pub turns-init : goal.turns-init
+turns-init g c = record {
+  same_op = refl;
+  same_way = refl;
+  same_fact = refl;
+  turns = (0, omega arith, no_turn);
+  alone = alone_at_rest _ _ _ _ c.requires.rest;
+  cost = omega arith;
+}
+
+pub turns-preserved : goal.turns-preserved
+turns-preserved g c =
+    let i = c.turns.invariant in
+    let h = turns (Solo g.row.K.Denot g.K.Keeps) g.K.Keeps.fits (λ s. s.whole.ghost_name) (λ s. s.whole.now) (λ s. s.node) c.args.solo.now c.turns.solo c.turn.new.port c.args.self.now c.turns.self Turn.Moved c.requires.begins i.same_op i.same_way i.same_fact i.alone c.in-Moved.ensures.calls in
+    record {
+      same_op = c.in-Moved.ensures.op ∙ i.same_op;
+      same_way = c.in-Moved.ensures.same_way ∙ i.same_way;
+      same_fact = c.in-Moved.ensures.same_fact ∙ i.same_fact;
+      turns = (suc i.turns.0, omega (arith, c.count.ensures, i.turns.1), turn i.turns.2 h.0);
+      alone = h.1.0;
+      cost = omega (arith, h.1.1, i.cost, c.count.ensures);
+    }
+
+pub turns-smaller : goal.turns-smaller
+turns-smaller g c =
+    let i = c.turns.invariant in
+    (turns (Solo g.row.K.Denot g.K.Keeps) g.K.Keeps.fits (λ s. s.whole.ghost_name) (λ s. s.whole.now) (λ s. s.node) c.args.solo.now c.turns.solo c.turn.new.port c.args.self.now c.turns.self Turn.Moved c.requires.begins i.same_op i.same_way i.same_fact i.alone c.in-Moved.ensures.calls).1.1
+
+pub unreachable-requires : goal.unreachable-requires
+unreachable-requires g c =
+    let i = c.turns.invariant in
+    (turns (Solo g.row.K.Denot g.K.Keeps) g.K.Keeps.fits (λ s. s.whole.ghost_name) (λ s. s.whole.now) (λ s. s.node) c.args.solo.now c.turns.solo c.turn.new.port c.args.self.now c.turns.self Turn.Waiting c.requires.begins i.same_op i.same_way i.same_fact i.alone c.in-Waiting.ensures.calls).1
+
+pub returns-in-Done-clause-turns : goal.returns-in-Done-clause-turns
+returns-in-Done-clause-turns g c =
+    let i = c.turns.invariant in
+    let h = turns (Solo g.row.K.Denot g.K.Keeps) g.K.Keeps.fits (λ s. s.whole.ghost_name) (λ s. s.whole.now) (λ s. s.node) c.args.solo.now c.turns.solo c.turn.new.port c.args.self.now c.turns.self (Turn.Done c.in-Done.answer) c.requires.begins i.same_op i.same_way i.same_fact i.alone c.in-Done.ensures.calls in
+    (suc i.turns.0, omega (arith, c.count.ensures, i.turns.1), record { before = i.turns.0; mid = state_of c.turns.solo.whole.now; moves = i.turns.2; last = h.0; count = refl })
+
+pub returns-in-Done-clause-bound : goal.returns-in-Done-clause-bound
+returns-in-Done-clause-bound g c =
+    let i = c.turns.invariant in
+    let h = turns (Solo g.row.K.Denot g.K.Keeps) g.K.Keeps.fits (λ s. s.whole.ghost_name) (λ s. s.whole.now) (λ s. s.node) c.args.solo.now c.turns.solo c.turn.new.port c.args.self.now c.turns.self (Turn.Done c.in-Done.answer) c.requires.begins i.same_op i.same_way i.same_fact i.alone c.in-Done.ensures.calls in
+    let bound = bound_at_rest (nodes_of c.args.solo.now.whole.now) c.args.self.now.goal c.args.solo.now.node (state_of c.args.solo.now.whole.now) c.requires.rest in
+    omega (arith, h.1.0, i.cost, c.count.ensures, bound)
+
+pub returns-in-Done-clause-rest : goal.returns-in-Done-clause-rest
+returns-in-Done-clause-rest g c =
+    let i = c.turns.invariant in
+    (turns (Solo g.row.K.Denot g.K.Keeps) g.K.Keeps.fits (λ s. s.whole.ghost_name) (λ s. s.whole.now) (λ s. s.node) c.args.solo.now c.turns.solo c.turn.new.port c.args.self.now c.turns.self (Turn.Done c.in-Done.answer) c.requires.begins i.same_op i.same_way i.same_fact i.alone c.in-Done.ensures.calls).1.1

@@ -1,0 +1,81 @@
+-- A plan that is followed over a port to a line that is lent, as the line sees it.
+use Rattle.std.proofs.Common.{◌≡◌, ◌∙◌, ℕ, List, [], ◌∷◌, Option, Some, None, Ok, refl, sym, ap, subst}
+use Rattle.sci_words.specs.declared.tags.Tag.{Tag}
+use Rattle.sci_words.specs.declared.memory.Mem.{Mem}
+use Rattle.sci_core.specs.declared.events.Event.{Event}
+use Rattle.sci_core.specs.Answers.{Answers}
+use Rattle.sci_core.specs.State.{State}
+use Rattle.sci_core.specs.Step.{looked}
+use Rattle.sci_core.specs.Whole.{WholeLine, nodes_of, state_of}
+use Rattle.sci_port.specs.Call.{Call, Own, MemWas, TagWas, Stepped, Chain}
+use Rattle.sci_port.specs.Solo.{Gives}
+use Rattle.sci_ops.specs.declared.answers.Turn.{Turn}
+use Rattle.sci_ops.specs.Operation.{Operation}
+use Rattle.sci_ops.specs.Table.{turn_of}
+use Rattle.sci_ops.specs.Plan.{Plan, own, mem, tag, exchange, ends, Follows, Takes}
+use Rattle.sci_script.specs.Turns.{Made, TurnsOn}
+
+abbrev inside : {A : Type 0} → A → Option A → A
+inside d (Some a) = a
+inside d None = d
+
+some_is : {A : Type 0} (a b : A) → Some a ≡ Some b → a ≡ b
+some_is {A} a b e = ap (λ (o : Option A). inside a o) e
+
+module _ {S K : Type 0} (gives : S → Call → S → Type 0) (whole : S → WholeLine K) (node : S → ℕ) (fits : S → List ℕ → Type 0)
+    (each : (s : S) (c : Call) (t : S) → gives s c t → (nodes_of (whole t) ≡ nodes_of (whole s)) × (node t ≡ node s) × Gives (nodes_of (whole s)) (fits s) (state_of (whole s)) (node s) c (state_of (whole t))) where
+  abbrev nodes : S → ℕ
+  nodes s = nodes_of (whole s)
+
+  abbrev state : S → State
+  state s = state_of (whole s)
+
+  -- a call, by the numbers that the way began with
+  given : (n me : ℕ) (s : S) (c : Call) (t : S) → nodes s ≡ n → node s ≡ me → gives s c t → Gives n (fits s) (state s) me c (state t)
+  given n me s c t en em h =
+      subst (λ (m : ℕ). Gives m (fits s) (state s) me c (state t)) en
+      (subst (λ (m : ℕ). Gives (nodes s) (fits s) (state s) m c (state t)) em (each s c t h).2)
+
+  followed : (n me : ℕ) (plan : Plan) (calls : List Call) (s : S) (turn : Turn) (t : S) → nodes s ≡ n → node s ≡ me → Chain gives s calls t → Follows plan calls turn → Made n me (state s) plan turn (state t)
+  followed n me (own next) (Own (Some x) ∷ calls) s turn t en em (mid, h, rest) f =
+      let way = each s (Own (Some x)) mid h in
+      let g : Gives n (fits s) (state s) me (Own (Some x)) (state mid) = given n me s (Own (Some x)) mid en em h in
+      let behind = followed n me (next x) calls mid turn t (way.0 ∙ en) (way.1 ∙ em) rest f in
+      subst (λ (y : Tag). Made n me (looked (state s) me) (next y) turn (state t)) (some_is x ((state s).tags me) g.0)
+      (subst (λ (u : State). Made n me u (next x) turn (state t)) g.1.0.1 behind)
+  followed n me (own next) (Own None ∷ []) s turn t en em (mid, h, rest) f =
+      let g : Gives n (fits s) (state s) me (Own None) (state mid) = given n me s (Own None) mid en em h in
+      absurd (let e = g.0 in cc)
+  followed n me (mem next) (MemWas (Some x) ∷ calls) s turn t en em (mid, h, rest) f =
+      let way = each s (MemWas (Some x)) mid h in
+      let g : Gives n (fits s) (state s) me (MemWas (Some x)) (state mid) = given n me s (MemWas (Some x)) mid en em h in
+      let behind = followed n me (next x) calls mid turn t (way.0 ∙ en) (way.1 ∙ em) rest f in
+      subst (λ (y : Mem). Made n me (state s) (next y) turn (state t)) (some_is x (state s).memory g.0)
+      (subst (λ (u : State). Made n me u (next x) turn (state t)) g.1 behind)
+  followed n me (mem next) (MemWas None ∷ []) s turn t en em (mid, h, rest) f =
+      let g : Gives n (fits s) (state s) me (MemWas None) (state mid) = given n me s (MemWas None) mid en em h in
+      absurd (let e = g.0 in cc)
+  followed n me (tag x next) (TagWas y (Some w) ∷ calls) s turn t en em (mid, h, rest) f =
+      let way = each s (TagWas y (Some w)) mid h in
+      let g : Gives n (fits s) (state s) me (TagWas y (Some w)) (state mid) = given n me s (TagWas y (Some w)) mid en em h in
+      let behind = followed n me (next w) calls mid turn t (way.0 ∙ en) (way.1 ∙ em) rest f.1 in
+      let is : w ≡ (state s).tags x = some_is w ((state s).tags y) g.0 ∙ ap (λ (z : ℕ). (state s).tags z) f.0 in
+      subst (λ (v : Tag). Made n me (state s) (next v) turn (state t)) is
+      (subst (λ (u : State). Made n me u (next w) turn (state t)) g.1 behind)
+  followed n me (tag x next) (TagWas y None ∷ []) s turn t en em (mid, h, rest) f =
+      let g : Gives n (fits s) (state s) me (TagWas y None) (state mid) = given n me s (TagWas y None) mid en em h in
+      absurd (let e = g.0 in cc)
+  followed n me (exchange event end) (Stepped e outcome ∷ []) s turn t en em (mid, h, rest) f =
+      let g : Gives n (fits s) (state s) me (Stepped e outcome) (state mid) = given n me s (Stepped e outcome) mid en em h in
+      let there : Answers n (state s) me event (Ok outcome) (state mid) = subst (λ (x : Event). Answers n (state s) me x (Ok outcome) (state mid)) f.0 g.0 in
+      (outcome, subst (λ (u : S). Answers n (state s) me event (Ok outcome) (state u)) (sym rest) there, f.1)
+  followed n me (ends last) [] s turn t en em rest f = (f, ap state rest)
+  followed n me _ _ s turn t en em rest f = absurd f
+
+  pub turned_by : (op : Operation) (s : S) (turn : Turn) (t : S) (w : WholeLine K) (v : State) (me : ℕ) → whole s ≡ w → node s ≡ me → state t ≡ v
+      → Takes gives (turn_of op (node s) ((state s).steps (node s))) s turn t → TurnsOn (nodes_of w) me op (state_of w) turn v
+  turned_by op s turn t w v me from is to takes =
+      let base : TurnsOn (nodes s) (node s) op (state s) turn (state t) = followed (nodes s) (node s) (turn_of op (node s) ((state s).steps (node s))) takes.calls s turn t refl refl takes.chain takes.follows in
+      subst (λ (u : State). TurnsOn (nodes_of w) me op (state_of w) turn u) to
+      (subst (λ (i : ℕ). TurnsOn (nodes_of w) i op (state_of w) turn (state t)) is
+      (subst (λ (x : WholeLine K). TurnsOn (nodes_of x) (node s) op (state_of x) turn (state t)) from base))

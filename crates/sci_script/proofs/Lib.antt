@@ -1,0 +1,9 @@
+pub mod Digits
+pub mod Lines
+pub mod Reading
+pub mod Runs
+pub mod Content
+pub mod Opened
+pub mod Followed
+pub mod Through
+pub mod Desks

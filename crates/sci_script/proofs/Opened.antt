@@ -1,0 +1,35 @@
+-- Lines that nobody has used, one after the other.
+use Rattle.std.proofs.Common.{◌≡◌, ℕ, ◌+◌, ◌<◌, List, [], ◌∷◌, ◌++◌, length, get_or, All, arith, ap, sym, subst, ◌∙◌, inl, inr}
+use Rattle.std.proofs.lemmas.Bool.{cases_lt}
+use Rattle.std.proofs.lemmas.List.{get_or_append_left, get_or_push, length-replicate}
+use Rattle.sci_core.specs.declared.keeps.AnyWords.{AnyWords}
+use Rattle.sci_core.specs.declared.lines.Line.{Line}
+use Rattle.sci_core.specs.State.{invalid}
+use Rattle.sci_core.specs.Whole.{WholeLine, nodes_of, opened_whole}
+use Rattle.sci_script.specs.declared.commands.Opening.{Opening}
+use Rattle.sci_script.specs.Openings.{zeros, content_of}
+use Rattle.sci_script.specs.Unused.{AreOpened}
+
+its_keep : (w : WholeLine AnyWords) (keep : AnyWords) (k nodes : ℕ) (line : Line) → w ≡ opened_whole keep k nodes line → w ≡ opened_whole w.keep k nodes line
+its_keep w keep k nodes line e = subst (λ (a : AnyWords). w ≡ opened_whole a k nodes line) (sym (ap (λ (x : WholeLine AnyWords). x.keep) e)) e
+
+IsOpenedAt : ℕ → List Opening → ℕ → WholeLine AnyWords → Type 0
+IsOpenedAt nodes openings k w = w ≡ opened_whole w.keep k nodes (content_of k zeros openings)
+
+pub opened_push : (nodes : ℕ) (openings : List Opening) (wholes : List (WholeLine AnyWords)) (n : ℕ) (w : WholeLine AnyWords) (keep : AnyWords) (line : Line) → length wholes ≡ n
+    → AreOpened nodes openings n wholes → w ≡ opened_whole keep n nodes line → line ≡ content_of n zeros openings → AreOpened nodes openings (n + 1) (wholes ++ w ∷ [])
+unfolding IsOpenedAt
+opened_push nodes openings wholes n w keep line count before e content = λ k d lt.
+    elim (cases_lt k n) [
+      | inl less ↦ subst (IsOpenedAt nodes openings k) (sym (get_or_append_left wholes (w ∷ []) d k (omega (arith, count)))) (before k d less)
+      | inr more ↦
+          let same : k ≡ n = omega arith in
+          let here : IsOpenedAt nodes openings n w = subst (λ (l : Line). w ≡ opened_whole w.keep n nodes l) content (its_keep w keep n nodes line e) in
+          subst (λ (j : ℕ). IsOpenedAt nodes openings j (get_or (wholes ++ w ∷ []) j d)) (sym same)
+          (subst (IsOpenedAt nodes openings n) (sym (get_or_push wholes w d n count)) here)
+    ]
+
+pub opened_widths : (nodes : ℕ) (openings : List Opening) (wholes : List (WholeLine AnyWords)) (n : ℕ) → length wholes ≡ n → AreOpened nodes openings n wholes → All (λ w. nodes_of w ≡ nodes) wholes
+opened_widths nodes openings wholes n count opened = λ k d lt.
+    let lt-n : k < n = omega (arith, count) in
+    ap (λ (w : WholeLine AnyWords). nodes_of w) (opened k d lt-n) ∙ length-replicate nodes invalid

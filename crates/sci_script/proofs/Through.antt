@@ -1,0 +1,94 @@
+-- What is said of a desk through a view of it is said of what it is seen as.
+use Rattle.std.proofs.Common.{ℕ, zero, suc, Bool, List, [], ◌∷◌, Option, Some, None, take, ap, inl, inr, ⊎_elim}
+use Rattle.sci_words.specs.declared.tags.Tag.{Tag}
+use Rattle.sci_script.specs.declared.commands.Step.{Step}
+use Rattle.sci_script.specs.declared.commands.Command.{Command}
+use Rattle.sci_script.specs.declared.commands.Command.TheVariants.{Begin, Turn, Done, List as ListLine, Tag as ShowTag}
+use Rattle.sci_script.specs.declared.refusals.ScriptRefusal.{ScriptRefusal}
+use Rattle.sci_script.specs.declared.refusals.ScriptRefusal.TheVariants.{OutOfMemory, BadCommand, BadNumber, NotDone, WriteFailed}
+use Rattle.sci_script.specs.Event.{Event, SawMem, SawTag}
+use Rattle.sci_script.specs.Request.{no_words, words_after}
+use Rattle.sci_script.specs.Run.{Unended, Repeats, Loads, Walked, Prints, PrintsAll, IsOutOfPlace, IsLost, IsUnended, WantsMemory, Leaves}
+
+module _ {S T : Type 0} (f : S → T) (is_open : T → ℕ → Bool) (does : T → Event → T → Type 0) where
+  abbrev open_seen : S → ℕ → Bool
+  open_seen s node = is_open (f s) node
+
+  abbrev does_seen : S → Event → S → Type 0
+  does_seen s event t = does (f s) event (f t)
+
+  unended : (node n : ℕ) (s t : S) → Unended does_seen node n s t → Unended does node n (f s) (f t)
+  unfolding Unended
+  unended node zero s t h = ap f h
+  unended node (suc n) s t h = (f h.0, h.1, unended node n s h.0 h.2, h.3, h.4)
+
+  repeats : (event : Event) (n : ℕ) (s t : S) → Repeats does_seen event n s t → Repeats does event n (f s) (f t)
+  unfolding Repeats
+  repeats event zero s t h = ap f h
+  repeats event (suc n) s t h = (f h.0, repeats event n s h.0 h.1, h.2)
+
+  loads : (none some : Event) (s t : S) → Loads does_seen none some s t → Loads does none some (f s) (f t)
+  loads none some s t h = (h.0, h.1, f h.2, repeats none h.0 s h.2 h.3, h.4)
+
+  walked : (line : ℕ) (from : Option ℕ) (entries : List (ℕ × Tag)) (next : Option ℕ) (s t : S) → Walked does_seen line from entries next s t → Walked does line from entries next (f s) (f t)
+  unfolding Walked
+  walked line from [] next s t h = (h.0, ap f h.1)
+  walked line None (entry ∷ entries) next s t h = absurd h
+  walked line (Some node) (entry ∷ entries) next s t h =
+      (f h.0, h.1, loads (SawTag line node None) (SawTag line node (Some h.1)) s h.0 h.2, h.3, walked line h.1.forw entries next h.0 t h.4)
+
+  prints : (words : List ℕ) (s : S) (command : Command) (text : List ℕ) (t : S) → Prints open_seen does_seen words s command text t → Prints is_open does words (f s) command text (f t)
+  prints words s (Begin node line request) text t h = h
+  prints words s (Turn node) text t h = h
+  prints words s (Done node) text t h = (h.0, h.1, h.2, f h.3, unended node h.1 s h.3 h.4, h.5, h.6, h.7, h.8)
+  prints words s (ListLine line) text t h =
+      (f h.0, h.1, h.2, loads (SawMem line None) (SawMem line (Some h.1)) s h.0 h.3, walked line h.1.forw h.2 None h.0 t h.4, h.5)
+  prints words s (ShowTag line node) text t h = (h.0, loads (SawTag line node None) (SawTag line node (Some h.0)) s t h.1, h.2)
+
+  pub prints_all : (words : List ℕ) (s : S) (steps : List Step) (text : List ℕ) (t : S) → PrintsAll open_seen does_seen words s steps text t → PrintsAll is_open does words (f s) steps text (f t)
+  prints_all words s [] text t h = (h.0, ap f h.1)
+  prints_all words s (step ∷ steps) text t h =
+      (h.0, h.1, f h.2, prints words s step.command h.0 h.2 h.3, prints_all (words_after words step.command) h.2 steps h.1 t h.4, h.5)
+
+  lost : (nodes line : ℕ) (from : Option ℕ) (s t : S) → IsLost does_seen nodes line from s t → IsLost does nodes line from (f s) (f t)
+  lost nodes line from s t h = (
+    h.0,
+    h.1,
+    f h.2,
+    walked line from h.0 (Some h.1) s h.2 h.3,
+    ⊎_elim (λ a. inl (repeats (SawTag line h.1 None) 100000 h.2 t a)) (λ b. inr (b.0, ap f b.1)) h.4,
+  )
+
+  no_end : (nodes : ℕ) (s : S) (command : Command) (t : S) → IsUnended open_seen does_seen nodes s command t → IsUnended is_open does nodes (f s) command (f t)
+  no_end nodes s (Begin node line request) t h = h
+  no_end nodes s (Turn node) t h = h
+  no_end nodes s (Done node) t h = (h.0, unended node 100000 s t h.1)
+  no_end nodes s (ListLine line) t h =
+      ⊎_elim (λ a. inl (repeats (SawMem line None) 100000 s t a))
+      (λ b. inr (f b.0, b.1, loads (SawMem line None) (SawMem line (Some b.1)) s b.0 b.2, lost nodes line b.1.forw b.0 t b.3)) h
+  no_end nodes s (ShowTag line node) t h = repeats (SawTag line node None) 100000 s t h
+
+  out_of_place : (s : S) (command : Command) → IsOutOfPlace open_seen s command → IsOutOfPlace is_open (f s) command
+  out_of_place s (Begin node line request) h = h
+  out_of_place s (Turn node) h = h
+  out_of_place s (Done node) h = h
+  out_of_place s (ListLine line) h = h
+  out_of_place s (ShowTag line node) h = h
+
+  wants_memory : (s : S) (command : Command) (t : S) → WantsMemory open_seen does_seen s command t → WantsMemory is_open does (f s) command (f t)
+  wants_memory s (Begin node line request) t h = h
+  wants_memory s (Turn node) t h = h
+  wants_memory s (Done node) t h = (h.0, h.1, h.2, f h.3, unended node h.1 s h.3 h.4, h.5, h.6, h.7)
+  wants_memory s (ListLine line) t h =
+      (f h.0, h.1, loads (SawMem line None) (SawMem line (Some h.1)) s h.0 h.2, (h.3.0, h.3.1, walked line h.1.forw h.3.0 h.3.1 h.0 t h.3.2))
+  wants_memory s (ShowTag line node) t h = (h.0, loads (SawTag line node None) (SawTag line node (Some h.0)) s t h.1)
+
+  pub leaves : (nodes : ℕ) (s : S) (steps : List Step) (refusal : ScriptRefusal) (written : List ℕ) (t : S) → Leaves open_seen does_seen nodes s steps refusal written t → Leaves is_open does nodes (f s) steps refusal written (f t)
+  leaves nodes s steps OutOfMemory written t h =
+      (h.0, f h.1, h.2, prints_all no_words s (take h.0 steps) written h.1 h.3, h.4, wants_memory h.1 h.2.command t h.5)
+  leaves nodes s steps (BadCommand n) written t h =
+      (h.0, f h.1, h.2, prints_all no_words s (take h.0 steps) written h.1 h.3, h.4, (h.5.0, out_of_place h.1 h.2.command h.5.1, ap f h.5.2))
+  leaves nodes s steps (BadNumber n) written t h = h
+  leaves nodes s steps (NotDone n) written t h =
+      (h.0, f h.1, h.2, prints_all no_words s (take h.0 steps) written h.1 h.3, h.4, (h.5.0, no_end nodes h.1 h.2.command t h.5.1))
+  leaves nodes s steps WriteFailed written t h = (h.0, h.1, h.2, prints_all no_words s (take h.0 steps) h.1 t h.3, h.4, h.5)

@@ -1,0 +1,25 @@
+-- A call of a desk, with its answer; and which turns end a node's call. This project's profile.
+use Rattle.std.specs.Prelude.{ℕ, Option}
+use Rattle.sci_words.specs.declared.memory.Mem.{Mem}
+use Rattle.sci_words.specs.declared.tags.Tag.{Tag}
+use Rattle.sci_ops.specs.Operation.{Operation}
+use Rattle.sci_ops.specs.declared.answers.Turn.{Turn}
+use Rattle.sci_ops.specs.declared.answers.Turn.TheVariants.{Moved, Waiting, Done}
+
+pub data Event : Type 0 where
+  Began : (node line : ℕ) → (op : Operation) → Event
+  Turned : (node : ℕ) → (turn : Turn) → Event
+  SawMem : (line : ℕ) → (mem : Option Mem) → Event
+  SawTag : (line node : ℕ) → (tag : Option Tag) → Event
+
+-- the turn ended the call
+abbrev pub IsEnd : Turn → Type 0
+IsEnd Moved = ⊥
+IsEnd Waiting = ⊥
+IsEnd (Done answer) = Unit {0}
+
+-- the turn left the call open
+abbrev pub IsNoEnd : Turn → Type 0
+IsNoEnd Moved = Unit {0}
+IsNoEnd Waiting = Unit {0}
+IsNoEnd (Done answer) = ⊥

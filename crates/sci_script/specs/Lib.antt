@@ -1,0 +1,15 @@
+pub mod Words
+pub mod Size
+pub mod Openings
+pub mod Format
+pub mod Request
+pub mod Event
+pub mod Text
+pub mod Run
+pub mod Turns
+pub mod Shared
+pub mod Calls
+pub mod Unused
+pub mod Wholes
+pub mod ScriptText
+pub mod Refusals

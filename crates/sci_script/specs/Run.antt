@@ -1,0 +1,107 @@
+-- What the commands of a script print over a desk, which may choose. This project's profile.
+-- is_open s node: whether the node's call is open; does s event t: the call may give its answer and go from s to t; words: for
+-- each node the word that its last load is to show.
+use Rattle.std.specs.Prelude.{◌≡◌, ◌⊎◌, ℕ, zero, suc, ◌<◌, Bool, true, false, List, [], ◌∷◌, ◌++◌, length, take, Option, Some, None, slice_get, slice_index}
+use Rattle.sci_words.specs.declared.memory.Mem.{Mem}
+use Rattle.sci_words.specs.declared.tags.Tag.{Tag}
+use Rattle.sci_ops.specs.declared.answers.Turn.{Turn as Outcome}
+use Rattle.sci_ops.specs.Table.{begun}
+use Rattle.sci_script.specs.declared.commands.Step.{Step}
+use Rattle.sci_script.specs.declared.commands.Command.{Command}
+use Rattle.sci_script.specs.declared.commands.Command.TheVariants.{Begin, Turn, Done, List as ListLine, Tag as ShowTag}
+use Rattle.sci_script.specs.declared.refusals.ScriptRefusal.{ScriptRefusal}
+use Rattle.sci_script.specs.declared.refusals.ScriptRefusal.TheVariants.{OutOfMemory, BadCommand, BadNumber, NotDone, WriteFailed}
+use Rattle.sci_script.specs.Event.{Event, Began, Turned, SawMem, SawTag, IsEnd, IsNoEnd}
+use Rattle.sci_script.specs.Request.{goal_of, no_words, words_after}
+use Rattle.sci_script.specs.Text.{turn_text, list_line, tag_line}
+
+-- n turns of the node's call, none of which ends it
+unfoldable pub Unended : {S : Type 0} → (S → Event → S → Type 0) → ℕ → ℕ → S → S → Type 0
+Unended does node zero s t = t ≡ s
+Unended {S} does node (suc n) s t = (mid : S) × (o : Outcome) × Unended does node n s mid × IsNoEnd o × does mid (Turned node o) t
+
+-- n times in a row this call with this answer
+unfoldable pub Repeats : {S : Type 0} → (S → Event → S → Type 0) → Event → ℕ → S → S → Type 0
+Repeats does event zero s t = t ≡ s
+Repeats {S} does event (suc n) s t = (mid : S) × Repeats does event n s mid × does mid event t
+
+-- a load that is not to be had fewer than 100,000 times in a row, and then is
+abbrev pub Loads : {S : Type 0} → (S → Event → S → Type 0) → Event → Event → S → S → Type 0
+Loads {S} does none some s t = (n : ℕ) × (n < 100000) × (mid : S) × Repeats does none n s mid × does mid some t
+
+-- along the sharing list of a line, these entries lead from the link `from` to the link `next`
+unfoldable pub Walked : {S : Type 0} → (S → Event → S → Type 0) → ℕ → Option ℕ → List (ℕ × Tag) → Option ℕ → S → S → Type 0
+Walked does line from [] next s t = (next ≡ from) × (t ≡ s)
+Walked does line None (entry ∷ entries) next s t = ⊥
+Walked {S} does line (Some node) (entry ∷ entries) next s t = (mid : S) × (tag : Tag) × Loads does (SawTag line node None) (SawTag line node (Some tag)) s mid
+    × (entry ≡ (node, tag)) × Walked does line tag.forw entries next mid t
+
+-- from s, the command may print this text and go on to t
+abbrev pub Prints : {S : Type 0} → (S → ℕ → Bool) → (S → Event → S → Type 0) → List ℕ → S → Command → List ℕ → S → Type 0
+Prints is_open does words s (Begin node line request) text t = (is_open s node ≡ false) × does s (Began node line (begun (goal_of request))) t × (text ≡ [])
+Prints is_open does words s (Turn node) text t = (is_open s node ≡ true) × (o : Outcome) × does s (Turned node o) t × (text ≡ turn_text node (slice_index words node) o)
+Prints {S} is_open does words s (Done node) text t = (is_open s node ≡ true) × (n : ℕ) × (n < 100000) × (mid : S) × Unended does node n s mid × (o : Outcome) × IsEnd o × does mid (Turned node o) t
+    × (text ≡ turn_text node (slice_index words node) o)
+Prints {S} is_open does words s (ListLine line) text t = (mid : S) × (mem : Mem) × (entries : List (ℕ × Tag)) × Loads does (SawMem line None) (SawMem line (Some mem)) s mid
+    × Walked does line mem.forw entries None mid t × (text ≡ list_line line mem entries)
+Prints is_open does words s (ShowTag line node) text t = (tag : Tag) × Loads does (SawTag line node None) (SawTag line node (Some tag)) s t × (text ≡ tag_line line node tag)
+
+-- the commands print this text, one after the other
+abbrev pub PrintsAll : {S : Type 0} → (S → ℕ → Bool) → (S → Event → S → Type 0) → List ℕ → S → List Step → List ℕ → S → Type 0
+PrintsAll is_open does words s [] text t = (text ≡ []) × (t ≡ s)
+PrintsAll {S} is_open does words s (step ∷ steps) text t = (first rest : List ℕ) × (mid : S) × Prints is_open does words s step.command first mid
+    × PrintsAll is_open does (words_after words step.command) mid steps rest t × (text ≡ first ++ rest)
+
+-- a call begun while the node's call is open, and a turn without a call
+abbrev pub IsOutOfPlace : {S : Type 0} → (S → ℕ → Bool) → S → Command → Type 0
+IsOutOfPlace is_open s (Begin node line request) = is_open s node ≡ true
+IsOutOfPlace is_open s (Turn node) = is_open s node ≡ false
+IsOutOfPlace is_open s (Done node) = is_open s node ≡ false
+IsOutOfPlace is_open s (ListLine line) = ⊥
+IsOutOfPlace is_open s (ShowTag line node) = ⊥
+
+-- from s to t, a walk along these links comes to an entry whose tag is not to be had, or to more entries than nodes
+abbrev pub IsLost : {S : Type 0} → (S → Event → S → Type 0) → ℕ → ℕ → Option ℕ → S → S → Type 0
+IsLost {S} does nodes line from s t = (entries : List (ℕ × Tag)) × (node : ℕ) × (mid : S) × Walked does line from entries (Some node) s mid
+    × (Repeats does (SawTag line node None) 100000 mid t ⊎ ((length entries ≡ nodes) × (t ≡ mid)))
+
+-- a command that doesn't end, from s to t: 100,000 turns, a word that is not to be had, or a list whose links don't end
+abbrev pub IsUnended : {S : Type 0} → (S → ℕ → Bool) → (S → Event → S → Type 0) → ℕ → S → Command → S → Type 0
+IsUnended is_open does nodes s (Begin node line request) t = ⊥
+IsUnended is_open does nodes s (Turn node) t = ⊥
+IsUnended is_open does nodes s (Done node) t = (is_open s node ≡ true) × Unended does node 100000 s t
+IsUnended {S} is_open does nodes s (ListLine line) t = Repeats does (SawMem line None) 100000 s t
+    ⊎ ((mid : S) × (mem : Mem) × Loads does (SawMem line None) (SawMem line (Some mem)) s mid × IsLost does nodes line mem.forw mid t)
+IsUnended is_open does nodes s (ShowTag line node) t = Repeats does (SawTag line node None) 100000 s t
+
+-- from s to t, a walk along these links, wherever it came
+abbrev pub Walks : {S : Type 0} → (S → Event → S → Type 0) → ℕ → Option ℕ → S → S → Type 0
+Walks does line from s t = (entries : List (ℕ × Tag)) × (next : Option ℕ) × Walked does line from entries next s t
+
+-- what a command did before memory was refused, from s to t: its turns or its loads; how far the walk along a list came is open
+abbrev pub WantsMemory : {S : Type 0} → (S → ℕ → Bool) → (S → Event → S → Type 0) → S → Command → S → Type 0
+WantsMemory is_open does s (Begin node line request) t = ⊥
+WantsMemory is_open does s (Turn node) t = (is_open s node ≡ true) × (o : Outcome) × does s (Turned node o) t
+WantsMemory {S} is_open does s (Done node) t = (is_open s node ≡ true) × (n : ℕ) × (n < 100000) × (mid : S) × Unended does node n s mid × (o : Outcome) × IsEnd o × does mid (Turned node o) t
+WantsMemory {S} is_open does s (ListLine line) t = (mid : S) × (mem : Mem) × Loads does (SawMem line None) (SawMem line (Some mem)) s mid × Walks does line mem.forw mid t
+WantsMemory is_open does s (ShowTag line node) t = (tag : Tag) × Loads does (SawTag line node None) (SawTag line node (Some tag)) s t
+
+-- how one command fails
+abbrev pub StopsAt : {S : Type 0} → (S → ℕ → Bool) → (S → Event → S → Type 0) → ℕ → S → Step → ScriptRefusal → S → Type 0
+StopsAt is_open does nodes s step OutOfMemory t = WantsMemory is_open does s step.command t
+StopsAt is_open does nodes s step (BadCommand n) t = (n ≡ step.number) × IsOutOfPlace is_open s step.command × (t ≡ s)
+StopsAt is_open does nodes s step (BadNumber n) t = ⊥
+StopsAt is_open does nodes s step (NotDone n) t = (n ≡ step.number) × IsUnended is_open does nodes s step.command t
+StopsAt is_open does nodes s step WriteFailed t = ⊥
+
+-- what is written where a run fails: the text of the commands before, or, where the writer failed, a front of the text of some, and
+-- not all of it
+abbrev pub Leaves : {S : Type 0} → (S → ℕ → Bool) → (S → Event → S → Type 0) → ℕ → S → List Step → ScriptRefusal → List ℕ → S → Type 0
+Leaves {S} is_open does nodes s steps OutOfMemory written t = (k : ℕ) × (mid : S) × (step : Step) × PrintsAll is_open does no_words s (take k steps) written mid
+    × (slice_get steps k ≡ Some step) × StopsAt is_open does nodes mid step OutOfMemory t
+Leaves {S} is_open does nodes s steps (BadCommand n) written t = (k : ℕ) × (mid : S) × (step : Step) × PrintsAll is_open does no_words s (take k steps) written mid
+    × (slice_get steps k ≡ Some step) × StopsAt is_open does nodes mid step (BadCommand n) t
+Leaves {S} is_open does nodes s steps (BadNumber n) written t = ⊥
+Leaves {S} is_open does nodes s steps (NotDone n) written t = (k : ℕ) × (mid : S) × (step : Step) × PrintsAll is_open does no_words s (take k steps) written mid
+    × (slice_get steps k ≡ Some step) × StopsAt is_open does nodes mid step (NotDone n) t
+Leaves {S} is_open does nodes s steps WriteFailed written t = (k : ℕ) × (text : List ℕ) × (n : ℕ) × PrintsAll is_open does no_words s (take k steps) text t × (n < length text) × (written ≡ take n text)

@@ -1,0 +1,37 @@
+-- What a script's memory has, and which commands fit it. This project's profile.
+use Rattle.std.specs.Prelude.{◌≡◌, ◌≤◌, Bool, true, ◌&&◌, nat_lt, List}
+use Rattle.std.specs.List.{list_all}
+use Rattle.sci_script.specs.declared.commands.Size.{Size}
+use Rattle.sci_script.specs.declared.commands.Request.{Request}
+use Rattle.sci_script.specs.declared.commands.Request.TheVariants.{Load, Store, Add, Evict}
+use Rattle.sci_script.specs.declared.commands.Step.{Step}
+use Rattle.sci_script.specs.declared.commands.Command.{Command}
+use Rattle.sci_script.specs.declared.commands.Command.TheVariants.{Begin, Turn, Done, List as ListLine, Tag as ShowTag}
+
+-- 1 to 64 nodes, 1 to 1,024 lines
+pub record IsSize (size : Size) : Type 0 where
+  pub some_nodes : 1 ≤ size.nodes
+  pub few_nodes : size.nodes ≤ 64
+  pub some_lines : 1 ≤ size.lines
+  pub few_lines : size.lines ≤ 1024
+
+-- a request of a word that a line has
+abbrev pub is_request : Request → Bool
+is_request (Load word) = nat_lt word 8
+is_request (Store word value) = nat_lt word 8
+is_request (Add word delta) = nat_lt word 8
+is_request Evict = true
+
+-- a command of nodes, lines and words that there are
+abbrev pub is_in : Size → Command → Bool
+is_in size (Begin node line request) = nat_lt node size.nodes && (nat_lt line size.lines && is_request request)
+is_in size (Turn node) = nat_lt node size.nodes
+is_in size (Done node) = nat_lt node size.nodes
+is_in size (ListLine line) = nat_lt line size.lines
+is_in size (ShowTag line node) = nat_lt line size.lines && nat_lt node size.nodes
+
+abbrev pub IsIn : Size → Command → Type 0
+IsIn size command = is_in size command ≡ true
+
+abbrev pub AreIn : Size → List Step → Type 0
+AreIn size steps = list_all (λ step. is_in size step.command) steps ≡ true

@@ -1,0 +1,24 @@
+//! Scripts: their reader, their runner, and what they are run over.
+#![tactic(auto)]
+
+mod commands;
+mod desk;
+mod line_commands;
+mod line_words;
+mod loading;
+mod numbers;
+mod reader;
+mod refusals;
+mod running;
+#[cfg(test)]
+mod tests;
+mod texts;
+mod wholes;
+mod writing;
+
+pub use commands::Script;
+pub use desk::Desk;
+pub use reader::read_script;
+pub use refusals::ScriptRefusal;
+pub use texts::{list_text, tag_text};
+pub use wholes::WholeDesk;

@@ -1,0 +1,152 @@
+//! The reader of a whole script.
+
+ghost use Rattle.std.specs.Prelude.{◌≡◌, ◌<◌, ◌≤◌, ◌+◌, ◌^◌, ◌∷◌, [], ◌==◌, length, IfOk, IfErr};
+ghost use Rattle.std.specs.List.{position};
+ghost use Rattle.std.specs.Str.Lines.{lines, strip_carriage_return};
+ghost use Rattle.sci_script.specs.Size.{IsSize, AreIn};
+ghost use Rattle.sci_script.specs.Format.{Gives, entries_from, openings_of, steps_of, meaning_of, script_of, view};
+
+use crate::commands::{Opening, Script, Size, Step};
+use crate::line_commands::{command, opening, size};
+use crate::line_words::{is_skipped, words};
+use crate::refusals::ScriptRefusal;
+use std::alloc::Global;
+
+/// A line without the one carriage return at its end.
+fn without_return(line: &[u8]) -> &[u8]
+    ensures { result.now ≡ strip_carriage_return line.now }
+{
+    match line {
+        [front @ .., b'\r'] => front,
+        _ => line,
+    }
+}
+
+/// Where the first line ends that has an end.
+fn line_end(text: &[u8]) -> Option<usize>
+    ensures { result ≡ position (λ b. b == 10) text.now }
+{
+    text.iter().position(|b| *b == b'\n')
+}
+
+/// The first line of a text that isn't empty, and the text behind it.
+fn first_line(text: &[u8]) -> (&[u8], &[u8])
+    requires { 0 < length text.now }
+    ensures first { lines text.now ≡ result.0.now ∷ lines result.1.now }
+    ensures shorter { length result.1.now < length text.now }
+{
+    match line_end(text) {
+        Some(end) => (without_return(&text[..end]), &text[end + 1..]),
+        None => (text, &[]),
+    }
+}
+
+/// A line that isn't skipped, with its number, and where the reading goes on.
+#[derive(Drop)]
+struct Entry<'a> {
+    number: u64,
+    line: &'a [u8],
+    rest: &'a [u8],
+}
+
+/// The first line from line `number` on that isn't skipped.
+fn first_entry(number: u64, text: &[u8]) -> Result<Entry<'_>, u64>
+    requires { number + length text.now < 2 ^ 64 }
+    ensures found { IfOk result (λ e. entries_from number (lines text.now) ≡ (e.number, e.line.now) ∷ entries_from (e.number + 1) (lines e.rest.now)) }
+    ensures shorter { IfOk result (λ e. (e.number + 1 + length e.rest.now ≤ number + length text.now) × (length e.rest.now < length text.now)) }
+    ensures none { IfErr result (λ end. (entries_from number (lines text.now) ≡ []) × (end ≡ number + length (lines text.now))) }
+{
+    let mut at = number;
+    let mut rest = text;
+    while !rest.is_empty() {
+        let (line, after) = first_line(rest);
+        if !is_skipped(line) {
+            return Ok(Entry {
+                number: at,
+                line,
+                rest: after,
+            });
+        }
+        rest = after;
+        at += 1;
+    }
+    Err(at)
+}
+
+/// The openings in front, and where the reading goes on.
+#[derive(Drop)]
+struct Front<'a> {
+    openings: Vec<Opening>,
+    number: u64,
+    rest: &'a [u8],
+}
+
+/// The openings from line `number` on.
+fn openings(alloc: Global, size: Size, number: u64, text: &[u8]) -> Result<Front<'_>, ScriptRefusal>
+    requires size { IsSize size }
+    requires few { number + length text.now < 2 ^ 64 }
+    ensures exact { Gives (λ f. (f.openings.items, entries_from f.number (lines f.rest.now))) result (openings_of size (entries_from number (lines text.now))) }
+    ensures few { IfOk result (λ f. f.number + length f.rest.now < 2 ^ 64) }
+{
+    let mut found = Vec::new(alloc);
+    let mut at = number;
+    let mut rest = text;
+    while let Ok(entry) = first_entry(at, rest) {
+        let words = words(alloc, entry.number, entry.line)?;
+        let Some(opening) = opening(entry.number, size, &words)? else {
+            break;
+        };
+        found.push(opening)?;
+        at = entry.number + 1;
+        rest = entry.rest;
+    }
+    Ok(Front {
+        openings: found,
+        number: at,
+        rest,
+    })
+}
+
+/// The commands from line `number` on.
+fn steps(alloc: Global, size: Size, number: u64, text: &[u8]) -> Result<Vec<Step>, ScriptRefusal>
+    requires size { IsSize size }
+    requires few { number + length text.now < 2 ^ 64 }
+    ensures exact { Gives (λ v. v.items) result (steps_of size (entries_from number (lines text.now))) }
+    ensures fits { IfOk result (λ v. AreIn size v.items) }
+{
+    let mut steps = Vec::new(alloc);
+    let mut at = number;
+    let mut rest = text;
+    while let Ok(entry) = first_entry(at, rest) {
+        let words = words(alloc, entry.number, entry.line)?;
+        let command = command(entry.number, size, &words)?;
+        steps.push(Step {
+            number: entry.number,
+            command,
+        })?;
+        at = entry.number + 1;
+        rest = entry.rest;
+    }
+    Ok(steps)
+}
+
+/// Reads a script: `Ok` exactly where the text is one, and else the lowest faulty line.
+#[tactic(auto, unfolding(crate::specs::Format::script_of, crate::specs::Format::meaning_of))]
+pub fn read_script(alloc: Global, text: &[u8]) -> Result<Script, ScriptRefusal>
+    ensures { Gives view result (script_of text.now) }
+{
+    let first = match first_entry(1, text) {
+        Ok(first) => first,
+        Err(end) => return Err(ScriptRefusal::BadCommand(end)),
+    };
+    let words = words(alloc, first.number, first.line)?;
+    let size = size(first.number, &words)?;
+    let front = openings(alloc, size, first.number + 1, first.rest)?;
+    let steps = steps(alloc, size, front.number, front.rest)?;
+    let openings = front.openings;
+    Ok(Script {
+        size,
+        openings,
+        steps,
+    })
+}

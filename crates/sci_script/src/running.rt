@@ -1,0 +1,206 @@
+//! Runs a script.
+ghost use Rattle.std.specs.Prelude.{◌≡◌, ◌<◌, ◌≤◌, ℕ, [], true, Some, string_bytes, IfOk, IfErr, All, MatchBool, MatchOption};
+ghost use Rattle.sci_ops.specs.Table.{begun};
+ghost use Rattle.sci_script.specs.declared.commands.Command.TheVariants.{Done, List as ListLine};
+ghost use Rattle.sci_script.specs.Size.{is_request, IsIn};
+ghost use Rattle.sci_script.specs.Event.{Turned, IsEnd, IsNoEnd};
+ghost use Rattle.sci_script.specs.Request.{goal_of, words_after};
+ghost use Rattle.sci_script.specs.Run.{Unended, Prints, StopsAt};
+
+use crate::commands::{Command, Request, Script, Size, Step};
+use crate::desk::Desk;
+use crate::loading::{load_mem, load_tag, walk};
+use crate::refusals::ScriptRefusal;
+use crate::texts::{list_text, tag_text, turn_text};
+use crate::writing::put;
+use sci_ops::{Op, Turn};
+use sci_words::{LineNo, NodeId};
+use std::alloc::Global;
+use std::io::Write;
+
+/// How many turns a call may take under `done`.
+const TURNS: u32 = 100_000;
+
+/// The operation that is asked for, begun.
+fn op(request: Request) -> Op
+    requires { is_request request ≡ true }
+    ensures { result ≡ begun (goal_of request) }
+{
+    match request {
+        Request::Load { .. } => Op::load(),
+        Request::Store { word, value } => Op::store(word, value).unwrap(),
+        Request::Add { word, delta } => Op::add(word, delta).unwrap(),
+        Request::Evict => Op::evict(),
+    }
+}
+
+/// Whether the turn ended the call.
+pub fn is_end(turn: Turn) -> bool
+    ensures { MatchBool result (IsEnd turn) (IsNoEnd turn) }
+{
+    matches!(turn, Turn::Done(_))
+}
+
+/// Turns until the call ends, or `None` if it doesn't.
+fn turns_to_end<D: Desk>(desk: &mut D, node: NodeId) -> Option<Turn>
+    requires node { node < (D.size desk.old).nodes }
+    requires open { D.is_open desk.old node ≡ true }
+    ensures ended { MatchOption result (Unended D.does node 100000 desk.old desk.new)
+        (λ o. (n : ℕ) × (n < 100000) × (mid : D) × Unended D.does node n desk.old mid × IsEnd o × D.does mid (Turned node o) desk.new) }
+    ensures size { D.size desk.new ≡ D.size desk.old }
+{
+    for _ in 0..TURNS {
+        let turn = desk.turn(node);
+        if is_end(turn) {
+            return Some(turn);
+        }
+    }
+    None
+}
+
+/// `done`: the text of the end of the node's open call.
+fn done<D: Desk>(
+    alloc: Global,
+    desk: &mut D,
+    nodes: u16,
+    words: &[u8; 64],
+    number: u64,
+    node: NodeId,
+) -> Result<String, ScriptRefusal>
+    requires node { node < (D.size desk.old).nodes }
+    requires few { (D.size desk.old).nodes ≤ 64 }
+    requires words { All (λ w. w < 8) words.now }
+    requires open { D.is_open desk.old node ≡ true }
+    ensures ok { IfOk result (λ text. Prints D.is_open D.does words.now desk.old (Done node) (string_bytes text) desk.new) }
+    ensures err { IfErr result (λ e. StopsAt D.is_open D.does nodes desk.old (record { number = number; command = Done node }) e desk.new) }
+    ensures size { D.size desk.new ≡ D.size desk.old }
+{
+    match turns_to_end(desk, node) {
+        Some(turn) => Ok(turn_text(alloc, node, words[usize::from(node.get())], turn)?),
+        None => Err(ScriptRefusal::NotDone(number)),
+    }
+}
+
+/// `list`: the text of the line's sharing list.
+fn list<D: Desk>(
+    alloc: Global,
+    desk: &mut D,
+    nodes: u16,
+    number: u64,
+    line: LineNo,
+) -> Result<String, ScriptRefusal>
+    requires { line < (D.size desk.old).lines }
+    ensures ok { IfOk result (λ text. Prints D.is_open D.does [] desk.old (ListLine line) (string_bytes text) desk.new) }
+    ensures err { IfErr result (λ e. StopsAt D.is_open D.does nodes desk.old (record { number = number; command = ListLine line }) e desk.new) }
+    ensures size { D.size desk.new ≡ D.size desk.old }
+{
+    let Some(mem) = load_mem(desk, line) else {
+        return Err(ScriptRefusal::NotDone(number));
+    };
+    match walk(alloc, desk, line, mem.forw, nodes)? {
+        Some(entries) => Ok(list_text(alloc, line, mem, &entries)?),
+        None => Err(ScriptRefusal::NotDone(number)),
+    }
+}
+
+/// One command: what it prints. The words are those that the nodes' last loads are to show.
+fn perform<D: Desk>(
+    alloc: Global,
+    desk: &mut D,
+    nodes: u16,
+    words: &[u8; 64],
+    step: Step,
+) -> Result<String, ScriptRefusal>
+    requires command { IsIn (D.size desk.old) step.command }
+    requires few { (D.size desk.old).nodes ≤ 64 }
+    requires words { All (λ w. w < 8) words.now }
+    ensures ok { IfOk result (λ text. Prints D.is_open D.does words.now desk.old step.command (string_bytes text) desk.new) }
+    ensures err { IfErr result (λ e. StopsAt D.is_open D.does nodes desk.old step e desk.new) }
+    ensures size { D.size desk.new ≡ D.size desk.old }
+{
+    let Step { number, command } = step;
+    match command {
+        Command::Begin {
+            node,
+            line,
+            request,
+        } => {
+            if desk.open(node) {
+                return Err(ScriptRefusal::BadCommand(number));
+            }
+            desk.begin(node, line, op(request));
+            Ok(String::new(alloc))
+        }
+        Command::Turn { node } => {
+            if !desk.open(node) {
+                return Err(ScriptRefusal::BadCommand(number));
+            }
+            let turn = desk.turn(node);
+            Ok(turn_text(alloc, node, words[usize::from(node.get())], turn)?)
+        }
+        Command::Done { node } => {
+            if !desk.open(node) {
+                return Err(ScriptRefusal::BadCommand(number));
+            }
+            done(alloc, desk, nodes, words, number, node)
+        }
+        Command::List { line } => list(alloc, desk, nodes, number, line),
+        Command::Tag { line, node } => match load_tag(desk, line, node) {
+            Some(tag) => Ok(tag_text(alloc, line, node, tag)?),
+            None => Err(ScriptRefusal::NotDone(number)),
+        },
+    }
+}
+
+/// The words that the nodes' last loads are to show, after a command.
+fn note(words: &mut [u8; 64], size: Size, command: Command)
+    requires few { size.nodes ≤ 64 }
+    requires command { IsIn size command }
+    requires words { All (λ w. w < 8) words.old }
+    ensures words { words.new ≡ words_after words.old command }
+    ensures range { All (λ w. w < 8) words.new }
+{
+    if let Command::Begin { node, request, .. } = command {
+        if let Request::Load { word } = request {
+            words[usize::from(node.get())] = word;
+        }
+    }
+}
+
+impl Script {
+    ghost use Rattle.std.specs.Prelude.{◌≡◌, ℕ, List, IfErr, OnOk};
+    ghost use Rattle.std.specs.Io.KnownBytes.{Appends};
+    ghost use Rattle.sci_script.specs.Request.{no_words};
+    ghost use Rattle.sci_script.specs.Run.{PrintsAll, Leaves};
+
+    /// Runs the script over a desk of its nodes and lines, and writes its text. The refusals: 16 for a call begun while the
+    /// node's call is open, and for a turn without a call; 18 for a call that didn't end within 100,000 turns, for a word that was
+    /// not to be had 100,000 times in a row, and for a list of more entries than nodes; 7 where memory ran out; 24 where the
+    /// writer failed before all was written. What was written before stays, and so do the turns.
+    pub fn run<D: Desk, W: Write>(
+        &self,
+        alloc: Global,
+        desk: &mut D,
+        out: &mut W,
+    ) -> Result<(), ScriptRefusal>
+        requires { D.size desk.old ≡ self.now.size }
+        // All of the script's text is written.
+        ensures ok { OnOk result ((text : List ℕ) × PrintsAll D.is_open D.does no_words desk.old self.now.steps.items text desk.new
+            × Appends (W.contents out.old) (W.contents out.new) text) }
+        // The text of the commands before the refused one is, or a front of the text.
+        ensures err { IfErr result (λ e. (written : List ℕ) × Leaves D.is_open D.does self.now.size.nodes desk.old self.now.steps.items e written desk.new
+            × Appends (W.contents out.old) (W.contents out.new) written) }
+        ensures size { D.size desk.new ≡ D.size desk.old }
+    {
+        let mut words = [0; 64];
+        for step in &self.steps {
+            let text = perform(alloc, desk, self.size.nodes, &words, *step)?;
+            note(&mut words, self.size, step.command);
+            match put(out, text.as_bytes()) {
+                Ok(()) => {}
+                Err(_) => return Err(ScriptRefusal::WriteFailed),
+            }
+        }
+        Ok(())
+    }
+}

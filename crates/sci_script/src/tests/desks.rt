@@ -1,0 +1,83 @@
+//! A desk whose words are not to be had, or whose lists or calls don't end.
+use crate::commands::Size;
+use crate::{Desk, ScriptRefusal, read_script};
+use sci_ops::{Op, Turn};
+use sci_words::{Kind, LineNo, Mem, MemState, NodeId, Tag};
+use std::test::Fail;
+
+/// Each tag that it gives names its own node behind it.
+#[derive(Drop)]
+struct Odd {
+    size: Size,
+    has_mem: bool,
+    has_tags: bool,
+    has_call: bool,
+}
+
+impl Desk for Odd {
+    ghost size = { λ odd. odd.size };
+
+    ghost is_open = { λ odd _. odd.has_call };
+
+    ghost does = { λ _ _ _. Unit {0} };
+
+    fn open(&self, _node: NodeId) -> bool {
+        self.has_call
+    }
+
+    fn begin(&mut self, _node: NodeId, _line: LineNo, _op: Op) {
+        self.has_call = true;
+    }
+
+    fn turn(&mut self, _node: NodeId) -> Turn {
+        Turn::Waiting
+    }
+
+    fn mem(&mut self, _line: LineNo) -> Option<Mem> {
+        if !self.has_mem || self.size.nodes == 0 {
+            return None;
+        }
+        Some(Mem {
+            state: MemState::Fresh,
+            lent: false,
+            forw: NodeId::new(0),
+        })
+    }
+
+    fn tag(&mut self, _line: LineNo, node: NodeId) -> Option<Tag> {
+        let tag = Tag {
+            kind: Kind::Fresh,
+            held: false,
+            forw: Some(node),
+            back: None,
+        };
+        self.has_tags.then_some(tag)
+    }
+}
+
+#[test]
+fn what_is_not_to_be_had(rt: HostRuntime) -> Result<(), Fail> {
+    let list = "memory 2 1\n\nlist 0\n";
+    let tag = "memory 1 1\ntag 0 0\n";
+    let call = "memory 1 1\nload 0 0 0\ndone 0\n";
+    for (text, has_mem, has_tags, line) in [
+        (list, false, true, 3),
+        (list, true, false, 3),
+        (list, true, true, 3),
+        (tag, true, false, 2),
+        (call, true, true, 3),
+    ] {
+        let script = read_script(rt.alloc(), text.as_bytes())?;
+        let mut odd = Odd {
+            size: script.size,
+            has_mem,
+            has_tags,
+            has_call: false,
+        };
+        let mut out = Vec::new(rt.alloc());
+        let end = script.run(rt.alloc(), &mut odd, &mut out);
+        assert_eq!(rt; end, Err(ScriptRefusal::NotDone(line)));
+        assert!(rt; out.is_empty());
+    }
+    Ok(())
+}

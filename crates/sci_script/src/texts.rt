@@ -1,0 +1,143 @@
+//! The printed lines.
+
+ghost use Rattle.std.specs.Prelude.{◌≡◌, ◌<◌, ◌++◌, IfOk, OnOk, string_bytes};
+ghost use Rattle.sci_script.specs.Text.{read_line, wrote_line, out_line, spent_line, answer_line, wait_line, turn_text, entry_text, entries_text, chain_text, list_line, link_text, held_text, tag_line};
+
+use sci_ops::{Answer, Turn};
+use sci_words::{LineNo, Mem, NodeId, Tag, mem_name, name};
+use std::alloc::{AllocError, Global};
+
+fn read_text(alloc: Global, node: u16, value: u64, stamp: u64) -> Result<String, AllocError>
+    ensures { IfOk result (λ text. string_bytes text ≡ read_line node value stamp) }
+{
+    format!(in alloc; "node {node} read {value} stamp {stamp}\n")
+}
+
+fn wrote_text(alloc: Global, node: u16, stamp: u64) -> Result<String, AllocError>
+    ensures { IfOk result (λ text. string_bytes text ≡ wrote_line node stamp) }
+{
+    format!(in alloc; "node {node} wrote stamp {stamp}\n")
+}
+
+fn out_text(alloc: Global, node: u16) -> Result<String, AllocError>
+    ensures { IfOk result (λ text. string_bytes text ≡ out_line node) }
+{
+    format!(in alloc; "node {node} out\n")
+}
+
+fn spent_text(alloc: Global, node: u16) -> Result<String, AllocError>
+    ensures { IfOk result (λ text. string_bytes text ≡ spent_line node) }
+{
+    format!(in alloc; "node {node} refused 11\n")
+}
+
+/// How a call ended. Of the line that a load has seen the word with this number is shown.
+fn answer_text(alloc: Global, node: u16, word: u8, answer: Answer) -> Result<String, AllocError>
+    requires { word < 8 }
+    ensures { IfOk result (λ text. string_bytes text ≡ answer_line node word answer) }
+{
+    match answer {
+        Answer::Seen { words, stamp } => read_text(alloc, node, words[usize::from(word)], stamp),
+        Answer::Wrote { stamp, .. } => wrote_text(alloc, node, stamp),
+        Answer::Out => out_text(alloc, node),
+        Answer::Spent => spent_text(alloc, node),
+    }
+}
+
+fn wait_text(alloc: Global, node: u16) -> Result<String, AllocError>
+    ensures { IfOk result (λ text. string_bytes text ≡ wait_line node) }
+{
+    format!(in alloc; "node {node} waits\n")
+}
+
+/// What a turn prints.
+pub fn turn_text(alloc: Global, node: NodeId, word: u8, turn: Turn) -> Result<String, AllocError>
+    requires { word < 8 }
+    ensures { IfOk result (λ text. string_bytes text ≡ turn_text node word turn) }
+{
+    match turn {
+        Turn::Moved => Ok(String::new(alloc)),
+        Turn::Waiting => wait_text(alloc, node.get()),
+        Turn::Done(answer) => answer_text(alloc, node.get(), word, answer),
+    }
+}
+
+fn push_entry(text: &mut String, entry: (NodeId, Tag)) -> Result<(), AllocError>
+    ensures { OnOk result (string_bytes text.new ≡ string_bytes text.old ++ entry_text entry) }
+{
+    let (node, tag) = entry;
+    let node = node.get();
+    write!(text, "{node} ")?;
+    text.push_str(name(tag))
+}
+
+fn push_entries(text: &mut String, entries: &[(NodeId, Tag)]) -> Result<(), AllocError>
+    ensures { OnOk result (string_bytes text.new ≡ string_bytes text.old ++ entries_text entries.now) }
+{
+    if let [first, others @ ..] = entries {
+        text.push_str(" ")?;
+        push_entry(text, *first)?;
+        for entry in others {
+            text.push_str(", ")?;
+            push_entry(text, *entry)?;
+        }
+    }
+    Ok(())
+}
+
+/// What `list` prints, `line L HOME` or `line L STATE F: N NAME, N NAME ..`, and a line feed. The entries are those along the
+/// line's sharing list, from the head on, each with its tag.
+pub fn list_text(
+    alloc: Global,
+    line: LineNo,
+    mem: Mem,
+    entries: &[(NodeId, Tag)],
+) -> Result<String, AllocError>
+    ensures { IfOk result (λ text. string_bytes text ≡ list_line line mem entries.now) }
+{
+    let head = mem.forw;
+    let mut text = format!(in alloc; "line {line} ")?;
+    text.push_str(mem_name(mem))?;
+    if let Some(head) = head {
+        let head = head.get();
+        write!(text, " {head}:")?;
+        push_entries(&mut text, entries)?;
+    }
+    text.push_str("\n")?;
+    Ok(text)
+}
+
+fn push_link(text: &mut String, link: Option<NodeId>) -> Result<(), AllocError>
+    ensures { OnOk result (string_bytes text.new ≡ string_bytes text.old ++ link_text link) }
+{
+    match link {
+        Some(node) => {
+            let node = node.get();
+            write!(text, "{node}")
+        }
+        None => text.push_str("-"),
+    }
+}
+
+/// What `tag` prints, `tag L N NAME forw F back B`, ` held` where the tag is held, and a line feed. A link is `-` for none.
+pub fn tag_text(alloc: Global, line: LineNo, node: NodeId, tag: Tag) -> Result<String, AllocError>
+    ensures { IfOk result (λ text. string_bytes text ≡ tag_line line node tag) }
+{
+    let Tag {
+        held,
+        forw,
+        back,
+        ..
+    } = tag;
+    let mut text = format!(in alloc; "tag {line} ")?;
+    push_entry(&mut text, (node, tag))?;
+    text.push_str(" forw ")?;
+    push_link(&mut text, forw)?;
+    text.push_str(" back ")?;
+    push_link(&mut text, back)?;
+    if held {
+        text.push_str(" held")?;
+    }
+    text.push_str("\n")?;
+    Ok(text)
+}
