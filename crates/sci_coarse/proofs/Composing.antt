@@ -1,17 +1,17 @@
 -- A take, a call and a give, one after another, are a region.
 use Rattle.std.specs.Prelude.{MatchBool}
-use Rattle.std.proofs.Common.{◌≡◌, ℕ, ◌<◌, Bool, true, false, Option, Some, None, List, [], ◌∷◌, refl, sym, ap, ◌∙◌, subst, arith}
+use Rattle.std.proofs.Common.{◌≡◌, ℕ, ◌<◌, Bool, true, false, Some, List, [], ◌∷◌, refl, sym, ap, ◌∙◌, subst, arith}
 use Rattle.sci_core.specs.declared.pending.Pending.{Pending}
 use Rattle.sci_core.specs.declared.events.Event.{Event}
 use Rattle.sci_core.specs.Answers.{is_allowed}
 use Rattle.sci_core.specs.Whole.{WholeLine, nodes_of, state_of}
 use Rattle.sci_core.specs.declared.outcomes.Outcome.{Outcome}
-use Rattle.sci_port.specs.Call.{Call, Own, MemWas, TagWas, Stepped}
+use Rattle.sci_port.specs.Call.{Call, Stepped}
 use Rattle.sci_port.specs.Owes.{Owes, TakesRow}
 use Rattle.sci_coarse.specs.declared.views.Terms.{Terms}
 use Rattle.sci_coarse.specs.declared.views.View.{View}
 use Rattle.sci_coarse.specs.Rule.{IsOn}
-use Rattle.sci_coarse.specs.Regions.{Seated, Finds, HasTaken, HasCalled, Calls, IsRegion, Came, MayGive, given}
+use Rattle.sci_coarse.specs.Regions.{Seated, HasTaken, HasCalled, Calls, IsRegion, Came, MayGive, given}
 use Rattle.sci_coarse.specs.Views.{took, gave}
 use Rattle.sci_coarse.proofs.Listed.{same_one}
 use Rattle.sci_coarse.proofs.Calling.{lawful_after, may_give, owed_on}

@@ -1,19 +1,20 @@
 -- The take, a take that misses, and the give keep the rule.
-use Rattle.std.proofs.Common.{◌≡◌, ◌≢◌, ◌⊎◌, ℕ, ◌+◌, ◌<◌, ◌≤◌, Bool, true, false, eqb, Option, Some, None, List, [], ◌∷◌, length, get_or, set, refl, sym, ap, ◌∙◌, subst, inl, inr, ⊎_elim, arith, length-set, get_or-set_same}
+use Rattle.std.proofs.Common.{◌≡◌, ◌≢◌, ℕ, ◌+◌, ◌<◌, true, false, eqb, Some, List, [], ◌∷◌, length, get_or, set, refl, sym, ap, ◌∙◌, subst, inl, inr, ⊎_elim, arith, length-set, get_or-set_same}
+use mathlib.Core.Logic.{dite}
 use mathlib.Core.Option.{none, some, some-injective}
+use native.Mathlib.Decide.{ℕ_discrete}
 use lib.ListN.{get_elem?}
 use lib.Seq.{set-get_or}
 use prog.Atomic.{either}
 use Rattle.atomic_table.specs.Table.{Act, keeps, takes, gives, rest, homes_after, carried_after, Valid, stepped, Allows}
 use Rattle.atomic_table.proofs.Lists.{at_set, set_here, set_else, exchanged}
-use Rattle.sci_core.specs.declared.pending.Pending.{Pending}
-use Rattle.sci_core.specs.Whole.{WholeLine, nodes_of, state_of}
+use Rattle.sci_core.specs.Whole.{WholeLine, state_of}
 use Rattle.sci_coarse.specs.declared.views.Terms.{Terms}
 use Rattle.sci_coarse.specs.declared.views.View.{View}
-use Rattle.sci_coarse.specs.Rule.{Shared, IsOn, IsLawfulWhole, IsAtHome, IsOut, IsSpent, Sits, Locked}
-use Rattle.sci_coarse.specs.Regions.{Seated, Finds, HasTaken, HasMissed, MayGive, taken, given}
+use Rattle.sci_coarse.specs.Rule.{Shared, IsOn, IsLawfulWhole, IsAtHome, IsOut, IsSpent, HasNoRegion, Sits, Locked}
+use Rattle.sci_coarse.specs.Regions.{Seated, Finds, MayGive, taken, given}
 use Rattle.sci_coarse.specs.Views.{took, missed, gave}
-use Rattle.sci_coarse.proofs.Listed.{inside, not_true, clash, not_none, same_some, same_one}
+use Rattle.sci_coarse.proofs.Listed.{inside, not_true, clash, not_none, same_some}
 
 -- a seat that was joined to another stays so, while a seat that was not has a new view
 pub spent_stays : {K : Type 0} (t : Terms K) (views : List (View K)) (id : ℕ) (v u : View K) → get_elem? views id ≡ some v → v.of ≡ Some t → (i : ℕ) → IsSpent views i → IsSpent (set views id u) i
@@ -23,7 +24,14 @@ spent_stays t views id v u at live i k = record {
   of = k.of;
   unheld = k.unheld;
   pending = k.pending;
+  unused = k.unused;
 }
+
+-- if no seat has made a region after one has a new view, none had before
+pub unused_before : {K : Type 0} (views : List (View K)) (id : ℕ) (v u : View K) → get_elem? views id ≡ some v → (u.regions ≡ 0 → v.regions ≡ 0) → HasNoRegion (set views id u) → HasNoRegion views
+unused_before {K} views id v u at less unused j x e = dite (ℕ_discrete j id)
+    (λ is. ap (λ (y : View K). y.regions) (some-injective x v (sym e ∙ (ap (get_elem? views) is ∙ at))) ∙ less (unused id u (set_here views id u (inside views v id at))))
+    (λ ne. unused j x (set_else views id j u ne ∙ e))
 
 -- the view of the same seat, whatever else changed
 pub record IsSameSitter {K : Type 0} (v u : View K) : Type 0 where
@@ -92,6 +100,8 @@ module _ {K : Type 0} (fits : K → ℕ → List ℕ → Type 0) (t : Terms K) w
           few = omega arith;
           seated = resits s st id me.0 v w at live record { of = refl; node = refl; next = refl; joined = refl } (st.seated id me.0 at).step (λ j ne. refl);
           unseated = λ j far. st.unseated j (omega arith);
+          unused = λ n. st.unused (unused_before s.views id me.0 v at (λ r. r) n);
+          quiet = λ z n. let now : get_or (set s.words 0 1) 0 0 ≡ 1 = get_or-set_same s.words 0 1 0 (omega arith) in absurd (omega arith);
         },
         ((λ _. (w, refl, (λ i. (0, w) ∷ hand i), finds s st id me.0 at live)), λ ne. absurd (ne home.free)),
       )
@@ -122,8 +132,21 @@ module _ {K : Type 0} (fits : K → ℕ → List ℕ → Type 0) (t : Terms K) w
           few = omega arith;
           seated = resits s st id me.0 v st.whole at live record { of = refl; node = refl; next = refl; joined = refl } (st.seated id me.0 at).step (λ j ne. refl);
           unseated = λ j far. st.unseated j (omega arith);
+          unused = λ n. st.unused (unused_before s.views id me.0 v at (λ r. r) n);
+          quiet = λ z n. absurd (miss z);
         },
-        ((λ hit. absurd (miss hit)), λ _. (refl, hand)),
+        (
+          (λ hit. absurd (miss hit)),
+          λ _. (
+            refl,
+            hand,
+            λ u h.
+                let apart : out.seat ≢ id = λ is. clash out.view.holds out.holds (ap (λ (x : View K). x.holds) (sym (some-injective me.0 out.view (sym at ∙ (ap (get_elem? s.views) (sym is) ∙ out.at)))) ∙ unheld) in
+                let near : out.seat < length s.views = inside s.views out.view out.seat out.at in
+                let mine : id < length s.views = inside s.views me.0 id at in
+                let nodes : u.nodes ≡ t.nodes = ap (λ (x : Terms K). x.nodes) ((st.seated id me.0 at).seat u h).0 in omega arith,
+          ),
+        ),
       )
 
   takes_kind : (slots id : ℕ) (me : Seated K) → me.0.of ≡ Some t → me.0.holds ≡ false → me.1 ≡ [] → Allows (Locked fits t) slots id me 0 (λ z. either (eqb z 0) 1 z) (taken fits me)
@@ -156,6 +179,8 @@ module _ {K : Type 0} (fits : K → ℕ → List ℕ → Type 0) (t : Terms K) w
           few = omega arith;
           seated = resits s st id me.0 v x at live record { of = refl; node = refl; next = refl; joined = refl } (ap (state_of x).steps (sym node)) others;
           unseated = λ j far. others j (λ e. absurd (omega arith)) ∙ st.unseated j (omega arith);
+          unused = λ n. let made_one : me.0.regions + 1 ≡ 0 = n id v (set_here s.views id v near) in absurd (omega arith);
+          quiet = λ z n. let made_one : me.0.regions + 1 ≡ 0 = n id v (set_here s.views id v near) in absurd (omega arith);
         },
         (x, hand, refl, ap rest hand),
       )

@@ -1,24 +1,22 @@
 -- A line is opened, and seats are split off or joined to the first.
-use Rattle.std.proofs.Common.{◌≡◌, ◌≢◌, ◌⊎◌, ℕ, zero, suc, ◌+◌, ◌<◌, ◌≤◌, true, false, Option, Some, None, List, [], ◌∷◌, ◌++◌, length, replicate, get_or, set, refl, sym, ap, ◌∙◌, subst, inl, inr, ⊎_elim, arith, length-set, length-append}
+use Rattle.std.proofs.Common.{◌≡◌, ◌≢◌, ℕ, zero, suc, ◌+◌, ◌<◌, ◌≤◌, true, false, Some, List, [], ◌∷◌, ◌++◌, length, replicate, get_or, set, refl, sym, ap, ◌∙◌, subst, inl, inr, ⊎_elim, arith, length-set, length-append}
 use Rattle.std.proofs.lemmas.List.{length-replicate}
 use mathlib.Core.Logic.{dite}
-use mathlib.Core.Option.{none, some, some-injective, some-ne-none}
+use mathlib.Core.Option.{some, some-injective, some-ne-none}
 use native.Mathlib.Decide.{ℕ_discrete}
 use lib.ListN.{get_elem?}
-use Rattle.atomic_table.specs.Table.{opening, Splits, Joins, Final, Seen}
+use Rattle.atomic_table.specs.Table.{opening, Splits, Joins}
 use Rattle.atomic_table.proofs.Lists.{at_set, set_here, set_else, at_longer}
-use Rattle.sci_words.specs.declared.tags.Kind.{Kind}
-use Rattle.sci_core.specs.declared.lines.Line.{Line}
 use Rattle.sci_core.specs.declared.pending.Pending.{Pending}
 use Rattle.sci_core.specs.State.{invalid}
 use Rattle.sci_core.specs.Whole.{WholeLine, nodes_of, state_of, opened_whole}
 use Rattle.sci_port.specs.Owes.{IsSoundStep}
 use Rattle.sci_coarse.specs.declared.views.Terms.{Terms}
 use Rattle.sci_coarse.specs.declared.views.View.{View}
-use Rattle.sci_coarse.specs.Rule.{Shared, IsOn, IsLawfulWhole, IsAtHome, IsOut, IsSpent, Sits, Locked}
+use Rattle.sci_coarse.specs.Rule.{Shared, IsLawfulWhole, IsAtHome, IsOut, IsSpent, HasNoRegion, HasNoMiss, Sits, Locked}
 use Rattle.sci_coarse.specs.Views.{first_view, new_view, split_view, joined_view, spent_view}
 use Rattle.sci_coarse.proofs.Listed.{inside, at_end, clash, not_none, not_true, same_some}
-use Rattle.sci_coarse.proofs.Locks.{spent_stays, IsSameSitter}
+use Rattle.sci_coarse.proofs.Locks.{spent_stays, unused_before}
 
 pub idle_is_sound : (n : ℕ) (fits : List ℕ → Type 0) → IsSoundStep n fits Pending.Idle
 idle_is_sound n fits = record { word = invalid; own = refl; form = (refl, refl); fit = tt }
@@ -42,9 +40,13 @@ module _ {K : Type 0} (fits : K → ℕ → List ℕ → Type 0) (t : Terms K) w
   no_holder zero v e = sym (ap (λ (u : View K). u.holds) (some-injective (first_view t) v e))
   no_holder (suc j) v e = absurd (some-ne-none v (sym e))
 
+  no_miss : (j : ℕ) (v : View K) → get_elem? (first_view t ∷ []) j ≡ some v → v.misses ≡ 0
+  no_miss zero v e = sym (ap (λ (u : View K). u.misses) (some-injective (first_view t) v e))
+  no_miss (suc j) v e = absurd (some-ne-none v (sym e))
+
   -- the table at the start
-  opens_at : (line : Line) (w : WholeLine K) → w ≡ opened_whole t.keep t.number t.nodes line → IsLawfulWhole fits w → 0 < t.nodes → Locked fits t (opening (0 ∷ []) (w ∷ []) (first_view t))
-  opens_at line w is lawful more =
+  opens_at : (w : WholeLine K) → w ≡ opened_whole t.keep t.number t.nodes t.opening → IsLawfulWhole fits w → 0 < t.nodes → Locked fits t (opening (0 ∷ []) (w ∷ []) (first_view t))
+  opens_at w is lawful more =
       let idle : (j : ℕ) → (state_of w).steps j ≡ Pending.Idle = λ j. ap (λ (v : WholeLine K). (state_of v).steps j) is ∙ all_idle t.nodes j in
       record {
         whole = w;
@@ -56,12 +58,14 @@ module _ {K : Type 0} (fits : K → ℕ → List ℕ → Type 0) (t : Terms K) w
         few = omega arith;
         seated = one_view w idle;
         unseated = λ j far. idle j;
+        unused = λ _. is;
+        quiet = λ z n. no_miss;
       }
 
   -- the views alone change
   reviewed : (s : Shared K) (st : Locked fits t s) (views : List (View K)) → length views ≤ t.nodes → length s.views ≤ length views → (IsAtHome s st.whole → IsAtHome record { words = s.words; homes = s.homes; views = views } st.whole) → (IsOut s st.whole → IsOut record { words = s.words; homes = s.homes; views = views } st.whole)
-      → ((j : ℕ) (v : View K) → get_elem? views j ≡ some v → Sits t st.whole views j v) → Locked fits t record { words = s.words; homes = s.homes; views = views }
-  reviewed s st views few more home out seated = record {
+      → ((j : ℕ) (v : View K) → get_elem? views j ≡ some v → Sits t st.whole views j v) → (HasNoRegion views → HasNoRegion s.views) → (HasNoMiss s.views → HasNoMiss views) → Locked fits t record { words = s.words; homes = s.homes; views = views }
+  reviewed s st views few more home out seated unused quiet = record {
     whole = st.whole;
     on = st.on;
     lawful = st.lawful;
@@ -71,6 +75,8 @@ module _ {K : Type 0} (fits : K → ℕ → List ℕ → Type 0) (t : Terms K) w
     few = few;
     seated = seated;
     unseated = λ j far. st.unseated j (omega arith);
+    unused = λ n. st.unused (unused n);
+    quiet = λ z n. quiet (st.quiet z (unused n));
   }
 
   splits : (id : ℕ) (v : View K) → v.of ≡ Some t → v.holds ≡ false → 0 < v.next → v.next < t.nodes → Splits (Locked fits t) id v (split_view v) (new_view v)
@@ -89,7 +95,7 @@ module _ {K : Type 0} (fits : K → ℕ → List ℕ → Type 0) (t : Terms K) w
       (at_set s.views id j u x a))
       (λ (a : (j ≡ length views) × (n ≡ x)). absurd (clash n.holds (ap (λ (y : View K). y.holds) a.1 ∙ h) refl))
       (at_end views n x j e) in
-      let stays : (i : ℕ) → IsSpent s.views i → IsSpent all i = λ i p. let q = spent_stays t s.views id v u at live i p in record { view = q.view; at = at_longer views (n ∷ []) i q.view q.at; of = q.of; unheld = q.unheld; pending = q.pending } in
+      let stays : (i : ℕ) → IsSpent s.views i → IsSpent all i = λ i p. let q = spent_stays t s.views id v u at live i p in record { view = q.view; at = at_longer views (n ∷ []) i q.view q.at; of = q.of; unheld = q.unheld; pending = q.pending; unused = q.unused } in
       reviewed s st all (omega arith) (omega arith)
       (λ home. record { free = home.free; home = home.home; unheld = λ j x e. not_true x.holds (λ h. clash x.holds h (home.unheld j x (held j x e h).1)) })
       (λ out. record {
@@ -123,10 +129,18 @@ module _ {K : Type 0} (fits : K → ℕ → List ℕ → Type 0) (t : Terms K) w
         joins = λ y g i p q. stays i (k.joins y g i p q);
       })
       (at_end views n x j e))
+      (λ unused. unused_before s.views id v u at (λ r. r) (λ j x e. unused j x (at_longer views (n ∷ []) j x e)))
+      (λ none j x e. ⊎_elim
+      (λ (a : get_elem? views j ≡ some x). ⊎_elim
+      (λ (b : (j ≡ id) × (u ≡ x)). sym (ap (λ (y : View K). y.misses) b.1) ∙ none id v at)
+      (λ (b : (j ≢ id) × (get_elem? s.views j ≡ some x)). none j x b.1)
+      (at_set s.views id j u x a))
+      (λ (a : (j ≡ length views) × (n ≡ x)). sym (ap (λ (y : View K). y.misses) a.1))
+      (at_end views n x j e))
 
-  joins : (id : ℕ) (v : View K) (other : ℕ) (w : View K) → v.of ≡ Some t → v.holds ≡ false → w.of ≡ Some t → w.holds ≡ false → w.node + 1 ≡ v.joined → w.pending ≡ Pending.Idle → Joins (Locked fits t) id v other w (joined_view w.node v) spent_view
+  joins : (id : ℕ) (v : View K) (other : ℕ) (w : View K) → v.of ≡ Some t → v.holds ≡ false → w.of ≡ Some t → w.holds ≡ false → w.node + 1 ≡ v.joined → w.pending ≡ Pending.Idle → Joins (Locked fits t) id v other w (joined_view v w) spent_view
   joins id v other w live unheld live' unheld' next idle s st at apart at' =
-      let k = st.seated id v at in let u : View K = joined_view w.node v in let gone : View K = spent_view in
+      let k = st.seated id v at in let u : View K = joined_view v w in let gone : View K = spent_view in
       let views : List (View K) = set s.views id u in let all : List (View K) = set views other gone in
       let was : get_elem? s.views other ≡ some w = sym (set_else s.views id other u apart) ∙ at' in let m = st.seated other w was in
       let as_long : length views ≡ length s.views = length-set s.views id u in
@@ -166,7 +180,7 @@ module _ {K : Type 0} (fits : K → ℕ → List ℕ → Type 0) (t : Terms K) w
         last = λ p. ((k.last p).0, (k.last p).1 ∙ (sym as_long ∙ sym as_long'));
         step = k.step;
         joins = λ y g i p q. dite (ℕ_discrete i other)
-            (λ is. record { view = gone; at = subst (λ (z : ℕ). get_elem? all z ≡ some gone) (sym is) (set_here views other gone there); of = refl; unheld = refl; pending = refl })
+            (λ is. record { view = gone; at = subst (λ (z : ℕ). get_elem? all z ≡ some gone) (sym is) (set_here views other gone there); of = refl; unheld = refl; pending = refl; unused = refl })
             (λ ne. stays i (k.joins y g i (let d : i ≢ w.node = λ is. ne (is ∙ node_is) in omega arith) q));
       })
       (λ (b : (j ≢ id) × (get_elem? s.views j ≡ some x)). let o = st.seated j x b.1 in record {
@@ -177,12 +191,25 @@ module _ {K : Type 0} (fits : K → ℕ → List ℕ → Type 0) (t : Terms K) w
       })
       (at_set s.views id j u x a.1))
       (at_set views other j gone x e))
+      (λ unused. let sum : v.regions + w.regions ≡ 0 = unused id u (set_else views other id gone (λ is. apart (sym is)) ∙ set_here s.views id u (inside s.views v id at)) in
+      λ j x e. dite (ℕ_discrete j id)
+      (λ is. let same : x.regions ≡ v.regions = ap (λ (y : View K). y.regions) (some-injective x v (sym e ∙ (ap (get_elem? s.views) is ∙ at))) in omega arith)
+      (λ ne. dite (ℕ_discrete j other)
+      (λ is. let same : x.regions ≡ w.regions = ap (λ (y : View K). y.regions) (some-injective x w (sym e ∙ (ap (get_elem? s.views) is ∙ was))) in omega arith)
+      (λ far. unused j x (set_else views other j gone far ∙ (set_else s.views id j u ne ∙ e)))))
+      (λ none j x e. ⊎_elim
+      (λ (a : (j ≡ other) × (gone ≡ x)). sym (ap (λ (y : View K). y.misses) a.1))
+      (λ (a : (j ≢ other) × (get_elem? views j ≡ some x)). ⊎_elim
+      (λ (b : (j ≡ id) × (u ≡ x)). let p : v.misses ≡ 0 = none id v at in let q : w.misses ≡ 0 = none other w was in let r : v.misses + w.misses ≡ x.misses = ap (λ (y : View K). y.misses) b.1 in omega arith)
+      (λ (b : (j ≢ id) × (get_elem? s.views j ≡ some x)). none j x b.1)
+      (at_set s.views id j u x a.1))
+      (at_set views other j gone x e))
 
-pub opens : {K : Type 0} (fits : K → ℕ → List ℕ → Type 0) (t : Terms K) (line : Line) (w : WholeLine K) (ws : List ℕ) (xs : List (WholeLine K)) → ws ≡ 0 ∷ [] → xs ≡ w ∷ [] → w ≡ opened_whole t.keep t.number t.nodes line → IsLawfulWhole fits w → 0 < nodes_of w → Locked fits t (opening ws xs (first_view t))
-opens {K} fits t line w ws xs words slots is lawful more = subst (λ (z : List ℕ × List (WholeLine K)). Locked fits t (opening z.0 z.1 (first_view t))) (λ i. (sym words i, sym slots i)) (opens_at fits t line w is lawful (let count : nodes_of w ≡ t.nodes = ap (λ (v : WholeLine K). nodes_of v) is ∙ length-replicate t.nodes invalid in omega arith))
+pub opens : {K : Type 0} (fits : K → ℕ → List ℕ → Type 0) (t : Terms K) (w : WholeLine K) (ws : List ℕ) (xs : List (WholeLine K)) → ws ≡ 0 ∷ [] → xs ≡ w ∷ [] → w ≡ opened_whole t.keep t.number t.nodes t.opening → IsLawfulWhole fits w → 0 < nodes_of w → Locked fits t (opening ws xs (first_view t))
+opens {K} fits t w ws xs words slots is lawful more = subst (λ (z : List ℕ × List (WholeLine K)). Locked fits t (opening z.0 z.1 (first_view t))) (λ i. (sym words i, sym slots i)) (opens_at fits t w is lawful (let count : nodes_of w ≡ t.nodes = ap (λ (v : WholeLine K). nodes_of v) is ∙ length-replicate t.nodes invalid in omega arith))
 
 pub splits_as : {K : Type 0} (fits : K → ℕ → List ℕ → Type 0) (t key : Terms K) (id : ℕ) (v : View K) → key ≡ t → v.of ≡ Some t → v.holds ≡ false → 0 < v.next → v.next < t.nodes → Splits (Locked fits key) id v (split_view v) (new_view v)
 splits_as {K} fits t key id v is live unheld some_next below = subst (λ (k : Terms K). Splits (Locked fits k) id v (split_view v) (new_view v)) (sym is) (splits fits t id v live unheld some_next below)
 
-pub joins_as : {K : Type 0} (fits : K → ℕ → List ℕ → Type 0) (t key : Terms K) (id : ℕ) (v : View K) (other : ℕ) (w : View K) → key ≡ t → v.of ≡ Some t → v.holds ≡ false → w.of ≡ Some t → w.holds ≡ false → w.node + 1 ≡ v.joined → w.pending ≡ Pending.Idle → Joins (Locked fits key) id v other w (joined_view w.node v) spent_view
-joins_as {K} fits t key id v other w is live unheld live' unheld' next idle = subst (λ (k : Terms K). Joins (Locked fits k) id v other w (joined_view w.node v) spent_view) (sym is) (joins fits t id v other w live unheld live' unheld' next idle)
+pub joins_as : {K : Type 0} (fits : K → ℕ → List ℕ → Type 0) (t key : Terms K) (id : ℕ) (v : View K) (other : ℕ) (w : View K) → key ≡ t → v.of ≡ Some t → v.holds ≡ false → w.of ≡ Some t → w.holds ≡ false → w.node + 1 ≡ v.joined → w.pending ≡ Pending.Idle → Joins (Locked fits key) id v other w (joined_view v w) spent_view
+joins_as {K} fits t key id v other w is live unheld live' unheld' next idle = subst (λ (k : Terms K). Joins (Locked fits k) id v other w (joined_view v w) spent_view) (sym is) (joins fits t id v other w live unheld live' unheld' next idle)

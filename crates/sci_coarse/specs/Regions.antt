@@ -1,6 +1,6 @@
 -- A region: what stands between the take and the give of the lock word. This project's profile.
-use Rattle.std.specs.Prelude.{◌≡◌, ◌≢◌, ℕ, ◌<◌, Option, Some, None, List, [], ◌∷◌}
-use Rattle.atomic_table.specs.Table.{Me, rest}
+use Rattle.std.specs.Prelude.{◌≡◌, ◌≢◌, ℕ, ◌<◌, Some, None, List, [], ◌∷◌}
+use Rattle.atomic_table.specs.Table.{Me}
 use Rattle.sci_core.specs.declared.outcomes.Outcome.{Outcome}
 use Rattle.sci_core.specs.Whole.{WholeLine, IsSameLine, nodes_of, state_of}
 use Rattle.sci_port.specs.Call.{Call, Own, MemWas, TagWas, Stepped}
@@ -23,9 +23,9 @@ Finds {K} fits v w = (t : Terms K) → v.of ≡ Some t → IsOn t w × IsLawfulW
 abbrev pub HasTaken : {K : Type 0} → (K → ℕ → List ℕ → Type 0) → Seated K → Seated K → Type 0
 HasTaken {K} fits m n = (w : WholeLine K) × (n.0 ≡ took m.0 w) × (n.1 ≡ (0, w) ∷ []) × Finds fits m.0 w
 
--- the lock word was taken, and nothing but the number of misses changed
+-- the lock word was taken, so there is another seat, and nothing but the number of misses changed
 abbrev pub HasMissed : {K : Type 0} → Seated K → Seated K → Type 0
-HasMissed m n = (n.0 ≡ missed m.0) × (n.1 ≡ [])
+HasMissed {K} m n = (n.0 ≡ missed m.0) × (n.1 ≡ []) × ((t : Terms K) → m.0.of ≡ Some t → 1 < t.nodes)
 
 -- a take finds this number in the lock word
 abbrev pub taken : {K : Type 0} → (K → ℕ → List ℕ → Type 0) → Seated K → ℕ → Seated K → Type 0
@@ -63,10 +63,10 @@ pub record IsRegion {K : Type 0} (fits : K → ℕ → List ℕ → Type 0) (t :
   pub calls : Calls fits v.node call take give
   pub view : u ≡ gave (took v take) give
 
--- what a call of a port came to: a region, or a take that found the lock word taken
+-- what a call of a port came to: a region, or a take that found the lock word taken by another seat
 abbrev pub Came : {K : Type 0} → (K → ℕ → List ℕ → Type 0) → Terms K → View K → Call → View K → Type 0
-Came fits t v (Own None) u = u ≡ missed v
-Came fits t v (MemWas None) u = u ≡ missed v
-Came fits t v (TagWas node None) u = u ≡ missed v
-Came fits t v (Stepped e Outcome.Busy) u = u ≡ missed v
+Came fits t v (Own None) u = (u ≡ missed v) × (1 < t.nodes)
+Came fits t v (MemWas None) u = (u ≡ missed v) × (1 < t.nodes)
+Came fits t v (TagWas node None) u = (u ≡ missed v) × (1 < t.nodes)
+Came fits t v (Stepped e Outcome.Busy) u = (u ≡ missed v) × (1 < t.nodes)
 Came fits t v call u = IsRegion fits t v call u

@@ -3,12 +3,14 @@ use Rattle.std.specs.Prelude.{◌≡◌, ◌⊎◌, ℕ, ◌+◌, List, length}
 use mathlib.Core.Option.{some}
 use lib.ListN.{get_elem?}
 use Rattle.sci_core.specs.declared.keeps.Keeps as keeps
+use Rattle.sci_core.specs.declared.lines.Line.{Line}
 use Rattle.sci_core.specs.declared.pending.Pending.{Pending}
 use Rattle.sci_port.specs.Call.{Call}
 use Rattle.sci_port.specs.Owes.{Owes}
 use Rattle.sci_coarse.specs.declared.line.CoarseLine.{CoarseLine}
 use Rattle.sci_coarse.specs.declared.seats.Seat.{Seat}
 use Rattle.sci_coarse.specs.Regions.{Came}
+use Rattle.sci_coarse.specs.Views.{HasMadeNone}
 
 -- the seat is one of this very line
 abbrev pub IsSeatOf : {K : Type 0} {g : keeps.Ghosts K} → CoarseLine K → Seat K g → Type 0
@@ -28,10 +30,19 @@ pub record HasMade {K : Type 0} {g : keeps.Ghosts K} (fits : K → ℕ → List 
 abbrev pub AreIdleFrom : {K : Type 0} {g : keeps.Ghosts K} → CoarseLine K → ℕ → List (Seat K g) → Type 0
 AreIdleFrom {K} {g} l from seats = (k : ℕ) (s : Seat K g) → get_elem? seats k ≡ some s → IsSeatOf l s × (s.node ≡ k + from) × (s.standing.pending ≡ Pending.Idle)
 
--- the line has n nodes, this number, and this fact
-pub record HasTerms {K : Type 0} (l : CoarseLine K) (n m : ℕ) (k : K) : Type 0 where
+-- no seat has made a call
+abbrev pub AreNew : {K : Type 0} {g : keeps.Ghosts K} → List (Seat K g) → Type 0
+AreNew {K} {g} seats = (k : ℕ) (s : Seat K g) → get_elem? seats k ≡ some s → HasMadeNone s.token.me.0
+
+-- no seat has made a region
+abbrev pub AreUnused : {K : Type 0} {g : keeps.Ghosts K} → List (Seat K g) → Type 0
+AreUnused {K} {g} seats = (k : ℕ) (s : Seat K g) → get_elem? seats k ≡ some s → s.token.me.0.regions ≡ 0
+
+-- the line has n nodes, this number, this opening, and this fact
+pub record HasTerms {K : Type 0} (l : CoarseLine K) (n m : ℕ) (line : Line) (k : K) : Type 0 where
   pub nodes : l.terms.nodes ≡ n
   pub number : l.terms.number ≡ m
+  pub opening : l.terms.opening ≡ line
   pub keep : l.terms.keep ≡ k
 
 -- each seat is one of this very line, and Idle

@@ -1,7 +1,7 @@
 //! How a line is made, with its seats.
 ghost use Rattle.std.specs.Prelude.{◌≡◌, ◌<◌, ◌≤◌, ◌⊎◌, ◌↔◌, ℕ, Some, false, [], IfOk, vec_len, vec_capacity};
 ghost use Rattle.sci_core.specs.declared.pending.Pending.TheVariants.{Idle};
-ghost use Rattle.sci_coarse.specs.Seats.{AreIdleFrom, HasTerms};
+ghost use Rattle.sci_coarse.specs.Seats.{AreIdleFrom, AreNew, HasTerms};
 ghost use Rattle.sci_coarse.specs.Views.{first_view};
 
 use crate::line::CoarseLine;
@@ -53,8 +53,9 @@ impl<K: Keeps> CoarseLine<K> {
     ) -> Result<(CoarseLine<K>, Vec<Seat<K>>), OpenRefusal>
         requires { K.fits keep number line.words }
         ensures nodes { (result ≡ Err OpenRefusal.BadNodes) ↔ ((nodes ≡ 0) ⊎ (64 < nodes)) }
-        ensures terms { IfOk result (λ r. HasTerms r.0 nodes number keep) }
+        ensures terms { IfOk result (λ r. HasTerms r.0 nodes number line keep) }
         ensures seats { IfOk result (λ r. (vec_len r.1 ≡ nodes) × AreIdleFrom r.0 0 r.1.items) }
+        ensures new { IfOk result (λ r. AreNew r.1.items) }
     {
         let whole = Whole::open(alloc, nodes, number, line, keep)?;
         // What is opened is lawful.
@@ -65,6 +66,7 @@ impl<K: Keeps> CoarseLine<K> {
         let terms = Terms {
             nodes,
             number,
+            opening: line,
             keep,
         };
         let Ok((table, root)) = Table::new(alloc, &[0], slots, &terms) else {
@@ -82,6 +84,7 @@ impl<K: Keeps> CoarseLine<K> {
         requires room { (seats.old.items ≡ []) × (vec_len seats.old ≡ 0) × (self.now.terms.nodes ≤ vec_capacity seats.old) }
         ensures len { vec_len seats.new ≡ self.now.terms.nodes }
         ensures seats { AreIdleFrom self.now 0 seats.new.items }
+        ensures new { AreNew seats.new.items }
     {
         for number in 1..self.terms.nodes {
             let token = self.table.shared.split_seat::<Apart>(&mut root);

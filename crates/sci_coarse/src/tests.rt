@@ -4,6 +4,7 @@ ghost use Rattle.sci_core.specs.declared.pending.Pending.TheVariants.{Idle};
 ghost use Rattle.sci_coarse.specs.Seats.{IsSeatOf};
 
 mod growths;
+mod recorded;
 mod replays;
 
 use super::*;
@@ -87,10 +88,26 @@ fn seats_of(alloc: Global, nodes: u16) -> Result<usize, u8> {
     }
 }
 
+// How many tags a line of so many nodes closes with that nobody used.
+fn tags_of(alloc: Global, nodes: u16) -> Option<usize> {
+    let Ok((line, seats)) = CoarseLine::new(alloc, nodes, 7, OPENING, AnyWords) else {
+        return None;
+    };
+    let Ok(closed) = line.finish(alloc, seats) else {
+        return None;
+    };
+    Some(closed.tags.len())
+}
+
 #[test]
-fn opens_with_1_to_64_nodes(rt: HostRuntime) {
-    for (nodes, seats) in [(0, Err(6)), (1, Ok(1)), (64, Ok(64)), (65, Err(6))] {
-        assert_eq!(rt; seats_of(rt.alloc(), nodes), seats, "with {nodes}");
+fn opens_and_finishes_with_1_to_64_nodes(rt: HostRuntime) {
+    for nodes in 1..65 {
+        let count = usize::from(nodes);
+        assert_eq!(rt; seats_of(rt.alloc(), nodes), Ok(count), "with {nodes}");
+        assert_eq!(rt; tags_of(rt.alloc(), nodes), Some(count), "with {nodes}");
+    }
+    for nodes in [0, 65, u16::MAX] {
+        assert_eq!(rt; seats_of(rt.alloc(), nodes), Err(6), "with {nodes}");
     }
 }
 

@@ -1,14 +1,15 @@
 //! What a seat knows of its line, the rule of the line's table, and what each step of the table tells.
 use atomic_table::{Join, Play, Split, TableRule};
-use sci_core::{Keeps, Pending, Whole};
+use sci_core::{Keeps, Line, Pending, Whole};
 use sci_words::LineNo;
 use std::marker::PhantomData;
 
-/// What is fixed of a line: how many nodes it has, its number, and which words fit it.
+/// What is fixed of a line: how many nodes it has, its number, what it was opened with, and which words fit it.
 #[derive(Clone, Copy)]
 pub struct Terms<K: Keeps> {
     pub nodes: u16,
     pub number: LineNo,
+    pub opening: Line,
     pub keep: K,
 }
 
@@ -86,7 +87,7 @@ pub struct Together;
 impl<K: Keeps> Join<View<K>> for Together {
     ghost use Rattle.sci_coarse.specs.Views.{joined_view, spent_view};
 
-    ghost both = { λ v w. joined_view w.node v };
+    ghost both = { λ v w. joined_view v w };
 
     ghost spent = { spent_view };
 }

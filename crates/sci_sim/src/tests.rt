@@ -43,6 +43,16 @@ impl Read for Broken {
     }
 }
 
+/// Is interrupted at each read.
+#[derive(Drop)]
+struct Interrupted;
+
+impl Read for Interrupted {
+    fn read(&mut self, _buf: &mut [u8]) -> io::Result<usize> {
+        Err(io::Error::from(ErrorKind::Interrupted))
+    }
+}
+
 /// Takes two bytes a write, and fails when it is full; each other write is interrupted.
 #[derive(Drop)]
 struct Narrow {
@@ -134,6 +144,9 @@ fn one_byte_at_a_time(rt: HostRuntime) {
 fn readers_and_writers_that_fail(rt: HostRuntime) {
     let mut out = Vec::new(rt.alloc());
     let end = serve_script(rt.alloc(), &mut Broken, &mut out);
+    assert_eq!(rt; end, Err(SimFault::CannotRead));
+    assert!(rt; out.is_empty());
+    let end = serve_script(rt.alloc(), &mut Interrupted, &mut out);
     assert_eq!(rt; end, Err(SimFault::CannotRead));
     assert!(rt; out.is_empty());
     let mut writer = Narrow {

@@ -1,41 +1,18 @@
 //! The events that passed through a recorder to a line that is lent, made again on a line under its lock word.
-ghost use Rattle.std.specs.Prelude.{◌≡◌};
+ghost use Rattle.std.specs.Prelude.{◌≡◌, All, IfSome, IsTrue};
+ghost use Rattle.sci_core.specs.declared.pending.Pending.TheVariants.{Idle};
 ghost use Rattle.sci_coarse.specs.Seats.{IsSeatOf};
 
-use super::{closed, opened};
+mod rows;
+
+use super::is_idle;
 use crate::{CoarseLine, CoarsePort, Seat};
-use sci_core::{AnyWords, Event, Line, Outcome, Whole};
-use sci_ops::{Answer, BadWord, Op, Turn};
-use sci_port::recording::{Recorder, Trace};
-use sci_port::{Port, Solo};
+use sci_core::{AnyWords, Closed, Event, Line, Outcome, Whole};
+use sci_port::Port;
 use sci_words::NodeId;
+use std::alloc::Global;
 use std::process::Abort;
 use std::test::Fail;
-
-const TURNS: usize = 100;
-
-// The operation's answer, with its events recorded.
-#[tactic(auto, using(sci_ops::proofs::Storing::any_store_fits))]
-fn record(
-    whole: &mut Whole<AnyWords>,
-    trace: &mut Trace,
-    number: u16,
-    op: Result<Op, BadWord>,
-) -> Option<Answer> {
-    let mut op = op.ok()?;
-    let node = NodeId::new(number)?;
-    if node.get() >= whole.nodes() {
-        return None;
-    }
-    let mut solo = Solo::new(whole, node);
-    let mut port = Recorder::new(&mut solo, trace);
-    for _ in 0..TURNS {
-        if let Turn::Done(answer) = op.turn(&mut port) {
-            return Some(answer);
-        }
-    }
-    None
-}
 
 // An event on the line that is lent, if it is in turn.
 #[tactic(auto, using(sci_core::proofs::Fitting::any_event_fits))]
@@ -60,6 +37,37 @@ fn step_port(port: &mut CoarsePort<'_, AnyWords>, event: Event) -> Option<Outcom
     }
 }
 
+// A node's tag on both lines.
+fn has_tag_of(port: &mut CoarsePort<'_, AnyWords>, whole: &Whole<AnyWords>, number: u16) -> bool
+    ensures same_line { port.new.line ≡ port.old.line }
+    ensures same_reference { port.new.seat.ghost_name ≡ port.old.seat.ghost_name }
+{
+    let Some(node) = NodeId::new(number) else {
+        return false;
+    };
+    if node.get() < whole.nodes() && node.get() < port.nodes() {
+        port.tag(node) == Some(whole.tag(node))
+    } else {
+        false
+    }
+}
+
+// The words of both lines, and the pending step of the port's node.
+fn has_words_of(port: &mut CoarsePort<'_, AnyWords>, whole: &Whole<AnyWords>) -> bool
+    ensures same_line { port.new.line ≡ port.old.line }
+    ensures same_reference { port.new.seat.ghost_name ≡ port.old.seat.ghost_name }
+{
+    let node = port.node();
+    if node.get() >= whole.nodes() || port.pending() != whole.pending(node) {
+        return false;
+    }
+    let mut same = port.mem() == Some(whole.mem());
+    for number in 0..whole.nodes() {
+        same = has_tag_of(port, whole, number) && same;
+    }
+    same
+}
+
 // An event of a seat, if it is in turn.
 fn step_seat(
     line: &CoarseLine<AnyWords>,
@@ -73,61 +81,133 @@ fn step_seat(
     step_port(&mut port, event)
 }
 
-// Makes the events on both lines, and compares each outcome.
-fn replay(
-    rt: &impl Abort,
-    events: &[(NodeId, Event)],
-    whole: &mut Whole<AnyWords>,
-    line: &CoarseLine<AnyWords>,
-    mut zero: Seat<AnyWords>,
-    mut one: Seat<AnyWords>,
-) -> (Seat<AnyWords>, Seat<AnyWords>)
-    requires { IsSeatOf line.now zero × IsSeatOf line.now one }
-    ensures { IsSeatOf line.now result.0 × IsSeatOf line.now result.1 }
+// Whether a seat finds the words, and its node's pending step, of the line that is lent.
+fn finds(line: &CoarseLine<AnyWords>, seat: &mut Seat<AnyWords>, whole: &Whole<AnyWords>) -> bool
+    requires { IsSeatOf line.now seat.old }
+    ensures { IsSeatOf line.now seat.new }
 {
-    for (node, event) in events {
-        let wanted = step_whole(whole, *node, *event);
-        let outcome = if *node == zero.node() {
-            step_seat(line, &mut zero, *event)
-        } else {
-            step_seat(line, &mut one, *event)
-        };
-        assert!(rt; wanted.is_some());
-        assert_eq!(rt; outcome, wanted, "{event:?} of {node:?}");
-    }
-    (zero, one)
+    let mut port = line.port(seat);
+    has_words_of(&mut port, whole)
 }
 
-#[test]
-fn replays_what_was_recorded(rt: HostRuntime) -> Result<(), Fail> {
-    let mut whole = Whole::open(rt.alloc(), 2, 0, Line::ZERO, AnyWords)?;
-    let mut trace = Trace::new(rt.alloc());
-    for (number, op) in [
-        (0, Ok(Op::load())),
-        (1, Ok(Op::load())),
-        (0, Op::store(2, 5)),
-        (1, Op::add(2, 1)),
-        (0, Ok(Op::evict())),
-    ] {
-        let answer = record(&mut whole, &mut trace, number, op);
-        assert!(rt; answer.is_some(), "by {number}");
-    }
-    let events = trace.events()?;
-    let mut again = Whole::open(rt.alloc(), 2, 0, Line::ZERO, AnyWords)?;
-    let (line, zero, one) = opened(rt.alloc(), Line::ZERO).ok_or("no line")?;
-    let (zero, one) = replay(&rt, events, &mut again, &line, zero, one);
-    let Ok(left) = closed(rt.alloc(), line, zero, one) else {
-        panic!(rt; "it was refused")
-    };
-    assert_eq!(rt; left.mem, whole.mem());
-    for number in 0..2 {
-        let node = NodeId::new(number).ok_or("no node")?;
-        if node.get() < whole.nodes() {
-            let place = usize::from(number);
-            assert_eq!(rt; left.tags.get(place), Some(&whole.tag(node)));
-            assert_eq!(rt; left.lines.get(place), Some(&whole.line(node)));
+// Makes an event on both lines. Whether outcome and words are the same.
+fn step_alike(
+    line: &CoarseLine<AnyWords>,
+    seat: &mut Seat<AnyWords>,
+    whole: &mut Whole<AnyWords>,
+    event: &Event,
+) -> bool
+    requires { IsSeatOf line.now seat.old }
+    ensures { IsSeatOf line.now seat.new }
+{
+    let wanted = step_whole(whole, seat.node(), *event);
+    let outcome = step_seat(line, seat, *event);
+    let same = finds(line, seat, whole);
+    same && wanted.is_some() && outcome == wanted
+}
+
+// The same, with the node's seat. Whether it was found, and outcome and words are the same.
+fn replay(
+    line: &CoarseLine<AnyWords>,
+    seats: &mut [Seat<AnyWords>],
+    whole: &mut Whole<AnyWords>,
+    node: NodeId,
+    event: &Event,
+) -> bool
+    requires { All (λ s. IsSeatOf line.now s) seats.old }
+    ensures { All (λ s. IsSeatOf line.now s) seats.new }
+{
+    let mut alike = false;
+    for seat in seats.iter_mut() {
+        if seat.node() == node {
+            alike = step_alike(line, seat, whole, event);
         }
     }
-    assert_eq!(rt; left.memory, whole.memory_line());
+    alike
+}
+
+// Makes the events on both lines, and compares after each.
+fn replay_all(
+    rt: &impl Abort,
+    line: &CoarseLine<AnyWords>,
+    seats: &mut [Seat<AnyWords>],
+    whole: &mut Whole<AnyWords>,
+    events: &[(NodeId, Event)],
+)
+    requires { All (λ s. IsSeatOf line.now s) seats.old }
+    ensures { All (λ s. IsSeatOf line.now s) seats.new }
+{
+    for (place, (node, event)) in events.iter().enumerate() {
+        let alike = replay(line, seats, whole, *node, event);
+        assert!(rt; alike, "event {place}, {event:?} of {node:?}");
+    }
+}
+
+// A line of so many nodes with this opening, and its seats.
+fn opened(
+    alloc: Global,
+    nodes: u16,
+    opening: Line,
+) -> Option<(CoarseLine<AnyWords>, Vec<Seat<AnyWords>>)>
+    ensures { IfSome result (λ r. All (λ s. IsSeatOf r.0 s) r.1.items) }
+{
+    let Ok((line, seats)) = CoarseLine::new(alloc, nodes, 0, opening, AnyWords) else {
+        return None;
+    };
+    Some((line, seats))
+}
+
+fn are_idle(seats: &[Seat<AnyWords>]) -> bool
+    ensures { IsTrue result → All (λ s. s.standing.pending ≡ Idle) seats.now }
+{
+    for seat in seats {
+        if !is_idle(seat) {
+            return false;
+        }
+    }
+    true
+}
+
+// The line, closed. None: a seat is not Idle, or memory ran out.
+fn closed(alloc: Global, line: CoarseLine<AnyWords>, seats: Vec<Seat<AnyWords>>) -> Option<Closed>
+    requires { All (λ s. IsSeatOf line s) seats.items }
+{
+    if !are_idle(&seats) {
+        return None;
+    }
+    line.finish(alloc, seats).ok()
+}
+
+// The words and bytes of a closed line, and those of one that is lent.
+fn is_left_as(closed: &Closed, whole: &Whole<AnyWords>) -> bool {
+    for number in 0..whole.nodes() {
+        let Some(node) = NodeId::new(number) else {
+            return false;
+        };
+        let place = usize::from(number);
+        if node.get() >= whole.nodes()
+            || closed.tags.get(place) != Some(&whole.tag(node))
+            || closed.lines.get(place) != Some(&whole.line(node))
+        {
+            return false;
+        }
+    }
+    closed.mem == whole.mem() && closed.memory == whole.memory_line()
+}
+
+// Makes the events on a line that is lent and on one under its lock word, to the end, where no node is in a step.
+fn replay_run(
+    rt: &impl Abort,
+    alloc: Global,
+    nodes: u16,
+    opening: Line,
+    events: &[(NodeId, Event)],
+) -> Result<(), Fail> {
+    assert!(rt; !events.is_empty());
+    let mut whole = Whole::open(alloc, nodes, 0, opening, AnyWords)?;
+    let (line, mut seats) = opened(alloc, nodes, opening).ok_or("no line")?;
+    replay_all(rt, &line, seats.as_mut_slice(), &mut whole, events);
+    let left = closed(alloc, line, seats).ok_or("the nodes are not done")?;
+    assert!(rt; is_left_as(&left, &whole));
     Ok(())
 }

@@ -52,7 +52,7 @@ fn is_same(one: &Whole<AnyWords>, other: &Whole<AnyWords>) -> bool {
 fn replays_what_a_recorder_kept(rt: HostRuntime) -> Result<(), Fail> {
     let mut whole = Whole::open(rt.alloc(), 3, 0, Line::ZERO, AnyWords)?;
     let mut again = Whole::open(rt.alloc(), 3, 0, Line::ZERO, AnyWords)?;
-    let mut trace = Trace::new(rt.alloc());
+    let mut trace = Trace::new(Vec::with_capacity(rt.alloc(), 1_000)?);
     let mut replayed = 0;
     for ops in [
         [Op::load(), Op::load(), Op::load()],
@@ -64,7 +64,7 @@ fn replays_what_a_recorder_kept(rt: HostRuntime) -> Result<(), Fail> {
         for _ in 0..40 {
             for (number, op) in (0..3).zip(ops.iter_mut()) {
                 assert!(rt; turn(&mut whole, &mut trace, number, op).is_some());
-                let events = trace.events()?;
+                let events = trace.events().ok_or("no room")?;
                 assert!(rt; replay(&mut again, events, replayed));
                 assert!(rt; is_same(&whole, &again), "after {} events", events.len());
                 replayed = events.len();

@@ -1,5 +1,3 @@
-use Rattle.std.proofs.Common.{◌∙◌, ◌<◌, ◌≡◌, arith}
-use Rattle.sci_core.specs.Whole.{nodes_of}
 use Rattle.sci_port.proofs.Lent.{step_gives}
 use Rattle.sci_coarse.proofs.Calling.{fits_in}
 use Rattle.sci_coarse.proofs.calls.step_whole.Goals as goal

@@ -1,4 +1,4 @@
-use Rattle.std.proofs.Common.{rules, ◌≡◌, ◌+◌, ℕ, refl, subst, inr, arith}
+use Rattle.std.proofs.Common.{rules, ◌≡◌, refl, sym, subst, inl, inr, arith}
 use Rattle.sci_coarse.specs.Seats.{IsOnePerNode}
 use Rattle.sci_coarse.proofs.line.CoarseLine.finish.Goals as goal
 
@@ -12,3 +12,17 @@ join_all-root-requires-clause-seats g c =
 
 pub returns-clause-seats : goal.returns-clause-seats
 returns-clause-seats g c = subst (λ l. IsOnePerNode c.args.self l) c.deref.ensures.value (c.has_seats.ensures.0 (search rules))
+
+pub returns-then-not-has_seats-clause-err : goal.returns-then-not-has_seats-clause-err
+returns-then-not-has_seats-clause-err g c = (refl, refl, inl (refl, λ one. let yes = c.has_seats.ensures.1 (subst (λ l. IsOnePerNode c.args.self l) (sym c.deref.ensures.value) one) in search rules))
+
+pub returns-clause-ok : goal.returns-clause-ok
+returns-clause-ok g c = let left = c.lay_open-whole.ensures in record {
+  whole = c.lay_open-whole.result;
+  on = left.on;
+  lawful = left.lawful;
+  idle = left.idle;
+  unused = λ u. left.unused (c.join_all-root.ensures.unused u);
+  read = c.closed_in.ensures.read;
+  exact = c.closed_in.ensures.exact;
+}

@@ -1,4 +1,4 @@
-use Rattle.std.proofs.Common.{◌<◌, arith}
+use Rattle.std.proofs.Common.{arith}
 use Rattle.sci_coarse.proofs.Locks.{gives_as}
 use Rattle.sci_coarse.proofs.line.CoarseLine.give.Goals as goal
 

@@ -1,5 +1,7 @@
-use Rattle.std.proofs.Common.{◌<◌, ◌≡◌, ◌+◌, Some, length, rules, arith, sym, ◌∙◌, ap}
+use Rattle.std.proofs.Common.{◌<◌, ◌≡◌, Some, length, arith, ◌∙◌, ap}
 use Rattle.sci_coarse.proofs.Seating.{joins_as}
+use Rattle.atomic_table.proofs.Lists.{at_index}
+use Rattle.sci_coarse.proofs.Listed.{each_others, each_last}
 use Rattle.sci_coarse.proofs.Ordered.{first_of, others_of, last_of}
 use Rattle.sci_coarse.proofs.line.CoarseLine.join_all.Goals as goal
 
@@ -16,6 +18,7 @@ loop-seat-init g c =
       joined = s.seen.2 ∙ (ap (λ x. x.nodes) f.0.1 ∙ (omega arith));
       idle = s.seen.1 ∙ f.2;
       seats = others_of c.args.self.now c.args.seats.items r.new.self.items c.requires.seats r.ensures.items;
+      unused = λ none. (none 0 s (at_index c.args.seats.items 0 s some_seat r.ensures.value), each_others _ c.args.seats.items r.new.self.items none r.ensures.items);
     }
 
 pub join_seat-requires : goal.join_seat-requires
@@ -37,4 +40,5 @@ loop-seat-preserved g c =
       joined = ap (λ v. v.joined) me ∙ (omega (arith, c.pop.new.self.ok));
       idle = ap (λ v. v.pending) me ∙ i.idle;
       seats = l.1;
+      unused = λ none. let was = i.unused none in let u = each_last (λ x. x.token.me.0.regions ≡ 0) c.loop-seat.seats.items c.pop.new.self.items s was.1 c.in-Some.ensures.items in let mine = was.0 in let its = u.0 in (ap (λ v. v.regions) me ∙ (omega arith), u.1);
     }

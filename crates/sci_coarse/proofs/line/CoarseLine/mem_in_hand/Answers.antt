@@ -1,9 +1,6 @@
-use Rattle.std.proofs.Common.{◌≡◌, ◌<◌, ℕ, true, Some, refl, sym, ◌∙◌, ap, subst}
-use Rattle.sci_core.specs.Whole.{WholeLine, nodes_of, state_of}
-use Rattle.sci_core.specs.Answers.{is_allowed}
-use Rattle.sci_port.specs.Call.{Own, MemWas, TagWas, Stepped}
-use Rattle.sci_coarse.specs.Rule.{IsOn}
-use Rattle.sci_coarse.proofs.Lending.{whole_hand, same_hand, lent, same_given}
+use Rattle.std.proofs.Common.{Some}
+use Rattle.sci_port.specs.Call.{MemWas}
+use Rattle.sci_coarse.proofs.Lending.{whole_hand, lent}
 use Rattle.sci_coarse.proofs.line.CoarseLine.mem_in_hand.Goals as goal
 
 pub slot_mut-whole-requires : goal.slot_mut-whole-requires

@@ -1,6 +1,8 @@
-use Rattle.std.proofs.Common.{◌<◌, ◌≡◌, ◌+◌, ℕ, length, rules, arith, sym, ◌∙◌, ap, subst, List}
-use Rattle.sci_coarse.specs.Seats.{AreIdleFrom}
+use Rattle.std.proofs.Common.{◌≡◌, ◌+◌, length, rules, arith, sym, ◌∙◌, subst}
+use Rattle.sci_coarse.specs.Seats.{AreIdleFrom, AreNew}
 use Rattle.sci_coarse.proofs.Seating.{splits_as}
+use Rattle.sci_coarse.specs.Views.{HasMadeNone}
+use Rattle.sci_coarse.proofs.Listed.{each_more}
 use Rattle.sci_coarse.proofs.Ordered.{one_more}
 use Rattle.sci_coarse.proofs.line.CoarseLine.seat_all.Goals as goal
 
@@ -25,4 +27,6 @@ loop-number-preserved g c =
       room = search rules;
       seats = subst (AreIdleFrom c.args.self.now 1) (sym c.push_reserved.ensures.items)
           (one_more c.args.self.now 1 old.items c.idle_seat.result i.seats (search rules) (made.node ∙ c.node_of.ensures ∙ here) made.standing.1);
+      none = (search rules, search rules, search rules, search rules);
+      fresh = subst AreNew (sym c.push_reserved.ensures.items) (each_more (λ x. HasMadeNone x.token.me.0) old.items c.idle_seat.result i.fresh (search rules, search rules, search rules, search rules));
     }

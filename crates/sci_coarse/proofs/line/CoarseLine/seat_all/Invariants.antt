@@ -1,7 +1,8 @@
 use Rattle.std.proofs.Common.{◌≡◌, ◌+◌, ◌≤◌, Some, false, [], vec_len}
 use Rattle.std.specs.Prelude.{vec_capacity}
 use Rattle.sci_core.specs.declared.pending.Pending.TheVariants.{Idle}
-use Rattle.sci_coarse.specs.Seats.{AreIdleFrom}
+use Rattle.sci_coarse.specs.Seats.{AreIdleFrom, AreNew}
+use Rattle.sci_coarse.specs.Views.{HasMadeNone}
 use Rattle.sci_coarse.proofs.line.CoarseLine.seat_all.Given as goal
 
 abbrev pub invariant-loop-number : goal.invariant-loop-number
@@ -17,4 +18,6 @@ invariant-loop-number g l = record {
   len : vec_len l.seats + 1 ≡ l.number;
   room : l.self.terms.nodes ≤ vec_capacity l.seats;
   seats : AreIdleFrom l.self 1 l.seats.items;
+  none : HasMadeNone l.root.me.0;
+  fresh : AreNew l.seats.items;
 }
