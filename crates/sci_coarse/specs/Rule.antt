@@ -64,7 +64,8 @@ abbrev pub HasNoMiss : {K : Type 0} → List (View K) → Type 0
 HasNoMiss {K} views = (j : ℕ) (v : View K) → get_elem? views j ≡ some v → v.misses ≡ 0
 
 -- one lock word, and one slot. There is a whole line that is lawful, at home or out with one seat, and each seat's step is
--- its node's there. Until a region is made it is the line as it was opened
+-- its node's there. Until a region is made it is the line as it was opened,
+-- and no seat has found the lock word taken while it is free
 pub record Locked {K : Type 0} (fits : K → ℕ → List ℕ → Type 0) (t : Terms K) (s : Shared K) : Type 0 where
   pub whole : WholeLine K
   pub on : IsOn t whole

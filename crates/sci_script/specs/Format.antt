@@ -71,7 +71,7 @@ values_at n (word ∷ words) = do
   values ← values_at n words
   Ok (value ∷ values)
 
--- the words behind the name: `open L S W0 W1 W2 W3 W4 W5 W6 W7`
+-- the words behind the name: `open L S V V V V V V V V`
 unfoldable pub opening_at : ℕ → Size → List (List ℕ) → Result Opening ScriptRefusal
 opening_at n size (line ∷ stamp ∷ words) =
     if length words == 8

@@ -62,7 +62,7 @@ fn values(number: u64, words: &[&[u8]]) -> Result<[u64; 8], ScriptRefusal>
     Ok(values)
 }
 
-/// `open L S W0 W1 W2 W3 W4 W5 W6 W7`
+/// `open L S V V V V V V V V`
 #[tactic(auto, unfolding(crate::specs::Format::opening_at))]
 fn opened(number: u64, size: Size, args: &[&[u8]]) -> Result<Opening, ScriptRefusal>
     requires { IsSize size }
