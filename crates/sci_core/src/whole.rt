@@ -114,10 +114,10 @@ impl<K: Keeps> Whole<K> {
     }
 
     /// A node's pending step as it stands.
-    pub fn pending(&self, node: NodeId) -> Pending
+    pub fn pending(&self, node: NodeId) -> &Pending
         requires { node < nodes_of self.now }
-        ensures { result ≡ (state_of self.now).steps node }
+        ensures { result.now ≡ (state_of self.now).steps node }
     {
-        self.steps[usize::from(node.get())]
+        &self.steps[usize::from(node.get())]
     }
 }

@@ -99,7 +99,7 @@ impl Op {
         if let Some(answer) = self.answer {
             return Turn::Done(answer);
         }
-        read_stamp(&port.pending());
+        read_stamp(port.pending());
         let turn = turn_towards(port, self.goal);
         if let Turn::Done(answer) = turn {
             self.answer = Some(answer);

@@ -12,7 +12,7 @@ use faults::SimFault;
 use serve::serve_script;
 use std::alloc::AllocError;
 use std::fs::File;
-use std::io::{self, ErrorKind};
+use std::io::{self, BufWriter, ErrorKind, Write};
 use std::process::ExitCode;
 
 fn command<'a>(rt: &impl AllocGlobal) -> Result<Command<'a>, AllocError> {
@@ -28,13 +28,20 @@ fn command<'a>(rt: &impl AllocGlobal) -> Result<Command<'a>, AllocError> {
 }
 
 fn script(rt: &HostRuntime, path: Option<&str>) -> Result<(), SimFault> {
-    let mut output = io::writer(rt);
-    match path {
+    let mut output = BufWriter::with_capacity(rt.alloc(), 65_536, io::writer(rt)).map_err(
+        |_| SimFault::from(AllocError),
+    )?;
+    let served = match path {
         Some(path) => match File::open(rt, path) {
             Ok(mut file) => serve_script(rt.alloc(), &mut file, &mut output),
             Err(_) => Err(SimFault::CannotRead),
         },
         None => serve_script(rt.alloc(), &mut rt.reader(), &mut output),
+    };
+    // What was written before a refusal leaves the buffer too, and a failed write comes first.
+    match output.flush() {
+        Ok(()) => served,
+        Err(_) => Err(SimFault::CannotWrite),
     }
 }
 
