@@ -16,9 +16,9 @@ use Rattle.sci_dump.specs.Rules.{tag, line, Decides, Ends, KeepsSettled, KeepsEn
 
 pub each_more : (P : ℕ → Type 0) (k : ℕ) → ((i : ℕ) → i < k → P i) → P k → (i : ℕ) → i < k + 1 → P i
 each_more P k h p i lt = elim (cases_lt i k) [
-    | inl l ↦ h i l
-    | inr g ↦ let e : k ≡ i = omega arith in subst P e p
-  ]
+  | inl l ↦ h i l
+  | inr g ↦ let e : k ≡ i = omega arith in subst P e p
+]
 
 abbrev pub IsSettledTag : Tag → Type 0
 IsSettledTag t = (t.held ≡ false) × (is_closed_kind t.kind ≡ true)

@@ -27,7 +27,7 @@ pub node_more : (tags : List Tag) (lines : List Line) (number node k j n : ℕ) 
 unfolding entries_at
 node_more tags lines number node k j n text entry total count h so_far =
     let one : with_nodes tags lines (entries_at number node (suc j) n text) ≡ with_nodes (tags ++ entry.0 ∷ []) (lines ++ entry.1 ∷ []) (entries_at number (node + 1) j entry.2 entry.3) =
-        rw h (regroup_nodes tags lines entry.0 entry.1 (entries_at number (node + 1) j entry.2 entry.3)) in
+    rw h (regroup_nodes tags lines entry.0 entry.1 (entries_at number (node + 1) j entry.2 entry.3)) in
     sym one ∙ (rw count at so_far)
 
 pub node_fault : (tags : List Tag) (lines : List Line) (number node k j n : ℕ) (text : List ℕ) (total : Nodes)
@@ -63,7 +63,7 @@ pub line_more : (lines : List ClosedLine) (number k j nodes n : ℕ) (text : Lis
 unfolding lines_at
 line_more lines number k j nodes n text found total count h so_far =
     let one : with_lines lines (lines_at number (suc j) nodes n text) ≡ with_lines (lines ++ found.0 ∷ []) (lines_at (number + 1) j nodes found.1 found.2) =
-        rw h (regroup_lines lines found.0 (lines_at (number + 1) j nodes found.1 found.2)) in
+    rw h (regroup_lines lines found.0 (lines_at (number + 1) j nodes found.1 found.2)) in
     sym one ∙ (rw count at so_far)
 
 through : {A B : Type 0} (e : DumpRefusal) (read : Result A DumpRefusal) (total : Result B DumpRefusal) → Fails e read → (read ≡ Err e → total ≡ Err e) → Fails e total

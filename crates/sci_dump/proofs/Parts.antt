@@ -18,12 +18,12 @@ front_place text =
 pub front_digits : (text : List ℕ) → list_all is_ascii_digit (take (digits_in_front text) text) ≡ true
 front_digits [] = refl
 front_digits (b ∷ text) = elim (cases_Bool (is_ascii_digit b)) [
-    | inl digit ↦
-        let count : digits_in_front (b ∷ text) ≡ suc (digits_in_front text) = rw digit (omega arith) in
-        let all : list_all is_ascii_digit (b ∷ take (digits_in_front text) text) ≡ true = rw digit (front_digits text) in
-        subst (λ (z : ℕ). list_all is_ascii_digit (take z (b ∷ text)) ≡ true) (sym count) all
-    | inr other ↦ rw other refl
-  ]
+  | inl digit ↦
+      let count : digits_in_front (b ∷ text) ≡ suc (digits_in_front text) = rw digit (omega arith) in
+      let all : list_all is_ascii_digit (b ∷ take (digits_in_front text) text) ≡ true = rw digit (front_digits text) in
+      subst (λ (z : ℕ). list_all is_ascii_digit (take z (b ∷ text)) ≡ true) (sym count) all
+  | inr other ↦ rw other refl
+]
 
 -- what is read behind these values
 abbrev pub with_values : List ℕ → Option (List ℕ × List ℕ) → Option (List ℕ × List ℕ)

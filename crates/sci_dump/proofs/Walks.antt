@@ -55,10 +55,10 @@ path_distinct forw [] from p = λ i j d l m. absurd (omega arith)
 path_distinct forw (x ∷ xs) from p =
     AllPairs-cons (λ i j. i ≢ j) x xs
     (λ k d lt e.
-      let again : IsPath (Some x) forw (drop k xs) = subst (λ (y : ℕ). IsPath (Some y) forw (drop k xs)) (sym e) (path_at forw xs (forw x) k d lt p.1) in
-      let same : x ∷ xs ≡ drop k xs = path_unique forw (x ∷ xs) (drop k xs) (Some x) (refl, p.1) again in
-      let len = ap length same in
-      absurd (omega (arith, len, length-drop k xs)))
+    let again : IsPath (Some x) forw (drop k xs) = subst (λ (y : ℕ). IsPath (Some y) forw (drop k xs)) (sym e) (path_at forw xs (forw x) k d lt p.1) in
+    let same : x ∷ xs ≡ drop k xs = path_unique forw (x ∷ xs) (drop k xs) (Some x) (refl, p.1) again in
+    let len = ap length same in
+    absurd (omega (arith, len, length-drop k xs)))
     (path_distinct forw xs (forw x) p.1)
 
 -- where the walk has come after k nodes, all below n

@@ -35,10 +35,7 @@ pub enum Verdict {
     /// Each line is an exact sharing list.
     Lawful,
     /// This line is the first that isn't one, and this is the first rule that it breaks.
-    Unlawful {
-        line: LineNo,
-        rule: Rule,
-    },
+    Unlawful { line: LineNo, rule: Rule },
 }
 
 /// How many nodes a line has.

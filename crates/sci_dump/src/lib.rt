@@ -4,8 +4,8 @@
 mod checking;
 mod dumps;
 mod fields;
-mod refusals;
 mod reader;
+mod refusals;
 mod rows;
 #[cfg(test)]
 mod tests;

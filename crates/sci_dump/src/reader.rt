@@ -5,9 +5,9 @@ ghost use Rattle.sci_words.specs.Tag.{tag_well_formed};
 ghost use Rattle.sci_dump.specs.Reading.{Gives, Reads, entry_at, entries_at, closed_at, lines_at, end_at, dump_of};
 
 use crate::dumps::{Dump, INVALID};
+use crate::fields::behind;
 use crate::refusals::DumpRefusal;
 use crate::rows::{behind_node, head_row, memory_row, tag_row};
-use crate::fields::behind;
 use sci_core::{Closed, Line};
 use sci_words::Tag;
 use std::alloc::Global;
@@ -15,12 +15,7 @@ use std::alloc::Global;
 /// A node's tag and line, and where the reading goes on: the number of the line of text, and the text from there on. Of a node
 /// that has no tag line they are those of an Invalid one.
 #[tactic(auto, unfolding(crate::specs::Reading::entry_at))]
-fn entry(
-    line: u64,
-    node: u64,
-    number: u64,
-    text: &[u8],
-) -> Option<(Tag, Line, u64, &[u8])>
+fn entry(line: u64, node: u64, number: u64, text: &[u8]) -> Option<(Tag, Line, u64, &[u8])>
     requires { number < 100000 }
     ensures exact { Reads (λ x. (x.0, x.1, x.2, x.3.now)) result (entry_at line node number text.now) }
     ensures well_formed { IfSome result (λ x. tag_well_formed x.0 ≡ true) }
@@ -131,12 +126,7 @@ struct Front<'a> {
 }
 
 /// The closed lines, from the second line of text on.
-fn read_lines(
-    alloc: Global,
-    nodes: u16,
-    count: u16,
-    text: &[u8],
-) -> Result<Front<'_>, DumpRefusal>
+fn read_lines(alloc: Global, nodes: u16, count: u16, text: &[u8]) -> Result<Front<'_>, DumpRefusal>
     requires nodes { nodes ≤ 64 }
     requires count { count ≤ 1024 }
     ensures exact { Gives (λ x. (x.lines.items, x.number, x.rest.now)) result (lines_at 0 count nodes 2 text.now) }

@@ -91,7 +91,11 @@ fn changed(rt: &impl Abort, alloc: Global, old: &str, new: &str) -> String {
 fn verdicts(rt: HostRuntime) {
     for (old, new, verdict) in &CHANGED {
         let text = changed(&rt, rt.alloc(), old, new);
-        assert_eq!(rt; check(&read(&rt, rt.alloc(), &text)), *verdict, "with {new}");
+        assert_eq!(rt;
+            check(&read(&rt, rt.alloc(), &text)),
+            *verdict,
+            "with {new}"
+        );
         assert_eq!(rt; again(&rt, rt.alloc(), &text), text);
     }
 }
@@ -108,15 +112,35 @@ fn the_first_line_that_breaks_a_rule(rt: HostRuntime) {
     let lines = read(&rt, rt.alloc(), TWO_LINES);
     assert_eq!(rt; check(&lines), Verdict::Lawful);
     assert_eq!(rt; lines.nodes, 2);
-    assert_eq!(rt; again(&rt, rt.alloc(), TWO_LINES), TWO_LINES);
+    let text = again(&rt, rt.alloc(), TWO_LINES);
+    assert!(rt; text.as_str() == TWO_LINES);
     let text = TWO_LINES
-        .replacen(rt.alloc(), "line 1 0000000000000102", "line 1 0000000000000002", 1)
+        .replacen(
+            rt.alloc(),
+            "line 1 0000000000000102",
+            "line 1 000000000000ff02",
+            1,
+        )
         .expect(&rt, "memory");
-    assert_eq!(rt; read_dump(rt.alloc(), text.as_bytes()).err(), Some(DumpRefusal::DumpFault(3)));
+    assert_eq!(rt;
+        read_dump(rt.alloc(), text.as_bytes()).err(),
+        Some(DumpRefusal::DumpFault(3))
+    );
     let text = TWO_LINES
-        .replacen(rt.alloc(), "line 1 0000000000000102", "line 1 0000000000000101", 1)
+        .replacen(
+            rt.alloc(),
+            "line 1 0000000000000102",
+            "line 1 0000000000000101",
+            1,
+        )
         .expect(&rt, "memory");
-    assert_eq!(rt; check(&read(&rt, rt.alloc(), &text)), Verdict::Unlawful { line: 1, rule: Rule::Suited });
+    assert_eq!(rt;
+        check(&read(&rt, rt.alloc(), &text)),
+        Verdict::Unlawful {
+            line: 1,
+            rule: Rule::Suited
+        }
+    );
 }
 
 /// A dump without its last bytes is refused at the line that is cut or missing.
@@ -126,7 +150,11 @@ fn cut_at_each_byte(rt: HostRuntime) {
     let mut line = 1;
     for end in 0..text.len() {
         let cut = read_dump(rt.alloc(), &text[..end]);
-        assert_eq!(rt; cut.err(), Some(DumpRefusal::DumpFault(line)), "cut at {end}");
+        assert_eq!(rt;
+            cut.err(),
+            Some(DumpRefusal::DumpFault(line)),
+            "cut at {end}"
+        );
         if text[end] == b'\n' {
             line += 1;
         }
@@ -150,7 +178,11 @@ const FAULTS: [(&str, &str, u64); 16] = [
     ("000000000001ff07", "000000000001FF07", 3),
     ("tag 0 1 ", "tag 0 0 ", 4),
     ("tag 0 2 0000000000ff0102", "tag 0 2 0000000000ffff00", 5),
-    ("0000000000020007 0", "0000000000020007 18446744073709551616", 4),
+    (
+        "0000000000020007 0",
+        "0000000000020007 18446744073709551616",
+        4,
+    ),
     ("end\n", "end\n\n", 7),
 ];
 
@@ -159,7 +191,11 @@ fn faults(rt: HostRuntime) {
     for (old, new, line) in &FAULTS {
         let text = changed(&rt, rt.alloc(), old, new);
         let read = read_dump(rt.alloc(), text.as_bytes());
-        assert_eq!(rt; read.err(), Some(DumpRefusal::DumpFault(*line)), "with {new}");
+        assert_eq!(rt;
+            read.err(),
+            Some(DumpRefusal::DumpFault(*line)),
+            "with {new}"
+        );
     }
 }
 
@@ -177,7 +213,10 @@ fn changed_in_each_byte(rt: HostRuntime) {
                     assert!(rt; again.as_bytes() == text.as_slice(), "byte {place}");
                 }
                 Err(refusal) => {
-                    assert!(rt; matches!(refusal, DumpRefusal::DumpFault(at) if line <= at && at <= 6), "byte {place}");
+                    assert!(rt;
+                        matches!(refusal, DumpRefusal::DumpFault(at) if line <= at && at <= 6),
+                        "byte {place}"
+                    );
                 }
             }
         }
@@ -220,7 +259,7 @@ fn dumps_a_closed_line(rt: HostRuntime) {
     }
     let closed = [line.closed(rt.alloc()).expect(&rt, "memory")];
     let text = dump(rt.alloc(), &closed).expect(&rt, "memory");
-    assert_eq!(rt; text, SHARED);
+    assert!(rt; text.as_str() == SHARED);
     let read = read(&rt, rt.alloc(), &text);
     assert_eq!(rt; read.lines.len(), 1);
     assert!(rt; read.lines[0].mem == closed[0].mem);

@@ -47,7 +47,13 @@ fn push_memory(text: &mut String, number: usize, closed: &Closed) -> Result<(), 
 
 /// `tag L N`, the node's tag, and its line.
 #[tactic(auto, unfolding(crate::specs::Text::tag_text))]
-fn push_tag(text: &mut String, number: usize, node: usize, tag: Tag, line: &Line) -> Result<(), AllocError>
+fn push_tag(
+    text: &mut String,
+    number: usize,
+    node: usize,
+    tag: Tag,
+    line: &Line,
+) -> Result<(), AllocError>
     requires { tag_well_formed tag ≡ true }
     ensures { OnOk result (string_bytes text.new ≡ string_bytes text.old ++ tag_text number node tag line.now) }
 {
@@ -57,7 +63,13 @@ fn push_tag(text: &mut String, number: usize, node: usize, tag: Tag, line: &Line
 
 /// The same for a node whose tag isn't Invalid.
 #[tactic(auto, unfolding(crate::specs::Text::node_text))]
-fn push_node(text: &mut String, number: usize, node: usize, tag: Tag, line: &Line) -> Result<(), AllocError>
+fn push_node(
+    text: &mut String,
+    number: usize,
+    node: usize,
+    tag: Tag,
+    line: &Line,
+) -> Result<(), AllocError>
     requires { tag_well_formed tag ≡ true }
     ensures { OnOk result (string_bytes text.new ≡ string_bytes text.old ++ node_text number node tag line.now) }
 {
