@@ -1,9 +1,9 @@
-use crate::{Dump, DumpRefusal, Rule, Verdict, check, dump, read_dump};
-use sci_core::{AnyWords, Event, Line, Whole};
-use sci_words::NodeId;
-use std::alloc::Global;
-use std::process::Abort;
-use std::test::*;
+//! Dumps that are read, checked and written again, and texts that are none.
+use super::*;
+use sci_core::{AnyWords, Event, Line, Pending, Whole};
+use sci_words::{Kind, NodeId, Tag};
+use std::alloc::{AllocError, Global};
+use std::test::Fail;
 
 /// The dump of one line that nodes 0, 1 and 2 have loaded, in this order.
 const SHARED: &str = "scidump 1 3 1\n\
@@ -74,30 +74,37 @@ const CHANGED: [(&str, &str, Verdict); 8] = [
     ),
 ];
 
-fn read(rt: &impl Abort, alloc: Global, text: &str) -> Dump {
-    read_dump(alloc, text.as_bytes()).expect(rt, "a dump")
+// The text of a dump.
+fn text_of(alloc: Global, lines: &Dump) -> Result<String, AllocError> {
+    dump(alloc, &lines.lines)
 }
 
-/// The text of what a text reads as.
-fn again(rt: &impl Abort, alloc: Global, text: &str) -> String {
-    dump(alloc, &read(rt, alloc, text).lines).expect(rt, "a text")
+// The line of the fault that a text has. None: it has none, or there was no memory.
+fn fault_of(alloc: Global, text: &[u8]) -> Option<u64> {
+    match read_dump(alloc, text) {
+        Err(DumpRefusal::DumpFault(line)) => Some(line),
+        _ => None,
+    }
 }
 
-fn changed(rt: &impl Abort, alloc: Global, old: &str, new: &str) -> String {
-    SHARED.replacen(alloc, old, new, 1).expect(rt, "memory")
+// The line of text behind a byte of this line.
+fn line_behind(line: u64, byte: u8) -> u64 {
+    if byte == b'\n' {
+        line.saturating_add(1)
+    } else {
+        line
+    }
 }
 
 #[test]
-fn verdicts(rt: HostRuntime) {
+fn verdicts(rt: HostRuntime) -> Result<(), Fail> {
     for (old, new, verdict) in &CHANGED {
-        let text = changed(&rt, rt.alloc(), old, new);
-        assert_eq!(rt;
-            check(&read(&rt, rt.alloc(), &text)),
-            *verdict,
-            "with {new}"
-        );
-        assert_eq!(rt; again(&rt, rt.alloc(), &text), text);
+        let text = SHARED.replacen(rt.alloc(), old, new, 1)?;
+        let read = read_dump(rt.alloc(), text.as_bytes())?;
+        assert_eq!(rt; check(&read), *verdict, "with {new}");
+        assert_eq!(rt; text_of(rt.alloc(), &read)?, text);
     }
+    Ok(())
 }
 
 /// Two lines of two nodes: the first is unused, the second is node 1's alone, dirty.
@@ -108,58 +115,36 @@ const TWO_LINES: &str = "scidump 1 2 2\n\
     end\n";
 
 #[test]
-fn the_first_line_that_breaks_a_rule(rt: HostRuntime) {
-    let lines = read(&rt, rt.alloc(), TWO_LINES);
-    assert_eq!(rt; check(&lines), Verdict::Lawful);
-    assert_eq!(rt; lines.nodes, 2);
-    let text = again(&rt, rt.alloc(), TWO_LINES);
-    assert!(rt; text.as_str() == TWO_LINES);
-    let text = TWO_LINES
-        .replacen(
-            rt.alloc(),
-            "line 1 0000000000000102",
-            "line 1 000000000000ff02",
-            1,
-        )
-        .expect(&rt, "memory");
-    assert_eq!(rt;
-        read_dump(rt.alloc(), text.as_bytes()).err(),
-        Some(DumpRefusal::DumpFault(3))
-    );
-    let text = TWO_LINES
-        .replacen(
-            rt.alloc(),
-            "line 1 0000000000000102",
-            "line 1 0000000000000101",
-            1,
-        )
-        .expect(&rt, "memory");
-    assert_eq!(rt;
-        check(&read(&rt, rt.alloc(), &text)),
-        Verdict::Unlawful {
-            line: 1,
-            rule: Rule::Suited
-        }
-    );
+fn the_first_line_that_breaks_a_rule(rt: HostRuntime) -> Result<(), Fail> {
+    let read = read_dump(rt.alloc(), TWO_LINES.as_bytes())?;
+    assert_eq!(rt; check(&read), Verdict::Lawful);
+    assert_eq!(rt; read.nodes, 2);
+    assert_eq!(rt; text_of(rt.alloc(), &read)?.as_str(), TWO_LINES);
+    let (old, new) = ("0000000000000102", "000000000000ff02");
+    let text = TWO_LINES.replacen(rt.alloc(), old, new, 1)?;
+    assert_eq!(rt; fault_of(rt.alloc(), text.as_bytes()), Some(3));
+    let text = TWO_LINES.replacen(rt.alloc(), old, "0000000000000101", 1)?;
+    let read = read_dump(rt.alloc(), text.as_bytes())?;
+    let unlawful = Verdict::Unlawful {
+        line: 1,
+        rule: Rule::Suited,
+    };
+    assert_eq!(rt; check(&read), unlawful);
+    Ok(())
 }
 
 /// A dump without its last bytes is refused at the line that is cut or missing.
 #[test]
-fn cut_at_each_byte(rt: HostRuntime) {
-    let text = SHARED.as_bytes();
+fn cut_at_each_byte(rt: HostRuntime) -> Result<(), Fail> {
     let mut line = 1;
-    for end in 0..text.len() {
-        let cut = read_dump(rt.alloc(), &text[..end]);
-        assert_eq!(rt;
-            cut.err(),
-            Some(DumpRefusal::DumpFault(line)),
-            "cut at {end}"
-        );
-        if text[end] == b'\n' {
-            line += 1;
-        }
+    let mut cut = Vec::new(rt.alloc());
+    for byte in SHARED.as_bytes() {
+        assert_eq!(rt; fault_of(rt.alloc(), &cut), Some(line), "behind {line}");
+        cut.push(*byte)?;
+        line = line_behind(line, *byte);
     }
-    assert!(rt; read_dump(rt.alloc(), text).is_ok());
+    assert!(rt; read_dump(rt.alloc(), &cut).is_ok());
+    Ok(())
 }
 
 /// Texts that are no dumps, and the line of the first fault.
@@ -187,29 +172,28 @@ const FAULTS: [(&str, &str, u64); 16] = [
 ];
 
 #[test]
-fn faults(rt: HostRuntime) {
+fn faults(rt: HostRuntime) -> Result<(), Fail> {
     for (old, new, line) in &FAULTS {
-        let text = changed(&rt, rt.alloc(), old, new);
-        let read = read_dump(rt.alloc(), text.as_bytes());
-        assert_eq!(rt;
-            read.err(),
-            Some(DumpRefusal::DumpFault(*line)),
-            "with {new}"
-        );
+        let text = SHARED.replacen(rt.alloc(), old, new, 1)?;
+        let fault = fault_of(rt.alloc(), text.as_bytes());
+        assert_eq!(rt; fault, Some(*line), "with {new}");
     }
+    Ok(())
 }
 
 /// A dump with one byte changed is refused at that byte's line or at a later one, or it is the dump of other lines.
 #[test]
-fn changed_in_each_byte(rt: HostRuntime) {
+fn changed_in_each_byte(rt: HostRuntime) -> Result<(), Fail> {
     let mut line = 1;
-    for place in 0..SHARED.len() {
+    for (place, old) in SHARED.as_bytes().iter().enumerate() {
         for byte in b"\n\r 019afgx-" {
-            let mut text = Vec::from_slice(rt.alloc(), SHARED.as_bytes()).expect(&rt, "memory");
-            text[place] = *byte;
+            let mut text = Vec::from_slice(rt.alloc(), SHARED.as_bytes())?;
+            if let Some(changed) = text.get_mut(place) {
+                *changed = *byte;
+            }
             match read_dump(rt.alloc(), &text) {
                 Ok(read) => {
-                    let again = dump(rt.alloc(), &read.lines).expect(&rt, "memory");
+                    let again = text_of(rt.alloc(), &read)?;
                     assert!(rt; again.as_bytes() == text.as_slice(), "byte {place}");
                 }
                 Err(refusal) => {
@@ -220,21 +204,27 @@ fn changed_in_each_byte(rt: HostRuntime) {
                 }
             }
         }
-        if SHARED.as_bytes()[place] == b'\n' {
-            line += 1;
-        }
+        line = line_behind(line, *old);
     }
+    Ok(())
 }
 
-fn node(rt: &impl Abort, number: u16) -> NodeId {
-    NodeId::new(number).expect(rt, "a node")
+fn fresh(forw: Option<NodeId>) -> Tag {
+    Tag {
+        kind: Kind::Fresh,
+        held: false,
+        forw,
+        back: None,
+    }
 }
 
 /// The line that nodes 0, 1 and 2 have loaded, closed.
 #[test]
-fn dumps_a_closed_line(rt: HostRuntime) {
-    let mut line = Whole::open(rt.alloc(), 3, 0, Line::ZERO, AnyWords).expect(&rt, "a line");
-    let zero = node(&rt, 0);
+fn dumps_a_closed_line(rt: HostRuntime) -> Result<(), Fail> {
+    let zero = NodeId::new(0).ok_or("node 0")?;
+    let one = NodeId::new(1).ok_or("node 1")?;
+    let two = NodeId::new(2).ok_or("node 2")?;
+    let mut line = Whole::open(rt.alloc(), 3, 0, Line::ZERO, AnyWords)?;
     for event in [
         Event::Queue(None),
         Event::PrependValid,
@@ -243,47 +233,49 @@ fn dumps_a_closed_line(rt: HostRuntime) {
     ] {
         assert!(rt; line.step(zero, event).is_ok());
     }
-    for number in 1..3 {
-        let me = node(&rt, number);
-        let head = line.mem().forw;
-        let found = line.tag(head.expect(&rt, "a head"));
-        for event in [
-            Event::Queue(head),
-            Event::PrependValid,
-            Event::ReturnMemory,
-            Event::AttachFresh(found),
-            Event::Settle,
-        ] {
-            assert!(rt; line.step(me, event).is_ok());
-        }
+    for event in [
+        Event::Queue(Some(zero)),
+        Event::PrependValid,
+        Event::ReturnMemory,
+        Event::AttachFresh(fresh(None)),
+        Event::Settle,
+    ] {
+        assert!(rt; line.step(one, event).is_ok());
     }
-    let closed = [line.closed(rt.alloc()).expect(&rt, "memory")];
-    let text = dump(rt.alloc(), &closed).expect(&rt, "memory");
-    assert!(rt; text.as_str() == SHARED);
-    let read = read(&rt, rt.alloc(), &text);
-    assert_eq!(rt; read.lines.len(), 1);
-    assert!(rt; read.lines[0].mem == closed[0].mem);
-    assert!(rt; read.lines[0].memory == closed[0].memory);
-    assert!(rt; read.lines[0].tags == closed[0].tags);
-    assert!(rt; read.lines[0].lines == closed[0].lines);
-    assert_eq!(rt; check(&read), Verdict::Lawful);
-}
-
-/// Each growth may be refused: the answer is then 7 or an `AllocError`. The gate runs this test with each allocation refused in turn.
-#[test]
-fn growths_refused_in_turn(rt: HostRuntime) {
-    match read_dump(rt.alloc(), SHARED.as_bytes()) {
-        Ok(read) => {
-            if let Ok(text) = dump(rt.alloc(), &read.lines) {
-                assert!(rt; text.as_str() == SHARED);
-            }
-        }
-        Err(refusal) => assert_eq!(rt; refusal.number(), 7),
+    for event in [
+        Event::Queue(Some(one)),
+        Event::PrependValid,
+        Event::ReturnMemory,
+        Event::AttachFresh(fresh(Some(zero))),
+        Event::Settle,
+    ] {
+        assert!(rt; line.step(two, event).is_ok());
     }
+    assert_eq!(rt; *line.pending(zero), Pending::Idle);
+    assert_eq!(rt; *line.pending(one), Pending::Idle);
+    assert_eq!(rt; *line.pending(two), Pending::Idle);
+    let closed = line.closed(rt.alloc())?;
+    assert_eq!(rt; closed.tags.len(), 3);
+    let text = dump(rt.alloc(), &[closed])?;
+    assert_eq!(rt; text.as_str(), SHARED);
+    Ok(())
 }
 
 #[test]
 fn numbers_of_refusals(rt: HostRuntime) {
     assert_eq!(rt; DumpRefusal::OutOfMemory.number(), 7);
     assert_eq!(rt; DumpRefusal::DumpFault(1).number(), 21);
+}
+
+// A growth may be refused: the answer is then 7 or an `AllocError`. With ample memory it is the dump.
+#[test]
+fn growths_refused_in_turn(rt: HostRuntime) {
+    match read_dump(rt.alloc(), SHARED.as_bytes()) {
+        Ok(read) => {
+            if let Ok(text) = text_of(rt.alloc(), &read) {
+                assert_eq!(rt; text.as_str(), SHARED);
+            }
+        }
+        Err(refusal) => assert_eq!(rt; refusal.number(), 7),
+    }
 }
