@@ -34,7 +34,9 @@ class Shown:
 
     def __init__(self, search, model):
         self.search, self.model, self.names = search, model, {}
-        nodes = list(model.get_universe(NODE) or [])
+        # The law is asked at the nodes that the row and the clause name: no other node of the model is bound by it.
+        named = {str(self.value(term)) for _, term in search.terms()}
+        nodes = [node for node in model.get_universe(NODE) or [] if str(node) in named]
         nodes.sort(key=lambda node: -self.number(search.step.before.rank(node)))
         me = self.value(search.step.env['me'])
         count = 0
@@ -53,14 +55,14 @@ class Shown:
         """A value as a word: a node by its name, an option by what is in it, a kind without its prefix."""
         value = self.value(term)
         if value.sort() == NODE:
-            return self.names.get(str(value), str(value))
+            return self.names.get(str(value), 'another')
         if value.sort() in (LINK, SLOT):
-            sort = value.sort()
+            sort = LINK if value.sort() == LINK else SLOT
             return '-' if is_true(self.value(value == sort.none)) else self.name(sort.of(value))
         text = str(value)
         for front in ('kind_', 'phase_', 'state_'):
             text = text.removeprefix(front)
-        return text.replace('!val!', ' ').lower()
+        return text.replace('Line!val!', 'line ')
 
     def tag(self, state, node):
         held = ' held' if is_true(self.value(state.held(node))) else ''
@@ -68,7 +70,7 @@ class Shown:
 
     def step(self, state, node):
         """The pending step, with what it keeps."""
-        phase = self.name(state.phase(node)).capitalize()
+        phase = self.name(state.phase(node))
         parts = [f'kept {self.name(state.kept(node))}'] if self.name(state.kept(node)) != '-' else []
         parts += [word for word, field in (('flag', state.flag), ('copy', state.copy)) if is_true(self.value(field(node)))]
         if is_true(self.value(state.seen(node))):
