@@ -9,7 +9,8 @@ use Rattle.sci_core.specs.Answers.{Makes, row_at}
 use Rattle.sci_core.specs.Run.{HasValue, IsLawfulLine, KeepsLawful, ValueAfter, AnswersValue}
 use Rattle.sci_core.specs.Step.{look_of, taken_line}
 use Rattle.sci_core.proofs.Lawfully.{one_value}
-use Rattle.sci_port.specs.Call.{Call, Own, MemWas, TagWas, Stepped}
+use Rattle.sci_port.specs.declared.calls.Call.{Call}
+use Rattle.sci_port.specs.declared.calls.Call.TheVariants.{Own, MemWas, TagWas, Stepped}
 use Rattle.sci_port.specs.Runs.{Leads}
 use Rattle.sci_port.specs.History.{value_after, value_of, Shows, IsLegal, writes_in, writes, IsHistory}
 use Rattle.sci_port.specs.Solo.{Does, Gives}

@@ -5,7 +5,8 @@ use Rattle.sci_core.specs.declared.lines.Line.{Line}
 use Rattle.sci_core.specs.declared.events.Event.{Event}
 use Rattle.sci_core.specs.declared.outcomes.Outcome.{Outcome}
 use Rattle.sci_core.specs.Table.Purging.{written}
-use Rattle.sci_port.specs.Call.{Call, Stepped}
+use Rattle.sci_port.specs.declared.calls.Call.{Call}
+use Rattle.sci_port.specs.declared.calls.Call.TheVariants.{Stepped}
 
 -- the value after a call: a write that was done makes it the words that it wrote, with the next stamp
 abbrev pub value_after : Line → Call → Line
