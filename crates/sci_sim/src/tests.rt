@@ -1,11 +1,11 @@
 ghost use Rattle.std.specs.Prelude.{Some};
 
 use crate::faults::SimFault;
-use crate::serve::serve_script;
+use crate::serve::{serve_buffered, serve_script};
 use sci_script::ScriptRefusal;
 use std::alloc::{AllocError, Global};
 use std::io;
-use std::io::{ErrorKind, Read, Write};
+use std::io::{BufWriter, ErrorKind, Read, Write};
 use std::process::Abort;
 use std::test::*;
 
@@ -162,6 +162,50 @@ fn readers_and_writers_that_fail(rt: HostRuntime) {
     let end = serve_script(rt.alloc(), &mut SHARERS.as_bytes(), &mut writer);
     assert_eq!(rt; end, Err(SimFault::CannotWrite));
     assert!(rt; writer.held.as_slice() == &SHARED.as_bytes()[..29]);
+}
+
+/// The bytes of the writer and the fault, through a buffer of so many bytes before a writer with so much room.
+fn through_buffer(
+    alloc: Global,
+    script: &str,
+    capacity: usize,
+    room: usize,
+) -> Result<(Vec<u8>, Option<SimFault>), Fail> {
+    let writer = Narrow {
+        held: Vec::new(alloc),
+        room,
+        interrupted: false,
+    };
+    let output = BufWriter::with_capacity(alloc, capacity, writer)?;
+    let (writer, end) = serve_buffered(alloc, &mut script.as_bytes(), output);
+    Ok((writer.held, end.err()))
+}
+
+/// What is printed before a refusal goes out, and a writer that is full is told before the refusal.
+#[test]
+fn buffers_before_a_writer_that_fills(rt: HostRuntime) -> Result<(), Fail> {
+    let cases: [Case; 3] = [
+        (SHARERS, None, SHARED),
+        (
+            "memory 1 1\nlist 0\nlist 0\nturn 0\n",
+            refused(ScriptRefusal::BadCommand(4)),
+            "line 0 HOME\nline 0 HOME\n",
+        ),
+        ("memory 0 1", refused(ScriptRefusal::BadNumber(1)), ""),
+    ];
+    for (script, fault, text) in cases {
+        for capacity in [0, 1, 20, 24, 65_536] {
+            for room in 0..text.len() {
+                let (held, end) = through_buffer(rt.alloc(), script, capacity, room)?;
+                assert_eq!(rt; end, Some(SimFault::CannotWrite), "of {script}, {room}");
+                assert!(rt; held.as_slice() == &text.as_bytes()[..room], "of {script}, {room}");
+            }
+            let (held, end) = through_buffer(rt.alloc(), script, capacity, text.len())?;
+            assert_eq!(rt; end, fault, "of {script}");
+            assert!(rt; held.as_slice() == text.as_bytes(), "of {script}");
+        }
+    }
+    Ok(())
 }
 
 fn input(alloc: Global, length: usize) -> Result<Vec<u8>, AllocError> {
