@@ -1,5 +1,4 @@
 pub mod Elements
-pub mod Listed
 pub mod Forms
 pub mod Tables
 pub mod Giving

@@ -23,7 +23,7 @@ use Rattle.sci_fine.specs.declared.views.Terms.{Terms}
 use Rattle.sci_fine.specs.declared.views.View.{View}
 use Rattle.sci_fine.specs.Rule.{Shared, Stands, lies_at, word_at}
 use Rattle.sci_fine.specs.Steps.{place_of}
-use Rattle.sci_fine.specs.Truth.{Tells, IsTrue, IsMiss}
+use Rattle.sci_fine.specs.Laws.{Tells, IsTrue, IsMiss}
 use Rattle.sci_fine.specs.Views.{saw}
 use Rattle.sci_fine.proofs.Elements.{inside}
 use Rattle.sci_fine.proofs.Giving.{found_there}

@@ -6,4 +6,4 @@ pub mod Calls
 pub mod Seats
 pub mod Ports
 pub mod Ends
-pub mod Truth
+pub mod Laws

@@ -4,6 +4,7 @@
 
 mod closing;
 mod codes;
+mod laws;
 mod line;
 mod moving;
 mod opening;
@@ -11,11 +12,12 @@ mod port;
 mod seats;
 mod standing;
 mod stepping;
-mod truth;
+#[cfg(test)]
+mod tests;
 mod views;
 
 pub use closing::FinishRefusal;
+pub use laws::law_of_one_run;
 pub use line::FineLine;
 pub use port::FinePort;
 pub use seats::Seat;
-pub use truth::steps_are_true;

@@ -1,4 +1,4 @@
--- What the table's rule lets a step of a seat say of itself. This project's profile.
+-- What the table's rule says of any step of a seat, whatever kind of step it is. This project's profile.
 use Rattle.std.specs.Prelude.{◌≡◌, ℕ, Some, List, length, slice_index, slice_set}
 use mathlib.Core.Option.{some}
 use lib.ListN.{get_elem?}
@@ -8,6 +8,8 @@ use Rattle.sci_core.specs.Step.{Finds}
 use Rattle.sci_core.specs.declared.pending.Pending.{Pending}
 use Rattle.sci_core.specs.Table.{row_of}
 use Rattle.sci_port.specs.declared.calls.Call.{Call}
+use Rattle.sci_port.specs.declared.calls.Call.TheVariants.{Stepped}
+use Rattle.sci_core.specs.declared.outcomes.Outcome.TheVariants.{Missed}
 use Rattle.sci_port.specs.Solo.{Gives}
 use Rattle.sci_fine.specs.declared.views.Terms.{Terms}
 use Rattle.sci_fine.specs.declared.views.View.{View}
@@ -35,3 +37,11 @@ pub record IsTrue {K : Type 0} (fits : K → ℕ → List ℕ → Type 0) (t : T
 pub record IsMiss {K : Type 0} (s : Shared K) (state : State) (v : View K) (e : Event) (code : ℕ) : Type 0 where
   pub found : slice_index s.words (lies_at (place_of (row_of v.node v.pending e).change)) ≡ code
   pub other : Finds state (row_of v.node v.pending e).change → ⊥
+
+-- whatever step keeps the rule, what it left in its seat's view is true: so the order of the run is the order in time
+abbrev pub AppendsCalls : {K : Type 0} → (K → ℕ → List ℕ → Type 0) → Type 0
+AppendsCalls {K} fits = (t : Terms K) (s u : Shared K) (before : Stands fits t s) (after : Stands fits t u) (id : ℕ) (v : View K) (call : Call) (told : Tells t s u id v call) → IsTrue fits t s u before after id v call told
+
+-- and so none tells a miss that was none
+abbrev pub MissesTruly : {K : Type 0} → (K → ℕ → List ℕ → Type 0) → Type 0
+MissesTruly {K} fits = (t : Terms K) (s u : Shared K) (before : Stands fits t s) (after : Stands fits t u) (id : ℕ) (v : View K) (e : Event) (code : ℕ) → Tells t s u id v (Stepped e (Missed code)) → IsMiss s before.state v e code
