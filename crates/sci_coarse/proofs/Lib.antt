@@ -6,4 +6,5 @@ pub mod Lending
 pub mod Seating
 pub mod Ordered
 pub mod Ending
+pub mod Histories
 pub mod Staying

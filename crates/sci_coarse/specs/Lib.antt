@@ -1,5 +1,6 @@
 pub mod Standings
 pub mod Views
+pub mod Runs
 pub mod Rule
 pub mod Regions
 pub mod Seats

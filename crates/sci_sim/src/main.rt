@@ -70,7 +70,7 @@ fn main(rt: HostRuntime) -> ExitCode {
         Ok(status) => status,
         Err(fault) => {
             let _ = eprintln!(rt; "scisim: {fault}");
-            ExitCode::FAILURE
+            ExitCode::from(fault.status())
         }
     }
 }

@@ -3,7 +3,8 @@
 ghost use Rattle.std.specs.Prelude.{◌≡◌, ◌≤◌, ℕ, List, length, OnOk, IfErr, IfSome};
 ghost use Rattle.sci_sim.specs.Fault.{fault_of};
 ghost use Rattle.std.specs.Io.Buffered.{writer_contents};
-ghost use Rattle.std.specs.Io.KnownBytes.{Appends};
+ghost use Rattle.std.specs.Io.KnownBytes.{Appends, IsAtEnd};
+ghost use Rattle.sci_sim.specs.Input.{IsToldInTime};
 ghost use Rattle.sci_sim.specs.Serve.{Serves, Stops, LeavesBehind};
 
 use crate::faults::SimFault;
@@ -34,6 +35,8 @@ pub fn serve_script<R: Read, W: Write>(
         × Appends (W.contents writer.old) (W.contents writer.new) text)) }
     ensures err { IfErr result (λ e. IfSome (R.remaining reader.old) (λ input. (written : List ℕ) × Stops e input written
         × Appends (W.contents writer.old) (W.contents writer.new) written)) }
+    ensures end { OnOk result (IsAtEnd (R.remaining reader.new)) }
+    ensures in_time { IfErr result (λ e. IsToldInTime e (R.remaining reader.new)) }
 {
     let input = read_input(alloc, reader)?;
     serve_input(alloc, &input, writer)?;
