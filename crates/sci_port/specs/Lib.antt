@@ -1,4 +1,6 @@
 pub mod Call
+pub mod Runs
+pub mod History
 pub mod Way
 pub mod Owes
 pub mod Solo

@@ -10,28 +10,27 @@ mod tests;
 
 use commands::commands;
 use faults::SimFault;
-use serve::serve_script;
+use serve::serve_buffered;
 use std::alloc::AllocError;
 use std::fs::File;
-use std::io::{self, BufWriter, ErrorKind, Write};
+use std::io::{self, BufWriter, ErrorKind};
 use std::process::ExitCode;
 
+/// How many bytes of the text wait to be written together.
+const BUFFER: usize = 65_536;
+
 fn script(rt: &HostRuntime, path: Option<&str>) -> Result<(), SimFault> {
-    let mut output = BufWriter::with_capacity(rt.alloc(), 65_536, io::writer(rt)).map_err(
+    let output = BufWriter::with_capacity(rt.alloc(), BUFFER, io::writer(rt)).map_err(
         |_| SimFault::from(AllocError),
     )?;
-    let served = match path {
-        Some(path) => match File::open(rt, path) {
-            Ok(mut file) => serve_script(rt.alloc(), &mut file, &mut output),
-            Err(_) => Err(SimFault::CannotRead),
-        },
-        None => serve_script(rt.alloc(), &mut rt.reader(), &mut output),
+    let (_, served) = match path {
+        Some(path) => {
+            let mut file = File::open(rt, path).map_err(|_| SimFault::CannotRead)?;
+            serve_buffered(rt.alloc(), &mut file, output)
+        }
+        None => serve_buffered(rt.alloc(), &mut rt.reader(), output),
     };
-    // What was written before a refusal leaves the buffer too, and a failed write comes first.
-    match output.flush() {
-        Ok(()) => served,
-        Err(_) => Err(SimFault::CannotWrite),
-    }
+    served
 }
 
 /// The status of a run with these arguments. An argument that isn't UTF-8 can't be read.
@@ -60,7 +59,7 @@ fn main(rt: HostRuntime) -> ExitCode {
         Ok(status) => status,
         Err(fault) => {
             let _ = eprintln!(rt; "scisim: {fault}");
-            ExitCode::FAILURE
+            ExitCode::from(fault.status())
         }
     }
 }
