@@ -8,8 +8,8 @@ that whatever else the machine does meets all of them; ratios hold from run to r
 
 First, how many turns a second `scisim script` makes, by the number of nodes, lines and bytes of the script, where its text goes to
 /dev/null and to a pipe, beside a plain Rust simulator that reads and prints the same. Each script is of random loads, stores,
-additions and evictions, each taken to its end before the next begins. A run's time is that of the whole program: it reads the
-script, checks it, runs it and writes the answers; the best of N runs counts. What is printed must be the same of both, and hold no
+additions and evictions, each taken to its end before the next begins. A run's time is that of the whole program on a
+processor: it reads the script, checks it, runs it and writes the answers; the best of N runs counts. What is printed must be the same of both, and hold no
 `waits` and one answer a call. With --check the scripts take each turn by a command of its own, so the number of turns that is
 counted here is the program's.
 
@@ -17,7 +17,8 @@ Then, how many additions a second threads make that add 1 to word 0 of a line, e
 wait: on lines under lock words (tools/speed/adds, which is built beside the crates in a folder of its own), on std's Mutex and
 RwLock round eight words, and by a lean Rust body of the same rows, under a lock word that each call takes (lock) and on separate
 words (words). The time is that of a run less that of one with no additions. A run counts where its threads were on a processor for
-80 % of it, so that they truly met; of these the best counts. Where none did, a star stands.
+80 % of it, so that they truly met; of N such runs or more the best is taken. Where none counts, a star stands, and the run taken is
+the one whose threads met most.
 """
 
 import argparse

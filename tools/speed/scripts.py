@@ -5,7 +5,6 @@ import random
 import subprocess
 import sys
 import tempfile
-import time
 
 MEBIBYTE = 1 << 20
 # nodes, lines, bytes of the script
@@ -105,14 +104,14 @@ def check(program, script, calls):
 
 
 def seconds(program, script, output):
-    """The seconds of a whole run."""
-    start = time.perf_counter()
-    with subprocess.Popen([program, "script", script], stdout=OUTPUTS[output]) as process:
-        if process.stdout:
-            while os.read(process.stdout.fileno(), 1 << 16):
+    """The seconds that a whole run was on a processor."""
+    process = subprocess.Popen([program, "script", script], stdout=OUTPUTS[output])
+    if process.stdout:
+        with process.stdout as pipe:
+            while os.read(pipe.fileno(), 1 << 16):
                 pass
-        process.wait()
-        return time.perf_counter() - start
+    _, process.returncode, used = os.wait4(process.pid, 0)
+    return used.ru_utime + used.ru_stime
 
 
 def measure(programs, setting, runs, each_turn):

@@ -9,9 +9,11 @@ import time
 ROOT = pathlib.Path(__file__).resolve().parents[2]
 # threads, lines, the programs' word for them
 SHAPES = [(1, 1, "one"), (2, 1, "two"), (4, 1, "four"), (4, 4, "apart")]
-# what a run is to take at least, and the share of it that its threads are to be on a processor
+# the seconds that each thread of a run is to work at least, and the share of the run that it is to be on a processor
 SECONDS = 0.03
 MET = 0.8
+# how many rounds there are at most for each run that is to count
+ROUNDS = 4
 
 
 def build_adds(folder):
@@ -46,33 +48,38 @@ def run(command, shape, count):
 
 
 class Body:
-    """A way to add, measured in one shape: seconds of an addition, where the threads met, and else of any run."""
+    """A way to add, measured in one shape: of each run the seconds of an addition, and the share of it on a processor."""
 
     def __init__(self, command, threads, shape):
         self.command, self.threads, self.shape = command, threads, shape
         self.empty = min(run(command, shape, 0) for _ in range(5))
         self.count = 500
-        while run(command, shape, self.count)[0] - self.empty[0] < SECONDS:
+        while run(command, shape, self.count)[1] - self.empty[1] < SECONDS * threads:
             self.count *= 2
-        self.met, self.other = [], []
+        self.runs = []
 
     def measure(self):
         wall, used = run(self.command, self.shape, self.count)
         wall -= self.empty[0]
         share = (used - self.empty[1]) / (wall * self.threads)
-        (self.met if share >= MET else self.other).append(wall / (self.threads * self.count))
+        self.runs.append((share, wall / (self.threads * self.count)))
+
+    def met(self):
+        return [seconds for share, seconds in self.runs if share >= MET]
 
     def best(self):
-        return min(self.met or self.other)
+        return min(self.met(), default=max(self.runs)[1])
 
 
 def measure_shape(commands, threads, lines, shape, runs):
     bodies = {name: Body(command, threads, shape) for name, command in commands.items()}
-    for _ in range(runs):
+    for _ in range(ROUNDS * runs):
         for body in bodies.values():
             body.measure()
+        if all(len(body.met()) >= runs for body in bodies.values()):
+            break
     first = next(iter(bodies.values())).best()
-    cells = [f"{1e-6 / b.best():8.2f}{' ' if b.met else '*'}M/s {first / b.best():6.2f}" for b in bodies.values()]
+    cells = [f"{1e-6 / b.best():8.2f}{' ' if b.met() else '*'}M/s {first / b.best():6.2f}" for b in bodies.values()]
     print(f"{threads:7} {lines:5}", *cells, flush=True)
 
 
@@ -84,4 +91,4 @@ def measure_all(folder, peer, runs):
     head = "".join(f"{name:>14} ratio" for name in commands)
     print(f"threads lines{head}", flush=True)
     for threads, lines, shape in SHAPES:
-        measure_shape(commands, threads, lines, shape, 5 * runs)
+        measure_shape(commands, threads, lines, shape, runs)

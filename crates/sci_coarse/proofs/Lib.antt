@@ -7,4 +7,5 @@ pub mod Seating
 pub mod Ordered
 pub mod Ending
 pub mod Histories
+pub mod Unslipped
 pub mod Staying

@@ -2,6 +2,7 @@ pub mod Standings
 pub mod Views
 pub mod Runs
 pub mod Rule
+pub mod Laws
 pub mod Regions
 pub mod Seats
 pub mod Ports
