@@ -37,10 +37,7 @@ fn words_of<'a>(words: &mut Vec<&'a [u8]>, line: &'a [u8]) -> Result<(), AllocEr
     ensures { OnOk result (map (λ w. w.now) words.new.items ≡ words_of line.now) }
 {
     words.clear();
-    words.extend(
-        line.split(|b| is_blank(*b))
-        .filter(|word| !word.is_empty())
-    )
+    words.extend(line.split(|b| is_blank(*b)).filter(|word| !word.is_empty()))
 }
 
 fn is_plain_text(line: &[u8]) -> bool

@@ -51,12 +51,7 @@ fn wait_text(text: &mut String, node: u16) -> Result<(), AllocError>
 }
 
 /// Adds what a turn prints.
-pub fn turn_text(
-    text: &mut String,
-    node: NodeId,
-    word: u8,
-    turn: &Turn,
-) -> Result<(), AllocError>
+pub fn turn_text(text: &mut String, node: NodeId, word: u8, turn: &Turn) -> Result<(), AllocError>
     requires { word < 8 }
     ensures { OnOk result (string_bytes text.new ≡ string_bytes text.old ++ turn_text node word turn.now) }
 {

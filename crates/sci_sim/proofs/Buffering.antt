@@ -62,8 +62,7 @@ gone_out_front (Some x) (Some y) (Some z) rest text n p less q h =
     let m : ℕ = (length y + n) - length x in
     let long : length z ≡ length y + n = ap (length {A = ℕ}) q ∙ length-append y (take n rest) ∙ ap (λ (k : ℕ). length y + k) (length-take-le n rest (omega (arith, less))) in
     let whole : length y + length rest ≡ length x + length text = sym (length-append y rest) ∙ ap (length {A = ℕ}) p ∙ length-append x text in
-    let sum : length y + n ≡ length x + m = omega (arith, h, long) in
-    (
+    let sum : length y + n ≡ length x + m = omega (arith, h, long) in (
       m,
       omega (arith, h, long, whole, less),
       q ∙ sym (take-append-add y rest n) ∙ ap (take (length y + n)) p ∙ ap (λ (k : ℕ). take k (x ++ text)) sum ∙ take-append-add x text m,

@@ -198,7 +198,10 @@ fn buffers_before_a_writer_that_fills(rt: HostRuntime) -> Result<(), Fail> {
             for room in 0..text.len() {
                 let (held, end) = through_buffer(rt.alloc(), script, capacity, room)?;
                 assert_eq!(rt; end, Some(SimFault::CannotWrite), "of {script}, {room}");
-                assert!(rt; held.as_slice() == &text.as_bytes()[..room], "of {script}, {room}");
+                assert!(rt;
+                    held.as_slice() == &text.as_bytes()[..room],
+                    "of {script}, {room}"
+                );
             }
             let (held, end) = through_buffer(rt.alloc(), script, capacity, text.len())?;
             assert_eq!(rt; end, fault, "of {script}");
