@@ -12,5 +12,4 @@ pub fn law_of_one_run<K: Keeps>()
     ensures appends { AppendsSteps K.fits }
     ensures takes { TakesTruly K.fits }
     ensures misses { MissesTruly K.fits }
-{
-}
+{}

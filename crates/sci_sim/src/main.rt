@@ -9,10 +9,10 @@ mod tests;
 
 use clap::{Arg, Command};
 use faults::SimFault;
-use serve::serve_script;
+use serve::serve_buffered;
 use std::alloc::AllocError;
 use std::fs::File;
-use std::io::{self, BufWriter, ErrorKind, Write};
+use std::io::{self, BufWriter, ErrorKind};
 use std::process::ExitCode;
 
 fn command<'a>(rt: &impl AllocGlobal) -> Result<Command<'a>, AllocError> {
@@ -27,22 +27,21 @@ fn command<'a>(rt: &impl AllocGlobal) -> Result<Command<'a>, AllocError> {
         .subcommand(script)
 }
 
+/// How many bytes of the text wait to be written together.
+const BUFFER: usize = 65_536;
+
 fn script(rt: &HostRuntime, path: Option<&str>) -> Result<(), SimFault> {
-    let mut output = BufWriter::with_capacity(rt.alloc(), 65_536, io::writer(rt)).map_err(
+    let output = BufWriter::with_capacity(rt.alloc(), BUFFER, io::writer(rt)).map_err(
         |_| SimFault::from(AllocError),
     )?;
-    let served = match path {
-        Some(path) => match File::open(rt, path) {
-            Ok(mut file) => serve_script(rt.alloc(), &mut file, &mut output),
-            Err(_) => Err(SimFault::CannotRead),
-        },
-        None => serve_script(rt.alloc(), &mut rt.reader(), &mut output),
+    let (_, served) = match path {
+        Some(path) => {
+            let mut file = File::open(rt, path).map_err(|_| SimFault::CannotRead)?;
+            serve_buffered(rt.alloc(), &mut file, output)
+        }
+        None => serve_buffered(rt.alloc(), &mut rt.reader(), output),
     };
-    // What was written before a refusal leaves the buffer too, and a failed write comes first.
-    match output.flush() {
-        Ok(()) => served,
-        Err(_) => Err(SimFault::CannotWrite),
-    }
+    served
 }
 
 /// The status of a run with these arguments. An argument that isn't UTF-8 can't be read.
@@ -71,7 +70,7 @@ fn main(rt: HostRuntime) -> ExitCode {
         Ok(status) => status,
         Err(fault) => {
             let _ = eprintln!(rt; "scisim: {fault}");
-            ExitCode::FAILURE
+            ExitCode::from(fault.status())
         }
     }
 }
