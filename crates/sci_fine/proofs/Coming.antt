@@ -108,15 +108,15 @@ module _ {K : Type 0} (fits : K → ℕ → List ℕ → Type 0) (t : Terms K) (
   comes_mem h below x is form links =
       let same : MemWas (Some x) ≡ load_of 0 h.finds.state = ap (λ (y : Mem). MemWas (Some y)) is in
       unmoved 0 (load_of 0) h below (MemWas (Some x)) same refl
-          (subst (λ (c : Call). Gives t.nodes (fits t.keep t.number) h.finds.state m.0.node c h.finds.state) (sym same) (load_gives t.nodes (fits t.keep t.number) h.finds.state m.0.node 0))
-          (refl, (form, links)) (h.finds.word ∙ ap mem_code (sym is))
+      (subst (λ (c : Call). Gives t.nodes (fits t.keep t.number) h.finds.state m.0.node c h.finds.state) (sym same) (load_gives t.nodes (fits t.keep t.number) h.finds.state m.0.node 0))
+      (refl, (form, links)) (h.finds.word ∙ ap mem_code (sym is))
 
   pub comes_tag : (node : ℕ) → (h : IsSeen fits t (load_of (suc node)) (suc node) m found n) → m.0.node < t.nodes → (x : Tag) → x ≡ h.finds.state.tags node → tag_well_formed x ≡ true → tag_links_below t.nodes x ≡ true → Comes fits t m.0 (slots_in m.1) (TagWas node (Some x)) n.0 (slots_in n.1)
   comes_tag node h below x is form links =
       let same : TagWas node (Some x) ≡ load_of (suc node) h.finds.state = ap (λ (y : Tag). TagWas node (Some y)) is in
       unmoved (suc node) (load_of (suc node)) h below (TagWas node (Some x)) same refl
-          (subst (λ (c : Call). Gives t.nodes (fits t.keep t.number) h.finds.state m.0.node c h.finds.state) (sym same) (load_gives t.nodes (fits t.keep t.number) h.finds.state m.0.node (suc node)))
-          (refl, (form, links)) (h.finds.word ∙ ap tag_code (sym is))
+      (subst (λ (c : Call). Gives t.nodes (fits t.keep t.number) h.finds.state m.0.node c h.finds.state) (sym same) (load_gives t.nodes (fits t.keep t.number) h.finds.state m.0.node (suc node)))
+      (refl, (form, links)) (h.finds.word ∙ ap tag_code (sym is))
 
   -- an exchange that was missed
   pub comes_missed : (e : Event) → (h : IsSeen fits t (λ s. Stepped e (Outcome.Missed found)) (place_of (row_of m.0.node m.0.pending e).change) m found n) → m.0.node < t.nodes → has_row t.nodes m.0.node m.0.pending e ≡ true → found ≢ before_of (row_of m.0.node m.0.pending e).change → Comes fits t m.0 (slots_in m.1) (Stepped e (Outcome.Missed found)) n.0 (slots_in n.1)

@@ -81,10 +81,6 @@ pub(crate) fn codes(change: &Change) -> (usize, u64, u64)
             node,
             before,
             after,
-        } => (
-            number_of(*node),
-            code_of_tag(before),
-            code_of_tag(after),
-        ),
+        } => (number_of(*node), code_of_tag(before), code_of_tag(after)),
     }
 }

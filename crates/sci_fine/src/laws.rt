@@ -9,5 +9,4 @@ use sci_core::Keeps;
 pub fn law_of_one_run<K: Keeps>()
     ensures appends { AppendsCalls K.fits }
     ensures misses { MissesTruly K.fits }
-{
-}
+{}

@@ -46,10 +46,7 @@ fn is_idle(seat: &Seat<AnyWords>) -> bool
 }
 
 // A line of two nodes, with its seats.
-fn opened(
-    alloc: Global,
-    line: Line,
-) -> Option<(FineLine<AnyWords>, Seat<AnyWords>, Seat<AnyWords>)>
+fn opened(alloc: Global, line: Line) -> Option<(FineLine<AnyWords>, Seat<AnyWords>, Seat<AnyWords>)>
     ensures { IfSome result (λ r. IsSeatOf r.0 r.1 × IsSeatOf r.0 r.2) }
 {
     let Ok((line, mut seats)) = FineLine::new(alloc, 2, 0, line, AnyWords) else {

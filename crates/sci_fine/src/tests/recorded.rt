@@ -24,7 +24,12 @@ pub type Ops = [Op; 4];
 
 // One turn, with its events recorded. Some(true): the operation has ended.
 #[tactic(auto, using(sci_ops::proofs::Storing::any_store_fits))]
-pub fn turn(whole: &mut Whole<AnyWords>, trace: &mut Trace, node: NodeId, op: &mut Op) -> Option<bool> {
+pub fn turn(
+    whole: &mut Whole<AnyWords>,
+    trace: &mut Trace,
+    node: NodeId,
+    op: &mut Op,
+) -> Option<bool> {
     if node.get() >= whole.nodes() {
         return None;
     }

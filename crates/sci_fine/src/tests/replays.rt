@@ -70,11 +70,7 @@ fn has_words_of(port: &mut FinePort<'_, AnyWords>, whole: &Whole<AnyWords>) -> b
 }
 
 // An event of a seat, if it is in turn.
-fn step_seat(
-    line: &FineLine<AnyWords>,
-    seat: &mut Seat<AnyWords>,
-    event: Event,
-) -> Option<Outcome>
+fn step_seat(line: &FineLine<AnyWords>, seat: &mut Seat<AnyWords>, event: Event) -> Option<Outcome>
     requires { IsSeatOf line.now seat.old }
     ensures { IsSeatOf line.now seat.new }
 {

@@ -45,11 +45,7 @@ fn carry_out<R: Wait>(
 }
 
 // A node's load.
-fn load_once<R: Wait>(
-    rt: &R,
-    line: &FineLine<AnyWords>,
-    mut seat: Seat<AnyWords>,
-) -> Seat<AnyWords>
+fn load_once<R: Wait>(rt: &R, line: &FineLine<AnyWords>, mut seat: Seat<AnyWords>) -> Seat<AnyWords>
     requires { IsSeatOf line.now seat }
     ensures { IsSeatOf line.now result }
 {
@@ -303,7 +299,12 @@ fn value_of(closed: &Closed) -> Option<&Line> {
 }
 
 // The line, closed after all teams are done.
-fn closed_by<R: Abort>(rt: &R, alloc: Global, line: FineLine<AnyWords>, teams: (Teams, Teams)) -> Result<Closed, Fail>
+fn closed_by<R: Abort>(
+    rt: &R,
+    alloc: Global,
+    line: FineLine<AnyWords>,
+    teams: (Teams, Teams),
+) -> Result<Closed, Fail>
     requires one { IsSeatOf line teams.0.0.first × IsSeatOf line teams.0.0.second × IsSeatOf line teams.0.1.first × IsSeatOf line teams.0.1.second }
     requires two { IsSeatOf line teams.1.0.first × IsSeatOf line teams.1.0.second × IsSeatOf line teams.1.1.first × IsSeatOf line teams.1.1.second }
 {
@@ -311,7 +312,16 @@ fn closed_by<R: Abort>(rt: &R, alloc: Global, line: FineLine<AnyWords>, teams: (
     for team in [&one, &two, &three, &four] {
         assert!(rt; team.read_what_was_written);
     }
-    let seats = vec![in alloc; one.first, one.second, two.first, two.second, three.first, three.second, four.first, four.second]?;
+    let seats = vec![in alloc;
+        one.first,
+        one.second,
+        two.first,
+        two.second,
+        three.first,
+        three.second,
+        four.first,
+        four.second,
+    ]?;
     Ok(closed(alloc, line, seats).ok_or("the nodes are not done")?)
 }
 
