@@ -3,7 +3,8 @@
 use clap::{Arg, Command};
 use std::alloc::AllocError;
 
-const ABOUT: &str = "A model of cache coherence by sharing lists: runs a script of loads, stores and exits, turn by turn.";
+const ABOUT: &str =
+    "A model of cache coherence by sharing lists: runs a script of loads, stores and exits, turn by turn.";
 
 const STATUSES: &str = "\
 Statuses: 0 all went well; 1 a refusal, `scisim: refused R` or `scisim: refused R at line N`, or a fault of reading or writing; \
