@@ -28,13 +28,10 @@ module _ {U V : Type 0} (gives : U → ℕ → Call → U → Type 0) (given : V
         node = h.node;
       }
 
-pub reference_is : (g h : GName) → ◌≡◌ {A = Option GName} (Some g) (Some h) → g ≡ h
-reference_is g h e = cc
-
 -- lent lines that are reached on the same way, under the same fact
 pub same_lent : {K : Type 0} (s t : LentLines K) (wholes : List (WholeLine K)) → lent_way t ≡ lent_way s → t.keep ≡ s.keep → t.wholes ≡ wholes → t ≡ lent_lines s.reference s.keep s.node wholes
 same_lent s t wholes way fact is =
-    let reference : t.reference ≡ s.reference = reference_is t.reference s.reference (ap (λ w. w.reference) way) in
+    let reference : t.reference ≡ s.reference = ap (λ w. w.reference) way in
     let node : t.node ≡ s.node = ap (λ w. w.node) way in
     λ i. lent_lines (reference i) (fact i) (node i) (is i)
 

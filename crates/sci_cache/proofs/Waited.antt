@@ -9,7 +9,10 @@ use Rattle.sci_cache.specs.declared.calls.OpenCall.{OpenCall}
 use Rattle.sci_cache.specs.declared.refusals.NodeRefusal.{NodeRefusal}
 use Rattle.sci_cache.specs.declared.requests.Request.{Request}
 use Rattle.sci_cache.specs.Requests.{line_of, goal_of}
-use Rattle.sci_cache.specs.Nodes.{NodeState, TurnsAt, TurnsBy, shown_by, node_after, node_with, node_ended, residents_with, victim_with, GoesOn}
+use Rattle.sci_cache.specs.Nodes.{NodeState, TurnsAt, TurnsBy, shown_by, node_after, node_with, node_ended, residents_with, victim_with, GoesOn, IsSameNode}
+
+pub still_same : {n k m : NodeState} → IsSameNode n k → IsSameNode k m → IsSameNode n m
+still_same h g = record { id = g.id ∙ h.id; lines = g.lines ∙ h.lines; capacity = g.capacity ∙ h.capacity }
 
 abbrev pub call_of : Request → Option ℕ → OpenCall
 call_of r w = record { line = line_of r; op = begun (goal_of r); victim = w }

@@ -26,6 +26,12 @@ pub record NodeState : Type 0 where
 abbrev pub node_state : ℕ → ℕ → ℕ → List ℕ → Option OpenCall → NodeState
 node_state id lines capacity residents call = record { id = id; lines = lines; capacity = capacity; residents = residents; call = call }
 
+-- the same node of the same lines, with the same capacity
+pub record IsSameNode (n m : NodeState) : Type 0 where
+  pub id : m.id ≡ n.id
+  pub lines : m.lines ≡ n.lines
+  pub capacity : m.capacity ≡ n.capacity
+
 abbrev pub IsLine : ℕ → Option ℕ → Type 0
 IsLine lines None = Unit {0}
 IsLine lines (Some line) = line < lines

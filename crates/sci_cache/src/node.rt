@@ -39,7 +39,7 @@ impl Model for Node {
 }
 
 impl Node {
-    ghost use Rattle.sci_cache.specs.Nodes.{node_state, refusal_of, IsRefused, node_with, TurnsBy, line_by, ShowsAnswerTo};
+    ghost use Rattle.sci_cache.specs.Nodes.{node_state, refusal_of, IsRefused, node_with, TurnsBy, line_by, ShowsAnswerTo, IsSameNode};
 
     /// A node of a memory of so many lines, which names up to `capacity` of them and has used none. The refusals: 13 for a
     /// capacity of 0 or more than 1,024, then 7.
@@ -65,6 +65,13 @@ impl Node {
         })
     }
 
+    /// The node.
+    pub fn id(&self) -> NodeId
+        ensures { result ≡ self.now.id }
+    {
+        self.id
+    }
+
     /// A call is open.
     pub fn open(&self) -> bool
         ensures { result ≡ is_some self.now.call }
@@ -80,6 +87,7 @@ impl Node {
         ensures accepted { OnOk result (refusal_of self.old request ≡ None) }
         ensures begun { OnOk result (self.new ≡ node_with self.old request) }
         ensures same { OnErr result (self.new ≡ self.old) }
+        ensures same_node { IsSameNode self.old self.new }
         ensures succeeds { refusal_of self.old request ≡ None → (is_evict request ≡ true) ⊎ (is_resident (line_of request) self.old.residents ≡ true) → IsOk result }
     {
         if self.call.is_some() {
@@ -112,6 +120,7 @@ impl Node {
         requires lines { (B.way bank.old).lines ≡ self.old.lines }
         requires fits { IfSome self.old.call (λ c. StoresFitting (B.Keep.fits (B.keep bank.old) c.line) c.op.goal) }
         ensures turns { TurnsBy B.gives B.at_step self.old self.old.call bank.old result bank.new self.new }
+        ensures same_node { IsSameNode self.old self.new }
         ensures content { IfSome self.old.call (λ c. IfOk result (λ turn. ShowsAnswerTo (B.Keep.fits (B.keep bank.old) c.line) c.op.goal turn)) }
         ensures same_way { B.way bank.new ≡ B.way bank.old }
         ensures same_nodes { (m : ℕ) → B.nodes_on bank.new m ≡ B.nodes_on bank.old m }

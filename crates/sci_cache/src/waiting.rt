@@ -5,7 +5,7 @@ ghost use Rattle.sci_ops.specs.declared.goals.Write as write;
 ghost use Rattle.sci_ops.specs.Change.{StoresFitting};
 ghost use Rattle.sci_cache.specs.declared.requests.Request as request;
 ghost use Rattle.sci_cache.specs.Requests.{line_of, goal_of};
-ghost use Rattle.sci_cache.specs.Nodes.{Waits, IsAnswerTo};
+ghost use Rattle.sci_cache.specs.Nodes.{Waits, IsAnswerTo, IsSameNode};
 
 use crate::node::Node;
 use crate::refusals::NodeRefusal;
@@ -28,6 +28,7 @@ impl Node {
         requires lines { (B.way bank.old).lines ≡ self.old.lines }
         requires fits { StoresFitting (B.Keep.fits (B.keep bank.old) (line_of request)) (goal_of request) }
         ensures waits { Waits B.gives B.at_step self.old request bank.old result bank.new self.new }
+        ensures same_node { IsSameNode self.old self.new }
         ensures content { IfOk result (λ answer. IsAnswerTo (B.Keep.fits (B.keep bank.old) (line_of request)) (goal_of request) answer) }
         ensures same_way { B.way bank.new ≡ B.way bank.old }
         ensures same_nodes { (m : ℕ) → B.nodes_on bank.new m ≡ B.nodes_on bank.old m }
@@ -59,6 +60,7 @@ impl Node {
         requires node { (B.way bank.old).node ≡ self.old.id }
         requires lines { (B.way bank.old).lines ≡ self.old.lines }
         ensures waits { Waits B.gives B.at_step self.old (request.Request.Load line) bank.old result bank.new self.new }
+        ensures same_node { IsSameNode self.old self.new }
         ensures content { IfOk result (λ answer. IsAnswerTo (B.Keep.fits (B.keep bank.old) line) goal.Goal.Load answer) }
         ensures same_way { B.way bank.new ≡ B.way bank.old }
         ensures same_nodes { (m : ℕ) → B.nodes_on bank.new m ≡ B.nodes_on bank.old m }
@@ -81,6 +83,7 @@ impl Node {
         requires lines { (B.way bank.old).lines ≡ self.old.lines }
         requires fits { StoresFitting (B.Keep.fits (B.keep bank.old) line) (goal.Goal.Write (write.Write.Store word value)) }
         ensures waits { Waits B.gives B.at_step self.old (request.Request.Store line word value) bank.old result bank.new self.new }
+        ensures same_node { IsSameNode self.old self.new }
         ensures content { IfOk result (λ answer. IsAnswerTo (B.Keep.fits (B.keep bank.old) line) (goal.Goal.Write (write.Write.Store word value)) answer) }
         ensures same_way { B.way bank.new ≡ B.way bank.old }
         ensures same_nodes { (m : ℕ) → B.nodes_on bank.new m ≡ B.nodes_on bank.old m }
@@ -103,6 +106,7 @@ impl Node {
         requires lines { (B.way bank.old).lines ≡ self.old.lines }
         requires fits { StoresFitting (B.Keep.fits (B.keep bank.old) line) (goal.Goal.Write (write.Write.Add word delta)) }
         ensures waits { Waits B.gives B.at_step self.old (request.Request.Add line word delta) bank.old result bank.new self.new }
+        ensures same_node { IsSameNode self.old self.new }
         ensures content { IfOk result (λ answer. IsAnswerTo (B.Keep.fits (B.keep bank.old) line) (goal.Goal.Write (write.Write.Add word delta)) answer) }
         ensures same_way { B.way bank.new ≡ B.way bank.old }
         ensures same_nodes { (m : ℕ) → B.nodes_on bank.new m ≡ B.nodes_on bank.old m }
@@ -124,6 +128,7 @@ impl Node {
         requires lines { (B.way bank.old).lines ≡ self.old.lines }
         requires fits { StoresFitting (B.Keep.fits (B.keep bank.old) line) (goal.Goal.Write (write.Write.Line words)) }
         ensures waits { Waits B.gives B.at_step self.old (request.Request.WriteLine line words) bank.old result bank.new self.new }
+        ensures same_node { IsSameNode self.old self.new }
         ensures content { IfOk result (λ answer. IsAnswerTo (B.Keep.fits (B.keep bank.old) line) (goal.Goal.Write (write.Write.Line words)) answer) }
         ensures same_way { B.way bank.new ≡ B.way bank.old }
         ensures same_nodes { (m : ℕ) → B.nodes_on bank.new m ≡ B.nodes_on bank.old m }
@@ -143,6 +148,7 @@ impl Node {
         requires node { (B.way bank.old).node ≡ self.old.id }
         requires lines { (B.way bank.old).lines ≡ self.old.lines }
         ensures waits { Waits B.gives B.at_step self.old (request.Request.Evict line) bank.old result bank.new self.new }
+        ensures same_node { IsSameNode self.old self.new }
         ensures content { IfOk result (λ answer. IsAnswerTo (B.Keep.fits (B.keep bank.old) line) goal.Goal.Evict answer) }
         ensures same_way { B.way bank.new ≡ B.way bank.old }
         ensures same_nodes { (m : ℕ) → B.nodes_on bank.new m ≡ B.nodes_on bank.old m }

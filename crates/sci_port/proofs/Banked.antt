@@ -1,5 +1,5 @@
 -- What a line among lines that are lent gives.
-use Rattle.std.proofs.Common.{◌≡◌, ◌≢◌, ◌⊎◌, inl, inr, ℕ, ◌<◌, ◌≤◌, true, Some, List, length, get_or, set, take, drop, ◌++◌, refl, sym, ap, subst, ◌∙◌}
+use Rattle.std.proofs.Common.{◌≡◌, ◌≢◌, ◌⊎◌, inl, inr, ℕ, ◌<◌, ◌≤◌, true, List, length, get_or, set, take, drop, ◌++◌, refl, sym, ap, subst, ◌∙◌}
 use Rattle.std.proofs.lemmas.Bool.{cases_eq}
 use Rattle.std.proofs.Math.Seq.{take-append_seam}
 use Rattle.std.proofs.lemmas.List.{get_or-set_same, get_or-set_other, get_or_default, length-set}
@@ -74,7 +74,7 @@ module _ {K : Type 0} (fits : K → ℕ → List ℕ → Type 0) (s : LentLines 
 
     stays : Stays s line t
     stays = record {
-      way = λ i. record { node = s.node; lines = length-set s.wholes line v i; reference = Some s.reference };
+      way = λ i. record { node = s.node; lines = length-set s.wholes line v i; reference = s.reference };
       fact = refl;
       nodes = λ m. nodes_stay m (cases_eq m line);
       wholes = elsewhere;

@@ -1,5 +1,5 @@
 -- A node's ways to the lines of a bank, and what stays the same of them.
-use Rattle.std.specs.Prelude.{◌≡◌, ◌≢◌, ℕ, ◌<◌, ◌≤◌, Option, Some, List, length, slice_index_or}
+use Rattle.std.specs.Prelude.{◌≡◌, ◌≢◌, ℕ, ◌<◌, ◌≤◌, List, length, slice_index_or}
 use Rattle.std.specs.Borrow.{GName}
 use Rattle.sci_core.specs.declared.pending.Pending.{Pending}
 use Rattle.sci_core.specs.State.{State, blank}
@@ -9,11 +9,11 @@ use Rattle.sci_port.specs.Owes.{Owes}
 use Rattle.sci_port.specs.Solo.{Gives}
 use Rattle.sci_port.specs.Way.{Way}
 
--- whose bank of how many lines it is, numbered from 0, and what the bank reaches them by, if it was lent
+-- whose bank of how many lines it is, numbered from 0, and what the bank reaches them by
 pub record BankWay : Type 0 where
   pub node : ℕ
   pub lines : ℕ
-  pub reference : Option GName
+  pub reference : GName
 
 -- the way to one line of so many nodes, by a reference to the bank
 abbrev pub way_at : GName → BankWay → ℕ → ℕ → Way
@@ -31,7 +31,7 @@ module _ {K : Type 0} where
   lent_lines reference keep node wholes = record { reference = reference; keep = keep; node = node; wholes = wholes }
 
   abbrev pub lent_way : LentLines K → BankWay
-  lent_way s = record { node = s.node; lines = length s.wholes; reference = Some s.reference }
+  lent_way s = record { node = s.node; lines = length s.wholes; reference = s.reference }
 
   -- the line of this number
   abbrev pub whole_at : LentLines K → ℕ → WholeLine K
