@@ -48,7 +48,7 @@ module _ {K : Type 0} (fits : K → ℕ → List ℕ → Type 0) (s : LentLines 
 
   module _ (call : Call) (i : ℕ) (y x v : WholeLine K) (me you : ℕ) (g h : GName) (il : i ≡ line) (xy : x ≡ get_or s.wholes i y) (mine : me ≡ s.node) (given : LentGives call x me v you g h) where
     abbrev t : LentLines K
-    t = lent_lines s.reference s.keep s.node (set s.wholes line v)
+    t = lent_lines s.keep s.node (set s.wholes line v)
 
     here : LentGives call (whole_at s line) s.node v you g h
     here = subst (λ (n : ℕ). LentGives call (whole_at s line) n v you g h) mine (subst (λ (y : WholeLine K). LentGives call y me v you g h) (read_from i y x il xy) given)
@@ -74,7 +74,7 @@ module _ {K : Type 0} (fits : K → ℕ → List ℕ → Type 0) (s : LentLines 
 
     stays : Stays s line t
     stays = record {
-      way = λ i. record { node = s.node; lines = length-set s.wholes line v i; reference = s.reference };
+      way = λ i. record { node = s.node; lines = length-set s.wholes line v i };
       fact = refl;
       nodes = λ m. nodes_stay m (cases_eq m line);
       wholes = elsewhere;
@@ -112,8 +112,8 @@ module _ {K : Type 0} (fits : K → ℕ → List ℕ → Type 0) (s : LentLines 
       new_is : new ≡ set s.wholes line v
       new_is = back ∙ ap (λ (j : ℕ). set s.wholes j v) il
 
-      pub gives_at : GivesAt fits s line call (lent_lines s.reference s.keep s.node new)
-      gives_at = subst (λ (l : List (WholeLine K)). GivesAt fits s line call (lent_lines s.reference s.keep s.node l)) (sym new_is) gives_line
+      pub gives_at : GivesAt fits s line call (lent_lines s.keep s.node new)
+      gives_at = subst (λ (l : List (WholeLine K)). GivesAt fits s line call (lent_lines s.keep s.node l)) (sym new_is) gives_line
 
       pub are_after : AreLinesOf s.keep s.node new
       are_after = subst (λ (l : List (WholeLine K)). AreLinesOf s.keep s.node l) (sym new_is) are_line

@@ -9,11 +9,10 @@ use Rattle.sci_port.specs.Owes.{Owes}
 use Rattle.sci_port.specs.Solo.{Gives}
 use Rattle.sci_port.specs.Way.{Way}
 
--- whose bank of how many lines it is, numbered from 0, and what the bank reaches them by
+-- whose bank of how many lines it is, numbered from 0
 pub record BankWay : Type 0 where
   pub node : ℕ
   pub lines : ℕ
-  pub reference : GName
 
 -- the way to one line of so many nodes, by a reference to the bank
 abbrev pub way_at : GName → BankWay → ℕ → ℕ → Way
@@ -21,17 +20,16 @@ way_at reference w nodes line = record { node = w.node; nodes = nodes; number = 
 
 -- lines that are lent to a node
 pub record LentLines (K : Type 0) : Type 0 where
-  pub reference : GName
   pub keep : K
   pub node : ℕ
   pub wholes : List (WholeLine K)
 
 module _ {K : Type 0} where
-  abbrev pub lent_lines : GName → K → ℕ → List (WholeLine K) → LentLines K
-  lent_lines reference keep node wholes = record { reference = reference; keep = keep; node = node; wholes = wholes }
+  abbrev pub lent_lines : K → ℕ → List (WholeLine K) → LentLines K
+  lent_lines keep node wholes = record { keep = keep; node = node; wholes = wholes }
 
   abbrev pub lent_way : LentLines K → BankWay
-  lent_way s = record { node = s.node; lines = length s.wholes; reference = s.reference }
+  lent_way s = record { node = s.node; lines = length s.wholes }
 
   -- the line of this number
   abbrev pub whole_at : LentLines K → ℕ → WholeLine K
