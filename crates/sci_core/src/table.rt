@@ -65,12 +65,21 @@ impl Pending {
             )
             | (Pending::Converting { .. }, Event::Converted) => Some(Place::Node(me)),
             (Pending::Queueing { .. }, Event::PrependValid)
-            | (Pending::Leaving { seen: Some(None), .. }, Event::ReturnHomeDirty) => {
-                Some(Place::Memory)
-            }
-            (Pending::InQueue { forw: Some(head), copy: None, .. }, Event::AttachDirty(_)) => {
-                Some(Place::Node(*head))
-            }
+            | (
+                Pending::Leaving {
+                    seen: Some(None),
+                    ..
+                },
+                Event::ReturnHomeDirty,
+            ) => { Some(Place::Memory) }
+            (
+                Pending::InQueue {
+                    forw: Some(head),
+                    copy: None,
+                    ..
+                },
+                Event::AttachDirty(_),
+            ) => { Some(Place::Node(*head)) }
             _ => None,
         }
     }

@@ -163,7 +163,8 @@ fn end(number: u64, text: &[u8]) -> Result<(), DumpRefusal>
     }
 }
 
-/// Reads a dump: `Ok` exactly where the text is one. Else the first line of text that isn't what the format has there.
+/// Reads a dump: Ok with the value that the definition of reading (`specs/Reading.antt`) reads, else refusal 21 at the line of
+/// text that it names, counted from 1. Refusal 7: a growth of memory was refused.
 #[tactic(auto, unfolding(crate::specs::Reading::dump_of))]
 pub fn read_dump(alloc: Global, text: &[u8]) -> Result<Dump, DumpRefusal>
     ensures exact { Gives (λ d. d) result (dump_of text.now) }

@@ -12,7 +12,7 @@ pub enum DumpRefusal {
     /// Refusal 7: a growth of memory was refused.
     #[error("refused 7")]
     OutOfMemory,
-    /// Refusal 21: this line of text isn't what the format has there, or is cut or missing.
+    /// Refusal 21: the text is no dump, and this is the line that the definition of reading names.
     #[error("refused 21 at line {0}")]
     DumpFault(u64),
 }
