@@ -119,7 +119,7 @@ fn the_first_line_that_breaks_a_rule(rt: HostRuntime) -> Result<(), Fail> {
     let read = read_dump(rt.alloc(), TWO_LINES.as_bytes())?;
     assert_eq!(rt; check(&read), Verdict::Lawful);
     assert_eq!(rt; read.nodes, 2);
-    assert_eq!(rt; text_of(rt.alloc(), &read)?.as_str(), TWO_LINES);
+    assert!(rt; text_of(rt.alloc(), &read)?.as_str() == TWO_LINES);
     let (old, new) = ("0000000000000102", "000000000000ff02");
     let text = TWO_LINES.replacen(rt.alloc(), old, new, 1)?;
     assert_eq!(rt; fault_of(rt.alloc(), text.as_bytes()), Some(3));
@@ -256,8 +256,11 @@ fn dumps_a_closed_line(rt: HostRuntime) -> Result<(), Fail> {
     assert_eq!(rt; *line.pending(two), Pending::Idle);
     let closed = line.closed(rt.alloc())?;
     assert_eq!(rt; closed.tags.len(), 3);
-    let text = dump(rt.alloc(), &[closed])?;
-    assert_eq!(rt; text.as_str(), SHARED);
+    let lines = Dump {
+        nodes: 3,
+        lines: vec![in rt.alloc(); closed]?,
+    };
+    assert!(rt; text_of(rt.alloc(), &lines)?.as_str() == SHARED);
     Ok(())
 }
 
@@ -273,7 +276,7 @@ fn growths_refused_in_turn(rt: HostRuntime) {
     match read_dump(rt.alloc(), SHARED.as_bytes()) {
         Ok(read) => {
             if let Ok(text) = text_of(rt.alloc(), &read) {
-                assert_eq!(rt; text.as_str(), SHARED);
+                assert!(rt; text.as_str() == SHARED);
             }
         }
         Err(refusal) => assert_eq!(rt; refusal.number(), 7),
