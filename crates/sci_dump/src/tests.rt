@@ -1,7 +1,5 @@
 //! Dumps that are read, checked and written again, and texts that are none.
 use super::*;
-use sci_core::{AnyWords, Event, Line, Pending, Whole};
-use sci_words::{Kind, NodeId, Tag};
 use std::alloc::{AllocError, Global};
 use std::test::Fail;
 
@@ -206,61 +204,6 @@ fn changed_in_each_byte(rt: HostRuntime) -> Result<(), Fail> {
         }
         line = line_behind(line, *old);
     }
-    Ok(())
-}
-
-fn fresh(forw: Option<NodeId>) -> Tag {
-    Tag {
-        kind: Kind::Fresh,
-        held: false,
-        forw,
-        back: None,
-    }
-}
-
-/// The line that nodes 0, 1 and 2 have loaded, closed.
-#[test]
-fn dumps_a_closed_line(rt: HostRuntime) -> Result<(), Fail> {
-    let zero = NodeId::new(0).ok_or("node 0")?;
-    let one = NodeId::new(1).ok_or("node 1")?;
-    let two = NodeId::new(2).ok_or("node 2")?;
-    let mut line = Whole::open(rt.alloc(), 3, 0, Line::ZERO, AnyWords)?;
-    for event in [
-        Event::Queue(None),
-        Event::PrependValid,
-        Event::ReturnMemory,
-        Event::Settle,
-    ] {
-        assert!(rt; line.step(zero, event).is_ok());
-    }
-    for event in [
-        Event::Queue(Some(zero)),
-        Event::PrependValid,
-        Event::ReturnMemory,
-        Event::AttachFresh(fresh(None)),
-        Event::Settle,
-    ] {
-        assert!(rt; line.step(one, event).is_ok());
-    }
-    for event in [
-        Event::Queue(Some(one)),
-        Event::PrependValid,
-        Event::ReturnMemory,
-        Event::AttachFresh(fresh(Some(zero))),
-        Event::Settle,
-    ] {
-        assert!(rt; line.step(two, event).is_ok());
-    }
-    assert_eq!(rt; *line.pending(zero), Pending::Idle);
-    assert_eq!(rt; *line.pending(one), Pending::Idle);
-    assert_eq!(rt; *line.pending(two), Pending::Idle);
-    let closed = line.closed(rt.alloc())?;
-    assert_eq!(rt; closed.tags.len(), 3);
-    let lines = Dump {
-        nodes: 3,
-        lines: vec![in rt.alloc(); closed]?,
-    };
-    assert!(rt; text_of(rt.alloc(), &lines)?.as_str() == SHARED);
     Ok(())
 }
 
