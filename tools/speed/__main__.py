@@ -7,21 +7,21 @@ a table run in turn, so that whatever else the machine does meets all of them; r
 
 First, how many turns a second `scisim script` makes, by the number of nodes, lines and bytes of the script, where its text goes to
 /dev/null and to a pipe, beside a plain Rust simulator that reads and prints the same. Each script is of random loads, stores,
-additions and evictions, each taken to its end before the next begins. A run's time is that of the whole program on a
-processor: it reads the script, checks it, runs it and writes the answers; the best of N runs counts, and the ratio says how many
-times as fast the peer is. What is printed must be the same of both, and hold no
-`waits` and one answer a call. With --check the scripts take each turn by a command of its own, so the number of turns that is
-counted here is the program's.
+additions and evictions, each taken to its end before the next begins. A run's time is that of the whole program on a processor: it
+reads the script, checks it, runs it and writes the answers; the best of N runs counts, and the ratio says how many times as fast
+the peer is. What is printed must be the same of both, and hold no `waits` and one answer a call. With --check the scripts take
+each turn by a command of its own, so the number of turns that is counted here is the program's.
 
 Then, how many operations a second threads make, each by a seat of its own, and by the same operation again while it waits:
-additions of 1 to word 0 of a line, and loads of a line. The project's program (tools/speed/operations) is built beside copies of the
-crates, once on lines under a lock word (sci_coarse) and once on lines of separate words (sci_fine); its peers are std's Mutex and
-RwLock round eight words, and a lean Rust body of the same rows, on separate words 128 bytes apart (words) and under a lock word that
-each call takes (lock). A ratio is to the Mutex for additions, and to the RwLock for loads: above 1 is faster than that. Threads work
-in bursts that all begin together, each on a processor of its own; a burst counts where its threads were on a processor for 80 % of
-it, so that they truly met, and `n` bursts did. A rate is the median over rounds of the median of a round's bursts, a ratio the median
-of the ratios within a round. Where no burst counts, a star stands, and all of them are taken. The programs of threads are proved
-before they are built, in some minutes; with --keep they stay in the folder, and those that stand there are taken as they are.
+additions of 1 to word 0 of a line, and loads of a line. The project's program (tools/speed/operations) is built beside copies of
+the crates, once on lines under a lock word (sci_coarse) and once on lines of separate words (sci_fine); its peers are std's Mutex
+and RwLock round eight words, and a lean Rust body of the same rows, on separate words 128 bytes apart (words) and under a lock
+word that each call takes (lock). A ratio is to the Mutex for additions, and to the RwLock for loads: above 1 is faster than that.
+Threads work in bursts that all begin together, each on a processor of its own; a burst counts where its threads were on a
+processor for 80 % of it, so that they truly met, and `n` bursts did. A rate is the median over rounds of the median of a round's
+bursts, a ratio the median of the ratios within a round. Where no burst counts, a star stands, and all are taken, of the other too.
+The programs of threads are proved before they are built, in some minutes; with --keep they stay in the folder, and those that
+stand there are taken as they are.
 """
 
 import argparse

@@ -15,9 +15,9 @@ PEERS = ["mutex", "rwlock", "words", "lock"]
 # the share of a burst that its threads are to be on a processor, so that they truly meet
 MET = 0.8
 # operations of a thread in a burst, and bursts in a round
-COUNTS = {"sci_coarse": 1000, "sci_fine": 2000, "lock": 2000}
+COUNTS = {"sci_coarse": 500, "sci_fine": 1000, "lock": 2000}
 COUNT = 5000
-BURSTS = 20
+BURSTS = 40
 
 
 def used(command):
@@ -76,15 +76,16 @@ class Column:
         self.rounds = rounds
         self.met = sum(met for _, _, met in rounds)
 
-    def rates(self):
-        """A rate a round, of the bursts that met where any of the rounds has some."""
-        return [rate if self.met else every for rate, every, _ in self.rounds]
+    def rates(self, met):
+        """A rate a round: of the bursts that met, or of all."""
+        return [rate if met else every for rate, every, _ in self.rounds]
 
     def rate(self):
-        return statistics.median(rate for rate in self.rates() if rate)
+        return statistics.median(rate for rate in self.rates(self.met) if rate)
 
     def ratio(self, base):
-        ratios = [mine / its for mine, its in zip(self.rates(), base.rates()) if mine and its]
+        met = self.met and base.met
+        ratios = [mine / its for mine, its in zip(self.rates(met), base.rates(met)) if mine and its]
         return statistics.median(ratios) if ratios else None
 
 
