@@ -6,7 +6,8 @@ use Rattle.sci_core.specs.Run.{HasValue}
 use Rattle.sci_core.specs.Whole.{WholeLine, IsSameLine, nodes_of, state_of}
 use Rattle.sci_core.proofs.Lawfully.{opened_value}
 use Rattle.sci_port.specs.History.{IsHistory, value_of}
-use Rattle.sci_port.specs.Runs.{Leads}
+use Rattle.sci_port.specs.Runs.{Leads, done_by}
+use Rattle.sci_port.proofs.Running.{same_run}
 use Rattle.sci_port.specs.Solo.{Gives}
 use Rattle.sci_port.proofs.Histories.{history}
 use Rattle.sci_coarse.specs.declared.views.Entry.{Entry}
@@ -37,3 +38,7 @@ module _ {K : Type 0} (fits : K → ℕ → List ℕ → Type 0) where
       let count : nodes_of (opened_on t) ≡ t.nodes = length-replicate t.nodes invalid in
       let l : Leads (Gives t.nodes (fits t.keep t.number)) (state_of (opened_on t)) (calls_in run) (state_of w) = subst (λ (n : ℕ). Leads (Gives n (fits t.keep t.number)) (state_of (opened_on t)) (calls_in run) (state_of w)) count (led (None, opened_on t) run (None, w) r) in
       history t.nodes (fits t.keep t.number) (state_of (opened_on t)) t.opening (calls_in run) (state_of w) (opened_value (fits t.keep t.number) t.keep t.number t.nodes t.opening fit) l
+
+  -- where no node took a step, the line is as it was opened
+  pub unused : (t : Terms K) (run : List (ℕ × Entry)) (w : WholeLine K) → Leads (Moves fits) (None, opened_on t) run (None, w) → ((i : ℕ) → done_by i run ≡ []) → w ≡ opened_on t
+  unused t run w r none = let empty : run ≡ [] = same_run [] run none in ap (λ (z : Point K). z.1) (subst (λ (x : List (ℕ × Entry)). Leads (Moves fits) (None, opened_on t) x (None, w)) empty r)

@@ -14,13 +14,7 @@ use Rattle.sci_coarse.specs.declared.views.Entry.TheVariants.{Took, Missed, Gave
 use Rattle.sci_coarse.specs.Runs.{Point, Moves}
 use Rattle.sci_coarse.specs.Rule.{Shared, IsAtHome, IsOut, Locked, opened_on}
 use Rattle.sci_coarse.specs.Laws.{AreApart, IsOneStep, HasOneRun, AppendsSteps, TakesTruly, MissesTruly}
-use Rattle.sci_coarse.proofs.Listed.{inside, not_none}
-
--- there is an element at this place, or there is none
-seat_or : {A : Type 0} {P : Type 0} (l : List A) (i : ℕ) → ((x : A) → get_elem? l i ≡ some x → P) → (length l ≤ i → P) → P
-seat_or [] i f g = g (omega arith)
-seat_or (x ∷ xs) zero f g = f x refl
-seat_or (x ∷ xs) (suc i) f g = seat_or xs i f (λ far. g (omega arith))
+use Rattle.sci_coarse.proofs.Listed.{inside, not_none, seat_or}
 
 -- who has the lock word after a run
 holder_of : Option ℕ → List (ℕ × Entry) → Option ℕ

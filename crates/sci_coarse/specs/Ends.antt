@@ -30,15 +30,21 @@ pub record IsRun {K : Type 0} (fits : K → ℕ → List ℕ → Type 0) (t : Te
 abbrev pub KeepsLogs : {K : Type 0} {g : keeps.Ghosts K} → List (Seat K g) → View K → Type 0
 KeepsLogs {K} {g} seats v = (i : ℕ) (s : Seat K g) → get_elem? seats i ≡ some s → keeps_of i v ≡ s.token.me.0.log
 
+-- no seat has taken a step
+abbrev pub AreUnused : {K : Type 0} {g : keeps.Ghosts K} → List (Seat K g) → Type 0
+AreUnused {K} {g} seats = (i : ℕ) (s : Seat K g) → get_elem? seats i ≡ some s → s.token.me.0.log ≡ []
+
 -- an exact list, read off the end of the one run of all seats from the line as it was opened: the steps of the run, node by node,
 -- are those of the seats' logs, each at its place, and there are no others. What was answered is one legal history of the line,
--- from the opening line to the value at the end, where every pending step is Idle
+-- from the opening line to the value at the end, where every pending step is Idle. Where no seat has taken a step, it is the line
+-- as it was opened
 pub record IsEnd {K : Type 0} {g : keeps.Ghosts K} (fits : K → ℕ → List ℕ → Type 0) (t : Terms K) (seats : List (Seat K g)) (c : ClosedLine) : Type 0 where
   pub whole : WholeLine K
   pub run : List (ℕ × Entry)
   pub ran : Leads (Moves fits) (None, opened_on t) run (None, whole)
   pub logs : (i : ℕ) (s : Seat K g) → get_elem? seats i ≡ some s → s.token.me.0.log ≡ done_by i run
   pub nobody : (i : ℕ) → t.nodes ≤ i → done_by i run ≡ []
+  pub unused : AreUnused seats → whole ≡ opened_on t
   pub value : Line
   pub history : IsHistory t.opening (calls_in run) value
   pub valued : HasValue t.nodes (fits t.keep t.number) (state_of whole) value

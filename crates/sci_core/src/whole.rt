@@ -94,6 +94,13 @@ impl<K: Keeps> Whole<K> {
         self.number
     }
 
+    /// The fact that its words have.
+    pub fn keep(&self) -> K
+        ensures { result ≡ self.now.keep }
+    {
+        self.keep
+    }
+
     /// The memory word as it stands.
     pub fn mem(&self) -> Mem
         ensures value { result ≡ (state_of self.now).memory }

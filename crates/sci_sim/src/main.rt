@@ -1,31 +1,20 @@
 //! `scisim script [FILE]`: runs a script.
 #![tactic(auto)]
 
+mod commands;
 mod faults;
 mod input;
 mod serve;
 #[cfg(test)]
 mod tests;
 
-use clap::{Arg, Command};
+use commands::commands;
 use faults::SimFault;
 use serve::serve_buffered;
 use std::alloc::AllocError;
 use std::fs::File;
 use std::io::{self, BufWriter, ErrorKind};
 use std::process::ExitCode;
-
-fn command<'a>(rt: &impl AllocGlobal) -> Result<Command<'a>, AllocError> {
-    let file = Arg::new(rt.alloc(), "FILE").help("the script; without it standard input is read");
-    let script = Command::new(rt.alloc(), "script")
-        .about("Runs a script and prints its text")
-        .arg(file)?;
-    Command::new(rt.alloc(), "scisim")
-        .bin_name("scisim")?
-        .about("A model of cache coherence by sharing lists")
-        .subcommand_required(true)
-        .subcommand(script)
-}
 
 /// How many bytes of the text wait to be written together.
 const BUFFER: usize = 65_536;
@@ -51,7 +40,7 @@ fn scisim(rt: &HostRuntime) -> Result<ExitCode, SimFault> {
         _ => SimFault::CannotRead,
     })?;
     let words: Vec<String> = arguments.collect(rt.alloc())?;
-    match command(rt)?.try_get_matches_from(words.as_slice()) {
+    match commands(rt)?.try_get_matches_from(words.as_slice()) {
         Ok(matches) => match matches.subcommand() {
             Some(("script", options)) => script(rt, options.get_str("FILE")).map(
                 |()| ExitCode::SUCCESS,
