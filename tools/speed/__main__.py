@@ -1,24 +1,27 @@
-"""How fast it is, beside what plain Rust makes of the same: turns of scripts, and additions by threads.
+"""How fast it is, beside what plain Rust makes of the same: turns of scripts, and operations of threads.
 
-    python3 tools/speed [--runs N] [--check] [--only scripts|threads]
+    python3 tools/speed [--runs N] [--check] [--only scripts|threads] [--keep FOLDER]
 
-The peers stand in tools/peers, and are built here by rustc; without it the project's programs are measured alone. Each ratio is
-to the project's program in the same line of the table: how many times as fast the peer is. All programs of a line run in turn, so
-that whatever else the machine does meets all of them; ratios hold from run to run, rates don't.
+The peers stand in tools/peers, and are built here by rustc; without it the project's programs are measured alone. All programs of
+a table run in turn, so that whatever else the machine does meets all of them; ratios hold from run to run, rates don't.
 
 First, how many turns a second `scisim script` makes, by the number of nodes, lines and bytes of the script, where its text goes to
 /dev/null and to a pipe, beside a plain Rust simulator that reads and prints the same. Each script is of random loads, stores,
-additions and evictions, each taken to its end before the next begins. A run's time is that of the whole program on a
-processor: it reads the script, checks it, runs it and writes the answers; the best of N runs counts. What is printed must be the same of both, and hold no
-`waits` and one answer a call. With --check the scripts take each turn by a command of its own, so the number of turns that is
-counted here is the program's.
+additions and evictions, each taken to its end before the next begins. A run's time is that of the whole program on a processor: it
+reads the script, checks it, runs it and writes the answers; the best of N runs counts, and the ratio says how many times as fast
+the peer is. What is printed must be the same of both, and hold no `waits` and one answer a call. With --check the scripts take
+each turn by a command of its own, so the number of turns that is counted here is the program's.
 
-Then, how many additions a second threads make that add 1 to word 0 of a line, each by a seat of its own, and try again while they
-wait: on lines under lock words (tools/speed/adds, which is built beside the crates in a folder of its own), on std's Mutex and
-RwLock round eight words, and by a lean Rust body of the same rows, under a lock word that each call takes (lock) and on separate
-words (words). The time is that of a run less that of one with no additions. A run counts where its threads were on a processor for
-80 % of it, so that they truly met; of N such runs or more the best is taken. Where none counts, a star stands, and the run taken is
-the one whose threads met most.
+Then, how many operations a second threads make, each by a seat of its own, and by the same operation again while it waits:
+additions of 1 to word 0 of a line, and loads of a line. The project's program (tools/speed/operations) is built beside copies of
+the crates, once on lines under a lock word (sci_coarse) and once on lines of separate words (sci_fine); its peers are std's Mutex
+and RwLock round eight words, and a lean Rust body of the same rows, on separate words 128 bytes apart (words) and under a lock
+word that each call takes (lock). A ratio is to the Mutex for additions, and to the RwLock for loads: above 1 is faster than that.
+Threads work in bursts that all begin together, each on a processor of its own; a burst counts where its threads were on a
+processor for 80 % of it, so that they truly met, and `n` bursts did. A rate is the median over rounds of the median of a round's
+bursts, a ratio the median of the ratios within a round. Where no burst counts, a star stands, and all are taken, of the other too.
+The programs of threads are proved before they are built, in some minutes; with --keep they stay in the folder, and those that
+stand there are taken as they are.
 """
 
 import argparse
@@ -51,6 +54,7 @@ def main():
     parser.add_argument("--runs", type=int, default=5)
     parser.add_argument("--check", action="store_true")
     parser.add_argument("--only", choices=["scripts", "threads"])
+    parser.add_argument("--keep", type=pathlib.Path)
     chosen = parser.parse_args()
     with tempfile.TemporaryDirectory() as name:
         folder = pathlib.Path(name)
@@ -61,7 +65,7 @@ def main():
             programs = {"scisim": ROOT / "crates/sci_sim/out/sci_sim"} | ({"plain": peers["sim"]} if peers else {})
             scripts.measure_all(programs, chosen.runs, chosen.check)
         if chosen.only != "scripts" and not chosen.check:
-            threads.measure_all(folder, peers.get("threads"), chosen.runs)
+            threads.measure_all(folder, (chosen.keep or folder).resolve(), peers.get("threads"), chosen.runs)
 
 
 main()

@@ -1,94 +1,126 @@
-"""Threads: how many additions a second they make on lines under lock words, beside std's locks and a lean Rust body."""
+"""Threads: how many operations a second they make on the project's lines, beside std's locks and a lean Rust body."""
 
 import os
 import pathlib
-import shutil
+import statistics
 import subprocess
-import time
 
-ROOT = pathlib.Path(__file__).resolve().parents[2]
-# threads, lines, the programs' word for them
-SHAPES = [(1, 1, "one"), (2, 1, "two"), (4, 1, "four"), (4, 4, "apart")]
-# the seconds that each thread of a run is to work at least, and the share of the run that it is to be on a processor
-SECONDS = 0.03
+import programs
+
+# the programs' word, threads, lines
+SHAPES = [("one", 1, 1), ("two", 2, 1), ("four", 4, 1), ("apart", 4, 4)]
+# what the ratios are to
+BASES = {"adds": "mutex", "loads": "rwlock"}
+PEERS = ["mutex", "rwlock", "words", "lock"]
+# the share of a burst that its threads are to be on a processor, so that they truly meet
 MET = 0.8
-# how many rounds there are at most for each run that is to count
-ROUNDS = 4
+# operations of a thread in a burst, and bursts in a round
+COUNTS = {"sci_coarse": 500, "sci_fine": 1000, "lock": 2000}
+COUNT = 5000
+BURSTS = 40
 
 
-def build_adds(folder):
-    """The program of the threads, built in this folder."""
-    crates = folder / "crates"
-    crates.mkdir()
-    for crate in ["sci_words", "sci_core", "sci_port", "sci_ops", "sci_coarse"]:
-        shutil.copytree(ROOT / "crates" / crate, crates / crate)
-    # the program's files end in .txt, since the gate reads each source below the top as one of a crate's
-    for text in (ROOT / "tools/speed/adds").rglob("*.txt"):
-        source = crates / "adds" / text.relative_to(ROOT / "tools/speed/adds").with_suffix("")
-        source.parent.mkdir(parents=True, exist_ok=True)
-        shutil.copy(text, source)
-    shutil.copy(ROOT / "HANDLES", folder)
-    uses = "adds: sci_words sci_core sci_port sci_ops sci_coarse crossbeam_utils\n"
-    listed = [line for line in (ROOT / "crates.txt").open() if (crates / line.split(":")[0]).is_dir()]
-    (folder / "crates.txt").write_text("".join(listed) + uses)
-    command = ["rt", "run", "adds", "--jobs", "2", "--", "one", "0"]
-    subprocess.run(command, cwd=crates / "adds", stdout=subprocess.DEVNULL, stderr=subprocess.DEVNULL, check=True)
-    return crates / "adds/out/adds"
-
-
-def run(command, shape, count):
-    """The seconds of a run, and those that its threads were on a processor."""
-    start = time.perf_counter()
-    process = subprocess.Popen([*command, shape, str(count)])
-    _, status, used = os.wait4(process.pid, 0)
+def used(command):
+    """The nanoseconds that a program was on a processor."""
+    process = subprocess.Popen(command)
+    _, status, usage = os.wait4(process.pid, 0)
     process.returncode = status
     if status != 0:
         raise subprocess.CalledProcessError(status, command)
-    return time.perf_counter() - start, used.ru_utime + used.ru_stime
+    return (usage.ru_utime + usage.ru_stime) * 1e9
 
 
-class Body:
-    """A way to add, measured in one shape: of each run the seconds of an addition, and the share of it on a processor."""
-
-    def __init__(self, command, threads, shape):
-        self.command, self.threads, self.shape = command, threads, shape
-        self.empty = min(run(command, shape, 0) for _ in range(5))
-        self.count = 500
-        while run(command, shape, self.count)[1] - self.empty[1] < SECONDS * threads:
-            self.count *= 2
-        self.runs = []
-
-    def measure(self):
-        wall, used = run(self.command, self.shape, self.count)
-        wall -= self.empty[0]
-        share = (used - self.empty[1]) / (wall * self.threads)
-        self.runs.append((share, wall / (self.threads * self.count)))
-
-    def met(self):
-        return [seconds for share, seconds in self.runs if share >= MET]
-
-    def best(self):
-        return min(self.met(), default=max(self.runs)[1])
+def bursts_of(text):
+    return [(float(nanos), float(share)) for nanos, share in (line.split() for line in text.splitlines())]
 
 
-def measure_shape(commands, threads, lines, shape, runs):
-    bodies = {name: Body(command, threads, shape) for name, command in commands.items()}
-    for _ in range(ROUNDS * runs):
-        for body in bodies.values():
-            body.measure()
-        if all(len(body.met()) >= runs for body in bodies.values()):
-            break
-    first = next(iter(bodies.values())).best()
-    cells = [f"{1e-6 / b.best():8.2f}{' ' if b.met() else '*'}M/s {first / b.best():6.2f}" for b in bodies.values()]
-    print(f"{threads:7} {lines:5}", *cells, flush=True)
+class Ways:
+    """The programs by the name of what they measure."""
+
+    def __init__(self, folder, kept, peer):
+        self.own = {line: programs.build(kept, line) for line in programs.LINES}
+        self.peer = peer
+        self.pin = folder / "pin.so"
+        source = pathlib.Path(__file__).with_name("pin.c")
+        subprocess.run(["cc", "-O2", "-shared", "-fPIC", "-o", self.pin, source], check=True)
+
+    def names(self):
+        return [*self.own, *(PEERS if self.peer else [])]
+
+    def bursts(self, name, work, shape, threads, count):
+        if name not in self.own:
+            command = [self.peer, name, work, shape, str(count), str(BURSTS)]
+            return bursts_of(subprocess.run(command, stdout=subprocess.PIPE, text=True, check=True).stdout)
+        command = [self.own[name], work, shape]
+        if threads == 1:
+            # no thread to meet: what a long run takes on its processor, less that of an empty one
+            runs = [used([*command, str(100 * count)]) - used([*command, "0"]) for _ in range(3)]
+            return [(nanos / 100, 1.0) for nanos in runs]
+        environment = dict(os.environ, LD_PRELOAD=str(self.pin), WORKERS=str(threads))
+        runs = (subprocess.run([*command, str(count)], env=environment, stderr=subprocess.PIPE, text=True, check=True)
+                for _ in range(BURSTS))
+        return bursts_of("".join(run.stderr for run in runs))
+
+    def measure(self, name, work, shape, threads):
+        """The median rate of a round's bursts that met, that of all, and how many met."""
+        count = COUNTS.get(name, COUNT)
+        rates = [(threads * count * 1e3 / nanos, share) for nanos, share in self.bursts(name, work, shape, threads, count)]
+        met = [rate for rate, share in rates if share >= MET]
+        return statistics.median(met) if met else None, statistics.median(rate for rate, _ in rates), len(met)
 
 
-def measure_all(folder, peer, runs):
-    """Rounds of the project's program and, where it was built, the peer's."""
-    commands = {"sci_coarse": [build_adds(folder)]}
-    if peer:
-        commands |= {name: [peer, name] for name in ("mutex", "rwlock", "lock", "words")}
-    head = "".join(f"{name:>14} ratio" for name in commands)
-    print(f"threads lines{head}", flush=True)
-    for threads, lines, shape in SHAPES:
-        measure_shape(commands, threads, lines, shape, runs)
+class Column:
+    """The rounds of one way, in one shape."""
+
+    def __init__(self, rounds):
+        self.rounds = rounds
+        self.met = sum(met for _, _, met in rounds)
+
+    def rates(self, met):
+        """A rate a round: of the bursts that met, or of all."""
+        return [rate if met else every for rate, every, _ in self.rounds]
+
+    def rate(self):
+        return statistics.median(rate for rate in self.rates(self.met) if rate)
+
+    def ratio(self, base):
+        met = self.met and base.met
+        ratios = [mine / its for mine, its in zip(self.rates(met), base.rates(met)) if mine and its]
+        return statistics.median(ratios) if ratios else None
+
+
+def number(ratio):
+    return "-" if ratio is None else f"{ratio:.3f}"
+
+
+def print_table(work, table, names):
+    base = BASES[work]
+    print(f"\n{work:11}" + "".join(f"{f'{threads} on {lines}':>24}" for _, threads, lines in SHAPES))
+    print(f"{'':11}" + f"{'M/s    ratio    n':>24}" * len(SHAPES))
+    for name in names:
+        cells = []
+        for shape, _, _ in SHAPES:
+            column = table[name, shape]
+            ratio = number(column.ratio(table[base, shape])) if (base, shape) in table else "-"
+            cells.append(f"{column.rate():>10.2f}{' ' if column.met else '*'}{ratio:>8}{column.met:>5}")
+        print(f"{name:11}" + "".join(cells), flush=True)
+    four_to_one = ", ".join(f"{name} {number(table[name, 'four'].ratio(table[name, 'one']))}" for name in names)
+    print(f"4 threads on a line : 1: {four_to_one}", flush=True)
+
+
+def load():
+    return " ".join(f"{load:.1f}" for load in os.getloadavg())
+
+
+def measure_all(folder, kept, peer, rounds):
+    """In each round each way in each shape, one after the other."""
+    ways = Ways(folder, kept, peer)
+    for work in BASES:
+        print(f"\n{work}: load of the machine {load()} before", end="", flush=True)
+        found = {}
+        for _ in range(rounds):
+            for shape, threads, _ in SHAPES:
+                for name in ways.names():
+                    found.setdefault((name, shape), []).append(ways.measure(name, work, shape, threads))
+        print(f", {load()} after", flush=True)
+        print_table(work, {key: Column(rows) for key, rows in found.items()}, ways.names())

@@ -1,9 +1,9 @@
 //! One node's way to one line, or to all lines of a memory: the calls that operations are made of, whatever a line is kept in.
 #![tactic(auto)]
 
-mod calls;
 mod at;
 mod bank;
+mod calls;
 mod port;
 pub mod recording;
 mod solo;
@@ -11,9 +11,9 @@ mod solo_bank;
 #[cfg(test)]
 mod tests;
 
-pub use calls::Call;
 pub use at::At;
 pub use bank::Bank;
+pub use calls::Call;
 pub use port::Port;
 pub use sci_core::{AnyWords, Keeps};
 pub use solo::Solo;

@@ -1,12 +1,15 @@
-//! `threads WHAT SHAPE COUNT`: threads that add 1 to word 0 of a line of eight words, so many times each.
+//! `threads WHAT WORK SHAPE COUNT BURSTS`: threads that do so many operations each, in so many bursts, on lines of eight words.
 //!
-//! WHAT is `mutex` or `rwlock`, std's, round the words; or the rows of docs/PROTOCOL.md in Rust: `words`, each word an atomic of its
+//! It prints a line for each burst: its nanoseconds, and the share of them that its threads were on a processor. WORK is `adds`, of
+//! 1 to word 0, or `loads`. WHAT is `mutex` or `rwlock`, std's, round the words; or the rows of docs/PROTOCOL.md in Rust: `words`, each word an atomic of its
 //! own, or `lock`, all under one lock word that each call takes. SHAPE is `one`, `two` or `four` threads on one line, or `apart`,
 //! four threads on a line each.
 
+mod bursts;
 mod ports;
 mod protocol;
 
+use bursts::Bursts;
 use ports::{Fine, LockWord};
 use protocol::{Goal, Port, Seat, Table, Turn};
 use std::hint::{black_box, spin_loop};
@@ -21,9 +24,11 @@ type Words = [u64; 8];
 struct Padded<T>(T);
 
 struct Run {
+    loads: bool,
     threads: usize,
     lines: usize,
     count: u64,
+    bursts: u64,
 }
 
 // Waits a little, twice as long each time, and then gives the processor away, as crossbeam's `Backoff::snooze`.
@@ -41,34 +46,35 @@ impl Backoff {
 }
 
 impl Run {
-    // Each thread t does the work of its seat, on line t modulo lines.
-    fn work<S>(&self, seat: impl Fn(usize) -> S + Sync, add: impl Fn(&mut S) + Sync) {
-        thread::scope(|scope| {
-            for t in 0..self.threads {
-                let (seat, add) = (&seat, &add);
-                scope.spawn(move || {
-                    let mut seat = seat(t);
-                    (0..self.count).for_each(|_| add(&mut seat));
-                });
-            }
-        });
+    // Each thread t does the operation on its seat, on line t modulo lines.
+    fn work<S>(&self, seat: impl Fn(usize) -> S + Sync, operation: impl Fn(&mut S) + Sync) {
+        let bursts = Bursts { threads: self.threads, number: self.bursts };
+        bursts.run(seat, |seat| (0..self.count).for_each(|_| operation(seat)));
     }
 
-    fn locked<L: Sync>(&self, new: impl Fn() -> L, add: impl Fn(&L) + Sync, sum: impl Fn(&L) -> u64) {
+    fn locked<L: Sync>(&self, new: impl Fn() -> L, add: impl Fn(&L) + Sync, load: impl Fn(&L) -> Words + Sync) {
         let lines: Vec<Padded<L>> = (0..self.lines).map(|_| Padded(new())).collect();
-        self.work(|t| &lines[t % self.lines].0, |line| add(line));
-        self.check(lines.iter().map(|line| sum(&line.0)).sum());
+        let seat = |t: usize| &lines[t % self.lines].0;
+        if self.loads {
+            self.work(seat, |line| {
+                black_box(load(line));
+            });
+        } else {
+            self.work(seat, |line| add(line));
+        }
+        self.check(lines.iter().map(|line| load(&line.0)[0]).sum());
     }
 
     fn protocol<P: Port>(&self, new: impl Fn(usize) -> P, table: impl Fn(P) -> Table) {
         let nodes = self.threads / self.lines;
         let lines: Vec<P> = (0..self.lines).map(|_| new(nodes)).collect();
+        let goal = if self.loads { Goal::Load } else { Goal::Add { word: 0, delta: 1 } };
         self.work(
             |t| Seat::new(&lines[t % self.lines], t / self.lines),
             |seat| {
                 let mut backoff = Backoff(0);
                 loop {
-                    match seat.turn(Goal::Add { word: 0, delta: 1 }) {
+                    match seat.turn(goal) {
                         Turn::Done(line) => {
                             black_box(line);
                             break;
@@ -83,11 +89,17 @@ impl Run {
     }
 
     fn check(&self, sum: u64) {
-        assert_eq!(sum, self.threads as u64 * self.count, "an addition was lost");
+        let adds = if self.loads { 0 } else { self.threads as u64 * self.count * self.bursts };
+        assert_eq!(sum, adds, "an addition was lost");
     }
 }
 
-fn run_of(shape: &str, count: &str) -> Option<Run> {
+fn run_of(work: &str, shape: &str, count: &str, bursts: &str) -> Option<Run> {
+    let loads = match work {
+        "adds" => false,
+        "loads" => true,
+        _ => return None,
+    };
     let (threads, lines) = match shape {
         "one" => (1, 1),
         "two" => (2, 1),
@@ -95,22 +107,21 @@ fn run_of(shape: &str, count: &str) -> Option<Run> {
         "apart" => (4, 4),
         _ => return None,
     };
-    let count = count.parse().ok()?;
-    Some(Run { threads, lines, count })
+    Some(Run { loads, threads, lines, count: count.parse().ok()?, bursts: bursts.parse().ok()? })
 }
 
 fn main() -> ExitCode {
     let args: Vec<String> = std::env::args().skip(1).collect();
-    let [what, shape, count] = &args[..] else {
+    let [what, work, shape, count, bursts] = &args[..] else {
         return ExitCode::from(2);
     };
-    let Some(run) = run_of(shape, count) else {
+    let Some(run) = run_of(work, shape, count, bursts) else {
         return ExitCode::from(2);
     };
     let zero: Words = [0; 8];
     match what.as_str() {
-        "mutex" => run.locked(|| Mutex::new(zero), |l| l.lock().unwrap()[0] += 1, |l| l.lock().unwrap()[0]),
-        "rwlock" => run.locked(|| RwLock::new(zero), |l| l.write().unwrap()[0] += 1, |l| l.read().unwrap()[0]),
+        "mutex" => run.locked(|| Mutex::new(zero), |l| l.lock().unwrap()[0] += 1, |l| *l.lock().unwrap()),
+        "rwlock" => run.locked(|| RwLock::new(zero), |l| l.write().unwrap()[0] += 1, |l| *l.read().unwrap()),
         "words" => run.protocol(|nodes| Fine(Table::apart(nodes)), |line| line.0),
         "lock" => run.protocol(|nodes| LockWord::new(Table::packed(nodes)), LockWord::into_table),
         _ => return ExitCode::from(2),
