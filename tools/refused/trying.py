@@ -148,7 +148,7 @@ class Trial:
                 self.failed[edit] = told
             else:
                 again.append(edit)
-        count = sum(it in self.refused for it in batch)
-        self.say(f"{self.crate.name}: {label}: {count} of {len(batch)} edits refused ({used:.0f} CPU s)")
+        told = [it.name for it in batch if it in self.refused]
+        self.say(f"{self.crate.name}: {label}: {len(told)} of {len(batch)} edits refused ({used:.0f} CPU s): {' '.join(told)}")
         for edit in again:
             self.try_batch([edit], f"{label}: {edit.name} alone")

@@ -13,7 +13,7 @@ use std::io::Write;
 use std::process::Abort;
 use std::test::Fail;
 
-const LAST: u16 = 25;
+const LAST: u16 = 23;
 
 const SCRIPT: &str = "memory 1 1\nload 0 0 0\ndone 0\nlist 0\n";
 
@@ -180,12 +180,12 @@ fn growth_4_of_read_script(rt: HostRuntime) -> Result<(), Fail> {
 }
 
 #[test]
-fn growth_5_made_up_for(rt: HostRuntime) -> Result<(), Fail> {
+fn growth_5_of_open(rt: HostRuntime) -> Result<(), Fail> {
     refuses(&rt, rt.alloc(), LAST - 5)
 }
 
 #[test]
-fn growth_6_made_up_for(rt: HostRuntime) -> Result<(), Fail> {
+fn growth_6_of_open(rt: HostRuntime) -> Result<(), Fail> {
     refuses(&rt, rt.alloc(), LAST - 6)
 }
 
@@ -205,12 +205,12 @@ fn growth_9_of_open(rt: HostRuntime) -> Result<(), Fail> {
 }
 
 #[test]
-fn growth_10_of_open(rt: HostRuntime) -> Result<(), Fail> {
+fn growth_10_of_run(rt: HostRuntime) -> Result<(), Fail> {
     refuses(&rt, rt.alloc(), LAST - 10)
 }
 
 #[test]
-fn growth_11_of_open(rt: HostRuntime) -> Result<(), Fail> {
+fn growth_11_of_run(rt: HostRuntime) -> Result<(), Fail> {
     refuses(&rt, rt.alloc(), LAST - 11)
 }
 
@@ -240,12 +240,12 @@ fn growth_16_of_run(rt: HostRuntime) -> Result<(), Fail> {
 }
 
 #[test]
-fn growth_17_of_run(rt: HostRuntime) -> Result<(), Fail> {
+fn growth_17_of_list_text(rt: HostRuntime) -> Result<(), Fail> {
     refuses(&rt, rt.alloc(), LAST - 17)
 }
 
 #[test]
-fn growth_18_of_run(rt: HostRuntime) -> Result<(), Fail> {
+fn growth_18_of_list_text(rt: HostRuntime) -> Result<(), Fail> {
     refuses(&rt, rt.alloc(), LAST - 18)
 }
 
@@ -255,12 +255,12 @@ fn growth_19_of_list_text(rt: HostRuntime) -> Result<(), Fail> {
 }
 
 #[test]
-fn growth_20_of_list_text(rt: HostRuntime) -> Result<(), Fail> {
+fn growth_20_of_tag_text(rt: HostRuntime) -> Result<(), Fail> {
     refuses(&rt, rt.alloc(), LAST - 20)
 }
 
 #[test]
-fn growth_21_of_list_text(rt: HostRuntime) -> Result<(), Fail> {
+fn growth_21_of_tag_text(rt: HostRuntime) -> Result<(), Fail> {
     refuses(&rt, rt.alloc(), LAST - 21)
 }
 
@@ -270,16 +270,6 @@ fn growth_22_of_tag_text(rt: HostRuntime) -> Result<(), Fail> {
 }
 
 #[test]
-fn growth_23_of_tag_text(rt: HostRuntime) -> Result<(), Fail> {
-    refuses(&rt, rt.alloc(), LAST - 23)
-}
-
-#[test]
-fn growth_24_of_tag_text(rt: HostRuntime) -> Result<(), Fail> {
-    refuses(&rt, rt.alloc(), LAST - 24)
-}
-
-#[test]
-fn growth_25_of_nothing(rt: HostRuntime) -> Result<(), Fail> {
+fn growth_23_of_nothing(rt: HostRuntime) -> Result<(), Fail> {
     refuses(&rt, rt.alloc(), 0)
 }
