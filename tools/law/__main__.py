@@ -5,6 +5,7 @@
     python3 tools/law compact      find again what follows without instances, from nothing
     python3 tools/law possible     ask the solver whether each row's premises can be met
     python3 tools/law readback 4   ask the solver whether the definitions follow from the law, at 4 nodes
+    python3 tools/law ask ROW [CLAUSE]   ask the solver whether the row keeps the law, or the clause, and show what breaks it
 """
 import os
 import re
@@ -106,6 +107,11 @@ def main():
         import readback
         readback.readback(int(more[0]) if more else 4)
         return
+    if command == 'ask':
+        import ask
+        if not more:
+            raise SystemExit('which row? python3 tools/law ask ROW [CLAUSE]')
+        sys.exit(0 if ask.ask(more[0], more[1:]) else 1)
     if command == 'possible':
         import solver
         print('rows that can never be taken:', [row.name for row in ROWS.values() if not solver.possible(row)])

@@ -1,189 +1,71 @@
-"""How fast it is: turns of scripts, and additions by threads on lines under lock words.
+"""How fast it is, beside what plain Rust makes of the same: turns of scripts, and operations of threads.
 
-    python3 tools/speed [--runs N] [--check]
+    python3 tools/speed [--runs N] [--check] [--only scripts|threads] [--keep FOLDER]
 
-First, how many turns a second `scisim script` makes, by the number of nodes, lines and bytes of the script. Each script is of
-random loads, stores, additions and evictions, each taken to its end before the next begins. A run's time is that of the whole
-program: it reads the script, checks it, runs it and writes the answers; the best of N runs counts. With --check the scripts
-take each turn by a command of its own instead, and what is printed must hold no `waits` and one answer a call: so the number
-of turns that is counted here is the program's.
+The peers stand in tools/peers, and are built here by rustc; without it the project's programs are measured alone. All programs of
+a table run in turn, so that whatever else the machine does meets all of them; ratios hold from run to run, rates don't.
 
-Then, how many additions a second threads make that add 1 to word 0 of a line, each by a seat of its own, and try again while they
-wait. The program is tools/speed/adds, which is built beside the crates in a folder of its own; the time is that of a run less that
-of one with no additions.
+First, how many turns a second `scisim script` makes, by the number of nodes, lines and bytes of the script, where its text goes to
+/dev/null and to a pipe, beside a plain Rust simulator that reads and prints the same. Each script is of random loads, stores,
+additions and evictions, each taken to its end before the next begins. A run's time is that of the whole program on a processor: it
+reads the script, checks it, runs it and writes the answers; the best of N runs counts, and the ratio says how many times as fast
+the peer is. What is printed must be the same of both, and hold no `waits` and one answer a call. With --check the scripts take
+each turn by a command of its own, so the number of turns that is counted here is the program's.
+
+Then, how many operations a second threads make, each by a seat of its own, and by the same operation again while it waits:
+additions of 1 to word 0 of a line, and loads of a line. The project's program (tools/speed/operations) is built beside copies of
+the crates, once on lines under a lock word (sci_coarse) and once on lines of separate words (sci_fine); its peers are std's Mutex
+and RwLock round eight words, and a lean Rust body of the same rows, on separate words 128 bytes apart (words) and under a lock
+word that each call takes (lock). A ratio is to the Mutex for additions, and to the RwLock for loads: above 1 is faster than that.
+Threads work in bursts that all begin together, each on a processor of its own; a burst counts where its threads were on a
+processor for 80 % of it, so that they truly met, and `n` bursts did. A rate is the median over rounds of the median of a round's
+bursts, a ratio the median of the ratios within a round. Where no burst counts, a star stands, and all are taken, of the other too.
+The programs of threads are proved before they are built, in some minutes; with --keep they stay in the folder, and those that
+stand there are taken as they are.
 """
 
 import argparse
 import pathlib
-import random
 import shutil
 import subprocess
-import sys
 import tempfile
-import time
+
+import scripts
+import threads
 
 ROOT = pathlib.Path(__file__).resolve().parents[2]
-MEBIBYTE = 1 << 20
-# nodes, lines, bytes of the script
-SETTINGS = [
-    (8, 1, MEBIBYTE),
-    (64, 1, MEBIBYTE),
-    (8, 1024, MEBIBYTE),
-    (64, 1024, MEBIBYTE // 4),
-    (64, 1024, MEBIBYTE // 2),
-    (64, 1024, MEBIBYTE),
-]
-# threads, lines, the program's word for them
-SHAPES = [(1, 1, "one"), (2, 1, "two"), (4, 1, "four"), (4, 4, "apart")]
-ADDS = 200_000
 
 
-class SharingList:
-    """A line between two calls: its sharers from the head on, and whether the head is dirty."""
-
-    def __init__(self):
-        self.sharers = []
-        self.dirty = False
-
-    def enter(self, node):
-        """Turns to become the head."""
-        turns = 5 if self.sharers else 4
-        self.sharers.insert(0, node)
-        return turns
-
-    def roll_out(self, node):
-        """Turns of an entry behind the head to leave."""
-        turns = 3 if self.sharers[-1] == node else 4
-        self.sharers.remove(node)
-        return turns
-
-    def load(self, node):
-        return 2 if node in self.sharers else self.enter(node)
-
-    def write(self, node):
-        turns = 0
-        if node in self.sharers[1:]:
-            turns += self.roll_out(node)
-        if node not in self.sharers:
-            turns += self.enter(node)
-        turns += 1 if self.dirty else 3
-        turns += 3 * (len(self.sharers) - 1) + 1
-        self.sharers = [node]
-        self.dirty = True
-        return turns
-
-    def evict(self, node):
-        if node not in self.sharers:
-            return 1
-        if self.sharers[0] != node:
-            return self.roll_out(node)
-        if len(self.sharers) > 1:
-            self.sharers.pop(0)
-            return 4
-        turns = 4 if self.dirty else 3
-        self.sharers.pop()
-        self.dirty = False
-        return turns
-
-
-def script_of(nodes, lines, size, each_turn):
-    """A script of at most so many bytes, its calls and its turns."""
-    pick = random.Random(f"{nodes} {lines}")
-    lists = [SharingList() for _ in range(lines)]
-    commands = [f"memory {nodes} {lines}\n"]
-    length, calls, turns = len(commands[0]), 0, 0
-    while True:
-        node, line, word = pick.randrange(nodes), pick.randrange(lines), pick.randrange(8)
-        value = pick.randrange(1 << 32)
-        kind = pick.choices(["load", "store", "add", "evict"], [5, 2, 2, 1])[0]
-        sharers = lists[line]
-        if kind == "load":
-            begin, taken = f"load {node} {line} {word}\n", sharers.load
-        elif kind == "evict":
-            begin, taken = f"evict {node} {line}\n", sharers.evict
-        else:
-            begin, taken = f"{kind} {node} {line} {word} {value}\n", sharers.write
-        count = taken(node)
-        end = f"turn {node}\n" * count if each_turn else f"done {node}\n"
-        length += len(begin) + len(end)
-        if length > size:
-            return "".join(commands), calls, turns
-        commands += [begin, end]
-        calls += 1
-        turns += count
-
-
-def run(path):
-    """The seconds of a run, and what it printed."""
-    start = time.perf_counter()
-    done = subprocess.run([ROOT / "scisim", "script", path], stdout=subprocess.PIPE, check=True)
-    return time.perf_counter() - start, done.stdout.decode()
-
-
-def measure(nodes, lines, size, runs, each_turn):
-    text, calls, turns = script_of(nodes, lines, size, each_turn)
-    with tempfile.NamedTemporaryFile("w", suffix=".txt") as script:
-        script.write(text)
-        script.flush()
-        taken = []
-        for _ in range(runs):
-            seconds, printed = run(script.name)
-            if printed.count("\n") != calls or " waits" in printed:
-                sys.exit(f"{nodes} nodes, {lines} lines: {calls} calls were to end, without a wait")
-            taken.append(seconds)
-    best = min(taken)
-    print(f"{nodes:5} {lines:5} {len(text):9} {calls:7} {turns:8} {best:8.3f} {turns / best:10.0f}", flush=True)
-
-
-def build_adds(folder):
-    """The program of the threads, built in this folder."""
-    crates = folder / "crates"
-    crates.mkdir()
-    for crate in ["sci_words", "sci_core", "sci_port", "sci_ops", "sci_coarse"]:
-        shutil.copytree(ROOT / "crates" / crate, crates / crate)
-    # the program's files end in .txt, since the gate reads each source below the top as one of a crate's
-    for text in (ROOT / "tools/speed/adds").rglob("*.txt"):
-        source = crates / "adds" / text.relative_to(ROOT / "tools/speed/adds").with_suffix("")
-        source.parent.mkdir(parents=True, exist_ok=True)
-        shutil.copy(text, source)
-    shutil.copy(ROOT / "HANDLES", folder)
-    uses = "adds: sci_words sci_core sci_port sci_ops sci_coarse crossbeam_utils\n"
-    listed = [line for line in (ROOT / "crates.txt").open() if (crates / line.split(":")[0]).is_dir()]
-    (folder / "crates.txt").write_text("".join(listed) + uses)
-    command = ["rt", "run", "adds", "--jobs", "2", "--", "one", "0"]
-    subprocess.run(command, cwd=crates / "adds", stdout=subprocess.DEVNULL, stderr=subprocess.DEVNULL, check=True)
-    return crates / "adds/out/adds"
-
-
-def seconds_of(program, shape, count, runs):
-    taken = []
-    for _ in range(runs):
-        start = time.perf_counter()
-        subprocess.run([program, shape, str(count)], check=True)
-        taken.append(time.perf_counter() - start)
-    return min(taken)
-
-
-def measure_adds(runs):
-    with tempfile.TemporaryDirectory() as folder:
-        program = build_adds(pathlib.Path(folder))
-        print("threads lines      adds  seconds   adds/sec", flush=True)
-        for threads, lines, shape in SHAPES:
-            best = seconds_of(program, shape, ADDS, runs) - seconds_of(program, shape, 0, runs)
-            print(f"{threads:7} {lines:5} {threads * ADDS:9} {best:8.3f} {threads * ADDS / best:10.0f}", flush=True)
+def build_peers(folder):
+    """The peers' programs by name, in this folder; none where there is no rustc."""
+    if not shutil.which("rustc"):
+        print("no rustc: the peers are left out", flush=True)
+        return {}
+    built = {}
+    for name in ["sim", "threads"]:
+        built[name] = folder / name
+        source = ROOT / "tools/peers" / name / "main.rs"
+        subprocess.run(["rustc", "--edition", "2021", "-C", "opt-level=3", "-o", built[name], source], check=True)
+    return built
 
 
 def main():
     parser = argparse.ArgumentParser(prog="speed")
     parser.add_argument("--runs", type=int, default=5)
     parser.add_argument("--check", action="store_true")
+    parser.add_argument("--only", choices=["scripts", "threads"])
+    parser.add_argument("--keep", type=pathlib.Path)
     chosen = parser.parse_args()
-    subprocess.run([ROOT / "scisim", "--help"], stdout=subprocess.DEVNULL, check=True)
-    print("nodes lines     bytes   calls    turns  seconds  turns/sec", flush=True)
-    for nodes, lines, size in SETTINGS:
-        measure(nodes, lines, size, chosen.runs, chosen.check)
-    if not chosen.check:
-        measure_adds(chosen.runs)
+    with tempfile.TemporaryDirectory() as name:
+        folder = pathlib.Path(name)
+        peers = build_peers(folder)
+        if chosen.only != "threads":
+            # the script scisim starts the program that this builds
+            subprocess.run([ROOT / "scisim", "--help"], stdout=subprocess.DEVNULL, check=True)
+            programs = {"scisim": ROOT / "crates/sci_sim/out/sci_sim"} | ({"plain": peers["sim"]} if peers else {})
+            scripts.measure_all(programs, chosen.runs, chosen.check)
+        if chosen.only != "scripts" and not chosen.check:
+            threads.measure_all(folder, (chosen.keep or folder).resolve(), peers.get("threads"), chosen.runs)
 
 
 main()

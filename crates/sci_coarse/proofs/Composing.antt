@@ -6,15 +6,17 @@ use Rattle.sci_core.specs.declared.events.Event.{Event}
 use Rattle.sci_core.specs.Answers.{is_allowed}
 use Rattle.sci_core.specs.Whole.{WholeLine, nodes_of, state_of}
 use Rattle.sci_core.specs.declared.outcomes.Outcome.{Outcome}
-use Rattle.sci_port.specs.Call.{Call, Stepped}
+use Rattle.sci_port.specs.declared.calls.Call.{Call}
+use Rattle.sci_port.specs.declared.calls.Call.TheVariants.{Stepped}
 use Rattle.sci_port.specs.Owes.{Owes, TakesRow}
 use Rattle.sci_coarse.specs.declared.views.Terms.{Terms}
 use Rattle.sci_coarse.specs.declared.views.View.{View}
 use Rattle.sci_coarse.specs.Rule.{IsOn}
-use Rattle.sci_coarse.specs.Regions.{Seated, HasTaken, HasCalled, Calls, IsRegion, Came, MayGive, given}
+use Rattle.sci_coarse.specs.Runs.{Calls}
+use Rattle.sci_coarse.specs.Regions.{Seated, HasTaken, HasCalled, IsRegion, Came, given}
 use Rattle.sci_coarse.specs.Views.{took, gave}
 use Rattle.sci_coarse.proofs.Listed.{same_one}
-use Rattle.sci_coarse.proofs.Calling.{lawful_after, may_give, owed_on}
+use Rattle.sci_coarse.proofs.Calling.{lawful_after, owed_on}
 
 pub was_taken : (P Q : Type 0) (b : Bool) → MatchBool b P Q → b ≡ true → P
 was_taken P Q true h e = h
@@ -37,14 +39,14 @@ module _ {K : Type 0} (fits : K → ℕ → List ℕ → Type 0) (t : Terms K) (
   -- what is in hand after the take
   pub in_hand : (m1.1 ≡ (0, w) ∷ []) × IsOn t w × (node < nodes_of w) × (m.0.pending ≡ (state_of w).steps node)
   in_hand =
-      let f = take.3 t of in let nodes : nodes_of w ≡ t.nodes = f.0.nodes in let near : m.0.node < t.nodes = f.2 in let own : m.0.node ≡ node = me in
-      (take.2, f.0, omega arith, f.3 ∙ ap (state_of w).steps me)
+      let f = take.4 t of in let nodes : nodes_of w ≡ t.nodes = f.0.nodes in let near : m.0.node < t.nodes = f.2 in let own : m.0.node ≡ node = me in
+      (take.3, f.0, omega arith, f.3 ∙ ap (state_of w).steps me)
 
   pub hand : (v : WholeLine K) × (m1.1 ≡ (0, v) ∷ []) × IsOn t v × (node < nodes_of v)
   hand = (w, in_hand.0, in_hand.1, in_hand.2)
 
   pub hand_of : (other : ℕ) → other < t.nodes → (v : WholeLine K) × (m1.1 ≡ (0, v) ∷ []) × (other < nodes_of v)
-  hand_of other near = let f = take.3 t of in let nodes : nodes_of w ≡ t.nodes = f.0.nodes in (w, take.2, omega arith)
+  hand_of other near = let f = take.4 t of in let nodes : nodes_of w ≡ t.nodes = f.0.nodes in (w, take.3, omega arith)
 
   pub hand_for : (p : Pending) (e : Event) → m.0.pending ≡ p → is_allowed t.nodes node p e ≡ true → (v : WholeLine K) × (m1.1 ≡ (0, v) ∷ []) × IsOn t v × (node < nodes_of v) × (is_allowed (nodes_of v) node ((state_of v).steps node) e ≡ true)
   hand_for p e is may = (
@@ -60,10 +62,10 @@ module _ {K : Type 0} (fits : K → ℕ → List ℕ → Type 0) (t : Terms K) (
     x = called.1
 
     pub calls : Calls fits node call w x
-    calls = subst (λ (v : WholeLine K). Calls fits node call v x) (same_one m1.1 called.0 w called.2 take.2) called.5
+    calls = subst (λ (v : WholeLine K). Calls fits node call v x) (same_one m1.1 called.0 w called.2 take.3) called.5
 
-    view : m2.0 ≡ took m.0 w
-    view = called.4 ∙ take.1
+    view : m2.0 ≡ took m.0 take.1 w
+    view = called.4 ∙ take.2
 
     -- what the give asks
     pub still_of : m2.0.of ≡ Some t
@@ -72,34 +74,36 @@ module _ {K : Type 0} (fits : K → ℕ → List ℕ → Type 0) (t : Terms K) (
     pub still_holds : m2.0.holds ≡ true
     still_holds = ap (λ (v : View K). v.holds) view
 
-    pub to_give : (v : WholeLine K) × (y : WholeLine K) × (m2.0.take ≡ Some v) × (m2.1 ≡ (0, y) ∷ []) × MayGive fits m2.0.node v y
+    pub to_give : (v : WholeLine K) × (y : WholeLine K) × (m2.0.take ≡ Some v) × (m2.1 ≡ (0, y) ∷ []) × Calls fits m2.0.node call v y
     to_give = (
       w,
       x,
       ap (λ (v : View K). v.take) view,
       called.3,
-      subst (λ (i : ℕ). MayGive fits i w x) (sym (ap (λ (v : View K). v.node) view ∙ me)) (may_give fits node call w x calls (take.3 t of).1),
+      subst (λ (i : ℕ). Calls fits i call w x) (sym (ap (λ (v : View K). v.node) view ∙ me)) calls,
     )
 
-    module _ (m3 : Seated K) (give : given m2 m3) where
-      after : m3.0 ≡ gave (took m.0 w) x
-      after = give.2 ∙ ap (gave m2.0) (same_one m2.1 give.0 x give.1 called.3) ∙ ap (λ (v : View K). gave v x) view
+    module _ (m3 : Seated K) (give : given call m2 m3) where
+      after : m3.0 ≡ gave (took m.0 take.1 w) give.1 x call
+      after = give.3 ∙ (ap (λ (y : WholeLine K). gave m2.0 give.1 y call) (same_one m2.1 give.0 x give.2 called.3) ∙ ap (λ (v : View K). gave v give.1 x call) view)
 
       pub region : IsRegion fits t m.0 call m3.0
       region = record {
         take = w;
         give = x;
-        on = (take.3 t of).0;
-        lawful = (take.3 t of).1;
-        after = lawful_after fits node call w x calls (take.3 t of).1;
-        step = (take.3 t of).3;
+        on = (take.4 t of).0;
+        lawful = (take.4 t of).1;
+        after = lawful_after fits node call w x calls (take.4 t of).1;
+        step = (take.4 t of).3;
         calls = subst (λ (i : ℕ). Calls fits i call w x) (sym me) calls;
+        taken_at = take.1;
+        given_at = give.1;
         view = after;
       }
 
       -- the seat after
       pub sits : (m3.0.of ≡ Some t) × (m3.0.node ≡ node) × (m3.0.joined ≡ m.0.joined) × (m3.0.holds ≡ false) × (m3.1 ≡ [])
-      sits = (ap (λ (v : View K). v.of) after ∙ of, ap (λ (v : View K). v.node) after ∙ me, ap (λ (v : View K). v.joined) after, ap (λ (v : View K). v.holds) after, give.3)
+      sits = (ap (λ (v : View K). v.of) after ∙ of, ap (λ (v : View K). v.node) after ∙ me, ap (λ (v : View K). v.joined) after, ap (λ (v : View K). v.holds) after, give.4)
 
       stands : m3.0.pending ≡ (state_of x).steps node
       stands = ap (λ (v : View K). v.pending) after ∙ ap (state_of x).steps me

@@ -2,8 +2,9 @@
 use Rattle.std.proofs.Common.{◌≡◌, ℕ, List, [], ◌∷◌, refl, sym, ap, ◌∙◌, subst}
 use Rattle.atomic_table.specs.Table.{rest}
 use Rattle.sci_core.specs.Whole.{WholeLine}
-use Rattle.sci_port.specs.Call.{Call}
-use Rattle.sci_coarse.specs.Regions.{Seated, Calls, HasCalled}
+use Rattle.sci_port.specs.declared.calls.Call.{Call}
+use Rattle.sci_coarse.specs.Runs.{Calls}
+use Rattle.sci_coarse.specs.Regions.{Seated, HasCalled}
 
 pub whole_hand : {K : Type 0} (c : List (ℕ × WholeLine K)) (w : WholeLine K) → c ≡ (0, w) ∷ [] → c ≡ (0, w) ∷ rest c
 whole_hand c w e = e ∙ (λ i. (0, w) ∷ sym (ap rest e) i)

@@ -6,4 +6,6 @@ pub mod Lending
 pub mod Seating
 pub mod Ordered
 pub mod Ending
+pub mod Histories
+pub mod Unslipped
 pub mod Staying

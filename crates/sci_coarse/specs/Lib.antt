@@ -1,6 +1,8 @@
 pub mod Standings
 pub mod Views
+pub mod Runs
 pub mod Rule
+pub mod Laws
 pub mod Regions
 pub mod Seats
 pub mod Ports

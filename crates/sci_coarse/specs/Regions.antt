@@ -2,12 +2,12 @@
 use Rattle.std.specs.Prelude.{◌≡◌, ◌≢◌, ℕ, ◌<◌, Some, None, List, [], ◌∷◌}
 use Rattle.atomic_table.specs.Table.{Me}
 use Rattle.sci_core.specs.declared.outcomes.Outcome.{Outcome}
-use Rattle.sci_core.specs.Whole.{WholeLine, IsSameLine, nodes_of, state_of}
-use Rattle.sci_port.specs.Call.{Call, Own, MemWas, TagWas, Stepped}
-use Rattle.sci_port.specs.Owes.{Owes}
-use Rattle.sci_port.specs.Solo.{Gives}
+use Rattle.sci_core.specs.Whole.{WholeLine, state_of}
+use Rattle.sci_port.specs.declared.calls.Call.{Call}
+use Rattle.sci_port.specs.declared.calls.Call.TheVariants.{Own, MemWas, TagWas, Stepped}
 use Rattle.sci_coarse.specs.declared.views.Terms.{Terms}
 use Rattle.sci_coarse.specs.declared.views.View.{View}
+use Rattle.sci_coarse.specs.Runs.{Calls}
 use Rattle.sci_coarse.specs.Rule.{IsOn, IsLawfulWhole}
 use Rattle.sci_coarse.specs.Views.{took, missed, gave}
 
@@ -21,38 +21,26 @@ Finds {K} fits v w = (t : Terms K) → v.of ≡ Some t → IsOn t w × IsLawfulW
 
 -- the lock word was free, and the whole line is in hand
 abbrev pub HasTaken : {K : Type 0} → (K → ℕ → List ℕ → Type 0) → Seated K → Seated K → Type 0
-HasTaken {K} fits m n = (w : WholeLine K) × (n.0 ≡ took m.0 w) × (n.1 ≡ (0, w) ∷ []) × Finds fits m.0 w
+HasTaken {K} fits m n = (w : WholeLine K) × (place : ℕ) × (n.0 ≡ took m.0 place w) × (n.1 ≡ (0, w) ∷ []) × Finds fits m.0 w
 
--- the lock word was taken, so there is another seat, and nothing but the number of misses changed
+-- the lock word was taken, so there is another seat, and nothing changed but that the log has the miss
 abbrev pub HasMissed : {K : Type 0} → Seated K → Seated K → Type 0
-HasMissed {K} m n = (n.0 ≡ missed m.0) × (n.1 ≡ []) × ((t : Terms K) → m.0.of ≡ Some t → 1 < t.nodes)
+HasMissed {K} m n = (place : ℕ) × (n.0 ≡ missed m.0 place) × (n.1 ≡ []) × ((t : Terms K) → m.0.of ≡ Some t → 1 < t.nodes)
 
 -- a take finds this number in the lock word
 abbrev pub taken : {K : Type 0} → (K → ℕ → List ℕ → Type 0) → Seated K → ℕ → Seated K → Type 0
 taken fits m found n = (found ≡ 0 → HasTaken fits m n) × (found ≢ 0 → HasMissed m n)
 
--- the whole line in hand is given back
-abbrev pub given : {K : Type 0} → Seated K → Seated K → Type 0
-given {K} m n = (w : WholeLine K) × (m.1 ≡ (0, w) ∷ []) × (n.0 ≡ gave m.0 w) × (n.1 ≡ [])
-
--- what may be given back: a lawful line on the same terms, in which no other node's step changed
-pub record MayGive {K : Type 0} (fits : K → ℕ → List ℕ → Type 0) (node : ℕ) (w x : WholeLine K) : Type 0 where
-  pub same : IsSameLine w x
-  pub lawful : IsLawfulWhole fits x
-  pub others : (j : ℕ) → j ≢ node → (state_of x).steps j ≡ (state_of w).steps j
-
--- the node's call on a whole line that is its alone gives this answer, and leaves that line
-pub record Calls {K : Type 0} (fits : K → ℕ → List ℕ → Type 0) (node : ℕ) (call : Call) (w x : WholeLine K) : Type 0 where
-  pub same : IsSameLine w x
-  pub gives : Gives (nodes_of w) (fits w.keep w.number) (state_of w) node call (state_of x)
-  pub owes : Owes (nodes_of w) (fits w.keep w.number) node ((state_of w).steps node) call ((state_of x).steps node)
+-- the whole line in hand is given back after this call
+abbrev pub given : {K : Type 0} → Call → Seated K → Seated K → Type 0
+given {K} call m n = (w : WholeLine K) × (place : ℕ) × (m.1 ≡ (0, w) ∷ []) × (n.0 ≡ gave m.0 place w call) × (n.1 ≡ [])
 
 -- the call is made on the whole line in hand
 abbrev pub HasCalled : {K : Type 0} → (K → ℕ → List ℕ → Type 0) → ℕ → Call → Seated K → Seated K → Type 0
 HasCalled {K} fits node call m n = (w x : WholeLine K) × (m.1 ≡ (0, w) ∷ []) × (n.1 ≡ (0, x) ∷ []) × (n.0 ≡ m.0) × Calls fits node call w x
 
--- one region of a seat: its view before, the call that it made, and its view after, which keeps the whole line as it was
--- taken and as it was given back
+-- one region of a seat: its view before, the call that it made, and its view after, whose log has grown by a take and by a
+-- give after this very call, and which keeps the whole line as it was taken and as it was given back
 pub record IsRegion {K : Type 0} (fits : K → ℕ → List ℕ → Type 0) (t : Terms K) (v : View K) (call : Call) (u : View K) : Type 0 where
   pub take : WholeLine K
   pub give : WholeLine K
@@ -61,12 +49,18 @@ pub record IsRegion {K : Type 0} (fits : K → ℕ → List ℕ → Type 0) (t :
   pub after : IsLawfulWhole fits give
   pub step : v.pending ≡ (state_of take).steps v.node
   pub calls : Calls fits v.node call take give
-  pub view : u ≡ gave (took v take) give
+  pub taken_at : ℕ
+  pub given_at : ℕ
+  pub view : u ≡ gave (took v taken_at take) given_at give call
+
+-- a take that found the lock word taken by another seat: nothing changed but that the log has the miss
+abbrev pub IsMiss : {K : Type 0} → Terms K → View K → View K → Type 0
+IsMiss t v u = (place : ℕ) × (u ≡ missed v place) × (1 < t.nodes)
 
 -- what a call of a port came to: a region, or a take that found the lock word taken by another seat
 abbrev pub Came : {K : Type 0} → (K → ℕ → List ℕ → Type 0) → Terms K → View K → Call → View K → Type 0
-Came fits t v (Own None) u = (u ≡ missed v) × (1 < t.nodes)
-Came fits t v (MemWas None) u = (u ≡ missed v) × (1 < t.nodes)
-Came fits t v (TagWas node None) u = (u ≡ missed v) × (1 < t.nodes)
-Came fits t v (Stepped e Outcome.Busy) u = (u ≡ missed v) × (1 < t.nodes)
+Came fits t v (Own None) u = IsMiss t v u
+Came fits t v (MemWas None) u = IsMiss t v u
+Came fits t v (TagWas node None) u = IsMiss t v u
+Came fits t v (Stepped e Outcome.Busy) u = IsMiss t v u
 Came fits t v call u = IsRegion fits t v call u

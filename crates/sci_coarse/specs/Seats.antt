@@ -5,7 +5,7 @@ use lib.ListN.{get_elem?}
 use Rattle.sci_core.specs.declared.keeps.Keeps as keeps
 use Rattle.sci_core.specs.declared.lines.Line.{Line}
 use Rattle.sci_core.specs.declared.pending.Pending.{Pending}
-use Rattle.sci_port.specs.Call.{Call}
+use Rattle.sci_port.specs.declared.calls.Call.{Call}
 use Rattle.sci_port.specs.Owes.{Owes}
 use Rattle.sci_coarse.specs.declared.line.CoarseLine.{CoarseLine}
 use Rattle.sci_coarse.specs.declared.seats.Seat.{Seat}
@@ -33,10 +33,6 @@ AreIdleFrom {K} {g} l from seats = (k : ℕ) (s : Seat K g) → get_elem? seats 
 -- no seat has made a call
 abbrev pub AreNew : {K : Type 0} {g : keeps.Ghosts K} → List (Seat K g) → Type 0
 AreNew {K} {g} seats = (k : ℕ) (s : Seat K g) → get_elem? seats k ≡ some s → HasMadeNone s.token.me.0
-
--- no seat has made a region
-abbrev pub AreUnused : {K : Type 0} {g : keeps.Ghosts K} → List (Seat K g) → Type 0
-AreUnused {K} {g} seats = (k : ℕ) (s : Seat K g) → get_elem? seats k ≡ some s → s.token.me.0.regions ≡ 0
 
 -- the line has n nodes, this number, this opening, and this fact
 pub record HasTerms {K : Type 0} (l : CoarseLine K) (n m : ℕ) (line : Line) (k : K) : Type 0 where

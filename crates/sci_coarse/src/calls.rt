@@ -2,9 +2,9 @@
 ghost use Rattle.std.specs.Prelude.{◌≡◌, ◌<◌, ℕ, Some, true};
 ghost use Rattle.sci_core.specs.Answers.{is_allowed, FitsEvent};
 ghost use Rattle.sci_core.specs.Whole.{nodes_of, state_of};
-ghost use Rattle.sci_port.specs.Call.{Own, MemWas, TagWas, Stepped};
-ghost use Rattle.sci_coarse.specs.Regions.{Calls};
+ghost use Rattle.sci_port.specs.declared.calls.Call.TheVariants.{Own, MemWas, TagWas, Stepped};
 ghost use Rattle.sci_coarse.specs.Rule.{IsOn};
+ghost use Rattle.sci_coarse.specs.Runs.{Calls};
 
 use crate::standing::Standing;
 use crate::views::Terms;
@@ -21,7 +21,7 @@ fn standing_in<K: Keeps>(whole: &Whole<K>, terms: Terms<K>, node: NodeId) -> Sta
     // The node's own tag is well formed, and the line lawful.
     let _ = whole.tag(node);
     let _ = whole.nodes();
-    Standing::new(terms, whole.pending(node))
+    Standing::new(terms, *whole.pending(node))
 }
 
 // An event that the node's pending step allows.

@@ -1,10 +1,10 @@
 //! How a line is closed, and its seats with it.
 ghost use Rattle.std.specs.Prelude.{◌≡◌, ℕ, ◌↔◌, ◌<◌, ◌≤◌, Some, false, IsTrue, IfOk, IfErr, vec_len};
 ghost use Rattle.sci_core.specs.declared.pending.Pending.TheVariants.{Idle};
-ghost use Rattle.sci_core.specs.Whole.{nodes_of, state_of, opened_whole};
+ghost use Rattle.sci_core.specs.Whole.{nodes_of, state_of};
 ghost use Rattle.sci_coarse.specs.Rule.{IsOn, IsLawfulWhole};
-ghost use Rattle.sci_coarse.specs.Seats.{AreIdle, AreIdleFrom, AreUnused, IsOnePerNode, IsRightRefusal, SitsAt};
-ghost use Rattle.sci_coarse.specs.Ends.{IsEnd};
+ghost use Rattle.sci_coarse.specs.Seats.{AreIdle, AreIdleFrom, IsOnePerNode, IsRightRefusal, SitsAt};
+ghost use Rattle.sci_coarse.specs.Ends.{IsEnd, IsRun, KeepsLogs};
 
 use crate::line::CoarseLine;
 use crate::seats::{Seat, Token};
@@ -83,7 +83,7 @@ impl<K: Keeps> CoarseLine<K> {
         requires len { vec_len seats ≡ self.now.terms.nodes }
         ensures of { (result.table_id ≡ self.now.table.shared.table_id) × (result.me.0.of ≡ Some self.now.terms) }
         ensures view { (result.me.0.node ≡ 0) × (result.me.0.joined ≡ 1) × (result.me.0.pending ≡ Idle) × (result.me.0.holds ≡ false) }
-        ensures unused { AreUnused seats.items → result.me.0.regions ≡ 0 }
+        ensures logs { KeepsLogs seats.items result.me.0 }
     {
         let Seat {
             token: mut root,
@@ -108,7 +108,7 @@ impl<K: Keeps> CoarseLine<K> {
         ensures on { IsOn self.terms result }
         ensures lawful { IsLawfulWhole K.fits result }
         ensures idle { (i : ℕ) → i < nodes_of result → (state_of result).steps i ≡ Idle }
-        ensures unused { root.me.0.regions ≡ 0 → result ≡ opened_whole self.terms.keep self.terms.number self.terms.nodes self.terms.opening }
+        ensures run { IsRun K.fits self.terms root.me.0 result }
     {
         let CoarseLine { table, terms: _ } = self;
         let mut closed = table.close_with(root);

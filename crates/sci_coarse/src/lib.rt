@@ -3,6 +3,7 @@
 
 mod calls;
 mod closing;
+mod laws;
 mod line;
 mod opening;
 mod port;
@@ -15,6 +16,7 @@ mod tests;
 mod views;
 
 pub use closing::FinishRefusal;
+pub use laws::law_of_one_run;
 pub use line::CoarseLine;
 pub use port::CoarsePort;
 pub use seats::Seat;

@@ -59,7 +59,7 @@ impl<K: Keeps> Port for CoarsePort<'_, K> {
         self.seat.number()
     }
 
-    fn pending(&self) -> Pending {
+    fn pending(&self) -> &Pending {
         self.seat.standing.pending()
     }
 

@@ -3,16 +3,18 @@ ghost use Rattle.std.specs.Prelude.{◌≡◌, ◌≢◌, ◌<◌, ℕ, Some, tr
 ghost use Rattle.sci_core.specs.Answers.{is_allowed, FitsEvent};
 ghost use Rattle.sci_core.specs.Whole as wholes;
 ghost use Rattle.sci_core.specs.Whole.{nodes_of, state_of};
-ghost use Rattle.sci_port.specs.Call.{Own, MemWas, TagWas, Stepped};
-ghost use Rattle.sci_coarse.specs.Regions.{HasTaken, HasMissed, HasCalled, MayGive, given};
+ghost use Rattle.sci_port.specs.declared.calls.Call.TheVariants.{Own, MemWas, TagWas, Stepped};
+ghost use Rattle.sci_coarse.specs.Regions.{HasTaken, HasMissed, HasCalled, given};
 ghost use Rattle.sci_coarse.specs.Rule.{IsOn};
+ghost use Rattle.sci_coarse.specs.Runs.{Calls};
 
 use crate::calls::{look_whole, mem_of_whole, step_whole, tag_of_whole};
 use crate::line::CoarseLine;
 use crate::seats::Token;
 use crate::standing::Standing;
-use crate::views::{Gives, Takes};
+use crate::views::{Gives, Takes, Tells};
 use sci_core::{Event, Keeps, Outcome};
+use sci_port::Call;
 use sci_words::{Mem, NodeId, Tag};
 
 const FREE: u64 = 0;
@@ -33,15 +35,17 @@ impl<K: Keeps> CoarseLine<K> {
             == FREE
     }
 
-    // Gives the lock word back, and with it the line in hand.
-    pub(crate) fn give(&self, token: &mut Token<K>)
+    // Gives the lock word back, and with it the line in hand, on which this call was made.
+    pub(crate) fn give<J: Tells>(&self, token: &mut Token<K>, call: &Call)
         requires of { (token.old.table_id ≡ self.now.table.shared.table_id) × (token.old.me.0.of ≡ Some self.now.terms) }
         requires held { token.old.me.0.holds ≡ true }
-        requires hand { (w : wholes.WholeLine _) × (x : wholes.WholeLine _) × (token.old.me.0.take ≡ Some w) × (token.old.me.1 ≡ (0, x) ∷ []) × MayGive K.fits token.old.me.0.node w x }
+        requires tells { J.call ≡ call.now }
+        requires hand { (w : wholes.WholeLine _) × (x : wholes.WholeLine _) × (token.old.me.0.take ≡ Some w) × (token.old.me.1 ≡ (0, x) ∷ []) × Calls K.fits token.old.me.0.node call.now w x }
         ensures same { (token.new.table_id ≡ token.old.table_id) × (token.new.id ≡ token.old.id) }
-        ensures given { given token.old.me token.new.me }
+        ensures given { given call.now token.old.me token.new.me }
     {
-        self.table.shared.store::<Gives<K>>(token, 0, FREE)
+        let _ = call;
+        self.table.shared.store::<Gives<J, K>>(token, 0, FREE)
     }
 
     // A node's step of the line in hand, and its pending step after.

@@ -39,10 +39,10 @@ impl<K: Keeps> Standing<K> {
         self.terms
     }
 
-    pub(crate) fn pending(&self) -> Pending
-        ensures value { result ≡ self.now.pending }
-        ensures sound { IsSoundStep self.now.terms.nodes (K.fits self.now.terms.keep self.now.terms.number) result }
+    pub(crate) fn pending(&self) -> &Pending
+        ensures value { result.now ≡ self.now.pending }
+        ensures sound { IsSoundStep self.now.terms.nodes (K.fits self.now.terms.keep self.now.terms.number) result.now }
     {
-        self.pending
+        &self.pending
     }
 }

@@ -1,13 +1,15 @@
 //! The calls of a seat, each one region. Where the lock word was found taken, nothing is done.
 ghost use Rattle.std.specs.Prelude.{◌≡◌, ◌<◌, true};
 ghost use Rattle.sci_core.specs.Answers.{is_allowed, FitsEvent};
-ghost use Rattle.sci_port.specs.Call.{Own, MemWas, TagWas, Stepped};
+ghost use Rattle.sci_port.specs.declared.calls.Call.TheVariants.{Own, MemWas, TagWas, Stepped};
 ghost use Rattle.sci_coarse.specs.Seats.{IsSeatOf, HasMade};
 
 use crate::line::CoarseLine;
 use crate::seats::Seat;
 use sci_core::{Event, Keeps, Outcome};
+use sci_port::Call;
 use sci_words::{Mem, NodeId, Tag};
+use std::marker::Brand;
 
 impl<K: Keeps> Seat<K> {
     // An event of the node that its pending step allows.
@@ -20,8 +22,10 @@ impl<K: Keeps> Seat<K> {
         if !line.take(&mut self.token) {
             return Outcome::Busy;
         }
+        let asked = event;
         let (outcome, standing) = line.step_in_hand(&mut self.token, self.node, event);
-        line.give(&mut self.token);
+        let answer = outcome;
+        line.give::<Brand>(&mut self.token, &Call::Stepped(asked, answer));
         self.standing = standing;
         outcome
     }
@@ -35,7 +39,8 @@ impl<K: Keeps> Seat<K> {
             return None;
         }
         let (tag, standing) = line.own_in_hand(&mut self.token, self.node);
-        line.give(&mut self.token);
+        let seen = tag;
+        line.give::<Brand>(&mut self.token, &Call::Own(Some(seen)));
         self.standing = standing;
         Some(tag)
     }
@@ -49,7 +54,8 @@ impl<K: Keeps> Seat<K> {
             return None;
         }
         let mem = line.mem_in_hand(&mut self.token);
-        line.give(&mut self.token);
+        let seen = mem;
+        line.give::<Brand>(&mut self.token, &Call::MemWas(Some(seen)));
         Some(mem)
     }
 
@@ -63,7 +69,8 @@ impl<K: Keeps> Seat<K> {
             return None;
         }
         let tag = line.tag_in_hand(&mut self.token, other);
-        line.give(&mut self.token);
+        let seen = tag;
+        line.give::<Brand>(&mut self.token, &Call::TagWas(other, Some(seen)));
         Some(tag)
     }
 }

@@ -1,8 +1,10 @@
 //! What a seat knows of its line, the rule of the line's table, and what each step of the table tells.
 use atomic_table::{Join, Play, Split, TableRule};
 use sci_core::{Keeps, Line, Pending, Whole};
+use sci_port::Call;
 use sci_words::LineNo;
-use std::marker::PhantomData;
+use std::collections::LinkedList;
+use std::marker::{Brand, PhantomData};
 
 /// What is fixed of a line: how many nodes it has, its number, what it was opened with, and which words fit it.
 #[derive(Clone, Copy)]
@@ -11,6 +13,16 @@ pub struct Terms<K: Keeps> {
     pub number: LineNo,
     pub opening: Line,
     pub keep: K,
+}
+
+/// What a seat's step of the lock word came to. No value of it is made.
+pub enum Entry {
+    /// The word was free, and was taken.
+    Took,
+    /// The word was found taken.
+    Missed,
+    /// The word was given back, after this one call on the line.
+    Gave(Call),
 }
 
 /// What a seat knows. No value of it is made.
@@ -25,10 +37,10 @@ pub struct View<K: Keeps> {
     /// It has taken the lock word, and has the line in hand.
     pub holds: bool,
     pub pending: Pending,
-    /// How many regions it has made.
-    pub regions: u64,
-    /// How many of its takes found the lock word taken.
-    pub misses: u64,
+    /// Its steps of the lock word, each with its place among the steps of all seats.
+    pub log: LinkedList<(u64, Entry)>,
+    /// The logs of the seats that were joined to it, each under its node's number.
+    pub others: LinkedList<(u64, LinkedList<(u64, Entry)>)>,
     /// The line, as its last region took it.
     pub take: Option<Whole<K>>,
     /// The line, as its last region gave it back.
@@ -59,15 +71,29 @@ impl<K: Keeps> Play<Whole<K>, View<K>> for Takes<K> {
     ghost then = { λ st m r w. taken K.fits m r w };
 }
 
-/// The lock word is given back.
-pub struct Gives<K> {
-    keep: PhantomData<K>,
+/// Which call was made on the line before the lock word is given back. The call picks it.
+pub trait Tells {
+    ghost use Rattle.sci_port.specs.declared.calls.Call.{Call};
+
+    ghost call: { Call };
 }
 
-impl<K: Keeps> Play<Whole<K>, View<K>> for Gives<K> {
+impl Tells for Brand {
+    ghost use Rattle.std.specs.Prelude.{None};
+    ghost use Rattle.sci_port.specs.declared.calls.Call.TheVariants.{MemWas};
+
+    ghost call = { MemWas None };
+}
+
+/// The lock word is given back after this call.
+pub struct Gives<J, K> {
+    told: PhantomData<(J, K)>,
+}
+
+impl<K: Keeps, J: Tells> Play<Whole<K>, View<K>> for Gives<J, K> {
     ghost use Rattle.sci_coarse.specs.Regions.{given};
 
-    ghost then = { λ st m r w. given m w };
+    ghost then = { λ st m r w. given J.call m w };
 }
 
 /// The next node's seat is made.

@@ -1,5 +1,5 @@
 -- A `Whole` stays sound: the lists after an exchange are the state after it, and that is under the law.
-use Rattle.std.proofs.Common.{◌≡◌, ℕ, ◌<◌, true, false, Bool, Option, Some, None, List, length, get_or, set, take, drop, ◌++◌, ◌&&◌, refl, sym, subst, ap, ◌∙◌, arith}
+use Rattle.std.proofs.Common.{◌≡◌, ℕ, ◌<◌, true, false, Bool, Option, Some, None, IfSome, List, length, get_or, set, take, drop, ◌++◌, ◌&&◌, refl, sym, subst, ap, ◌∙◌, arith}
 use Rattle.std.proofs.lemmas.Bool.Decides.{nat_tests}
 use Rattle.std.proofs.lemmas.List.{length-set}
 use Rattle.std.proofs.Math.Seq.{take-append_seam}
@@ -19,8 +19,8 @@ use Rattle.sci_core.specs.Shape.{shape}
 use Rattle.sci_core.specs.Law.{Below}
 use Rattle.sci_core.specs.Row.{Row, exchange_with}
 use Rattle.sci_core.specs.Table.{has_row}
-use Rattle.sci_core.specs.Step.{Finds, taken_line, stepped, looked, look_of, tags_after, slots_after, memory_after, memory_slot_after}
-use Rattle.sci_core.specs.Ranges.{ChangesBelow, CarriesBelow}
+use Rattle.sci_core.specs.Step.{Finds, taken_line, taken_place, stepped, looked, look_of, tags_after, slots_after, memory_after, memory_slot_after}
+use Rattle.sci_core.specs.Ranges.{ChangesBelow, CarriesBelow, PlaceBelow}
 use Rattle.sci_core.specs.WellFormed.{HasWellFormedWords, LeavesWellFormed, FindsWellFormed}
 use Rattle.sci_core.specs.Answers.{row_at, FitsEvent, Makes}
 use Rattle.sci_core.specs.Whole.{WholeLine, nodes_of, state_of, IsRuled, IsSound, tag_list_after, slot_list_after, whole_after, whole_in_step}
@@ -214,9 +214,11 @@ pub record Asks {K : Type 0} (fits : K → ℕ → List ℕ → Type 0) (w : Who
   pub fit : FitsEvent (fits w.keep w.number) e
   pub exchange : x ≡ exchange_with (taken_line (state_of w) (row_at (state_of w) me e).carry) (row_at (state_of w) me e)
 
--- asked twice, the second time with the line that the first takes
-pub exchange_taken : (s : State) (r : Row) (a x : Exchange) (y z : Line) → a ≡ exchange_with z r → y ≡ taken_line s a.carry → x ≡ exchange_with y r → x ≡ exchange_with (taken_line s r.carry) r
-exchange_taken s r a x y z ha hy hx = hx ∙ ap (λ (l : Line). exchange_with l r) (hy ∙ ap (λ (u : Exchange). taken_line s u.carry) ha)
+-- the slot that is taken is of the line
+pub place_below : (n : ℕ) (c : Carry) → CarriesBelow n c → IfSome (taken_place c) (λ x. PlaceBelow n x)
+place_below n Carry.Stays h = tt
+place_below n (Carry.Takes x) h = h
+place_below n (Carry.Gives x l) h = tt
 
 -- the value after the exchange is sound, and the node has made it
 pub record Made {K : Type 0} (fits : List ℕ → Type 0) (w : WholeLine K) (me : ℕ) (e : Event) (x : Exchange) (after : WholeLine K) : Type 0 where

@@ -1,11 +1,11 @@
 //! The steps of a `Whole`.
-ghost use Rattle.std.specs.Prelude.{All, ◌≡◌, ◌≢◌, ◌<◌, ◌≤◌, ◌↔◌, true, IsTrue, MatchOption, length};
+ghost use Rattle.std.specs.Prelude.{All, ◌≡◌, ◌≢◌, ◌<◌, ◌≤◌, ◌↔◌, true, IsTrue, IfSome, MatchOption, length};
 ghost use Rattle.sci_words.specs.Codes.{tag_code, mem_code};
 ghost use Rattle.sci_core.specs.Answers.{Answers, Exchanges, FitsEvent, Makes, found_code, row_at};
-ghost use Rattle.sci_core.specs.Ranges.{ChangesBelow, CarriesBelow};
+ghost use Rattle.sci_core.specs.Ranges.{ChangesBelow, CarriesBelow, PlaceBelow};
 ghost use Rattle.sci_core.specs.Row.{exchange_with};
 ghost use Rattle.sci_core.specs.Run.{done_in, IsLawfulLine, KeepsLawful, RunsTo};
-ghost use Rattle.sci_core.specs.Step.{Finds, is_look, looked, memory_after, memory_slot_after, taken_line};
+ghost use Rattle.sci_core.specs.Step.{Finds, is_look, line_taken, looked, memory_after, memory_slot_after, taken_line, taken_place};
 ghost use Rattle.sci_core.specs.Table.{has_row};
 ghost use Rattle.sci_core.specs.Whole.{nodes_of, state_of, tag_list_after, slot_list_after, IsSameLine};
 
@@ -110,15 +110,24 @@ impl<K: Keeps> Whole<K> {
         }
     }
 
-    // The line that is taken, or a blank one.
-    fn taken(&self, carry: &Carry) -> Line
-        requires { CarriesBelow (nodes_of self.now) carry.now }
-        ensures { result ≡ taken_line (state_of self.now) carry.now }
+    // The slot that the exchange of an event takes.
+    fn place_taken(&self, node: NodeId, event: &Event) -> Option<Place>
+        requires { node < nodes_of self.now }
+        ensures place { result ≡ taken_place (row_at (state_of self.now) node event.now).carry }
+        ensures below { IfSome result (λ x. PlaceBelow (nodes_of self.now) x) }
     {
-        let slot = match carry {
-            Carry::Takes(Place::Memory) => self.memory_slot,
-            Carry::Takes(Place::Node(node)) => self.slots[place_of(*node)],
-            _ => None,
+        self.steps[place_of(node)].takes(node, event)
+    }
+
+    // The line in a slot, or a blank one.
+    fn line_taken(&self, place: &Option<Place>) -> Line
+        requires { IfSome place.now (λ x. PlaceBelow (nodes_of self.now) x) }
+        ensures { result ≡ line_taken (state_of self.now) place.now }
+    {
+        let slot = match place {
+            Some(Place::Memory) => self.memory_slot,
+            Some(Place::Node(node)) => self.slots[place_of(*node)],
+            None => None,
         };
         slot.unwrap_or(Line::ZERO)
     }
@@ -132,23 +141,22 @@ impl<K: Keeps> Whole<K> {
         ensures carry { CarriesBelow (nodes_of self.now) result.carry }
         ensures lawful { IsLawfulLine (nodes_of self.now) (K.fits self.now.keep self.now.number) (state_of self.now) }
     {
-        let pending = self.steps[place_of(node)];
-        pending.exchange(node, event, taken)
+        self.steps[place_of(node)].exchange(node, event, taken)
     }
 
-    // Makes an exchange that finds its word, and gives its answer.
-    fn make(&mut self, node: NodeId, event: &Event) -> Option<Line>
+    // Makes the exchange that an allowed event asks for, which finds its word, and gives its answer.
+    fn make(&mut self, node: NodeId, event: &Event, exchange: &Exchange) -> Option<Line>
         requires node { node < nodes_of self.old }
         requires allowed { has_row (nodes_of self.old) node ((state_of self.old).steps node) event.now ≡ true }
+        requires exchange { exchange.now ≡ exchange_with (taken_line (state_of self.old) (row_at (state_of self.old) node event.now).carry) (row_at (state_of self.old) node event.now) }
         requires finds { Finds (state_of self.old) (row_at (state_of self.old) node event.now).change }
+        requires change { ChangesBelow (nodes_of self.old) exchange.now.change }
+        requires carry { CarriesBelow (nodes_of self.old) exchange.now.carry }
         requires fits { FitsEvent (K.fits self.old.keep self.old.number) event.now }
         ensures same { IsSameLine self.old self.new }
         ensures makes { Makes (nodes_of self.old) (state_of self.old) node event.now result (state_of self.new) }
         ensures keeps { KeepsLawful (nodes_of self.old) (K.fits self.old.keep self.old.number) (state_of self.old) node event.now (Ok (Outcome.Done result)) (state_of self.new) }
     {
-        let asked = self.asked(node, event, &Line::ZERO);
-        let taken = self.taken(&asked.carry);
-        let exchange = self.asked(node, event, &taken);
         write_word(&mut self.memory, &mut self.tags, &exchange.change);
         move_slot(&mut self.memory_slot, &mut self.slots, &exchange.carry);
         self.steps[place_of(node)] = exchange.after;
@@ -164,10 +172,11 @@ impl<K: Keeps> Whole<K> {
         ensures outcome { Exchanges (nodes_of self.old) (state_of self.old) node event.now result (state_of self.new) }
         ensures keeps { KeepsLawful (nodes_of self.old) (K.fits self.old.keep self.old.number) (state_of self.old) node event.now (Ok result) (state_of self.new) }
     {
-        let asked = self.asked(node, event, &Line::ZERO);
-        match self.other_word(&asked.change) {
+        let taken = self.line_taken(&self.place_taken(node, event));
+        let exchange = self.asked(node, event, &taken);
+        match self.other_word(&exchange.change) {
             Some(found) => Outcome::Missed(found),
-            None => Outcome::Done(self.make(node, event)),
+            None => Outcome::Done(self.make(node, event, &exchange)),
         }
     }
 
@@ -178,8 +187,8 @@ impl<K: Keeps> Whole<K> {
         ensures looked { state_of self.new ≡ looked (state_of self.old) node }
         ensures keeps { KeepsLawful (nodes_of self.old) (K.fits self.old.keep self.old.number) (state_of self.old) node Event.Look (Ok (Outcome.Done None)) (state_of self.new) }
     {
-        let after = self.pending(node).look(&self.tag(node));
-        self.steps[place_of(node)] = after;
+        let own = self.tag(node);
+        self.steps[place_of(node)].look(&own);
     }
 
     /// One event of one node. Done: its exchange was made, or the node looked at its own tag; the line that the event
@@ -194,7 +203,8 @@ impl<K: Keeps> Whole<K> {
         ensures answers { Answers (nodes_of self.old) (state_of self.old) node event result (state_of self.new) }
         ensures lawful { KeepsLawful (nodes_of self.old) (K.fits self.old.keep self.old.number) (state_of self.old) node event result (state_of self.new) }
     {
-        if !self.pending(node).allows(node, self.nodes(), &event) {
+        let nodes = self.nodes();
+        if !self.pending(node).allows(node, nodes, &event) {
             return Err(NotInTurn);
         }
         if is_look(&event) {

@@ -2,7 +2,7 @@
 ghost use Rattle.std.specs.Prelude.{◌≡◌, ◌||◌, true};
 ghost use Rattle.sci_core.specs.Row.{exchange_with};
 ghost use Rattle.sci_core.specs.Table.{has_row, row_of};
-ghost use Rattle.sci_core.specs.Step.{look_of, is_look, CanCount};
+ghost use Rattle.sci_core.specs.Step.{look_of, is_look, taken_place, CanCount};
 
 mod converting;
 mod found;
@@ -17,7 +17,7 @@ mod shorthand;
 use crate::events::Event;
 use crate::lines::Line;
 use crate::pending::Pending;
-use crate::rows::Exchange;
+use crate::rows::{Exchange, Place};
 use sci_words::{NodeId, Tag};
 
 impl Pending {
@@ -51,6 +51,36 @@ impl Pending {
             Pending::Parted { .. } => leaving::parted_allows(event),
             Pending::Rolling { told, seen } => rolling::rolling_allows(me, *told, seen, event),
             Pending::Unlinked { .. } => rolling::unlinked_allows(event),
+        }
+    }
+
+    /// The slot that the event's exchange takes.
+    pub fn takes(&self, me: NodeId, event: &Event) -> Option<Place>
+        ensures { result ≡ taken_place (row_of me self.now event.now).carry }
+    {
+        match (self, event) {
+            (
+                Pending::Idle,
+                Event::Queue(_) | Event::Hold(_) | Event::BeginPurge(_) | Event::Leave(_),
+            )
+            | (Pending::Converting { .. }, Event::Converted) => Some(Place::Node(me)),
+            (Pending::Queueing { .. }, Event::PrependValid)
+            | (
+                Pending::Leaving {
+                    seen: Some(None),
+                    ..
+                },
+                Event::ReturnHomeDirty,
+            ) => { Some(Place::Memory) }
+            (
+                Pending::InQueue {
+                    forw: Some(head),
+                    copy: None,
+                    ..
+                },
+                Event::AttachDirty(_),
+            ) => { Some(Place::Node(*head)) }
+            _ => None,
         }
     }
 
@@ -99,31 +129,19 @@ impl Pending {
         }
     }
 
-    /// The step after the node looked at its own tag: a step that purges or leaves records what it saw.
-    pub fn look(&self, own: &Tag) -> Pending
-        ensures { result ≡ look_of self.now own.now }
+    /// The node looked at its own tag: a step that purges or leaves records what it saw.
+    pub fn look(&mut self, own: &Tag)
+        ensures { self.new ≡ look_of self.old own.now }
     {
         match self {
-            Pending::Purging { line, .. } => Pending::Purging {
-                line: *line,
-                seen: Some(own.forw),
-            },
-            Pending::Leaving { dirty, line, .. } => Pending::Leaving {
-                dirty: *dirty,
-                line: *line,
-                seen: Some(own.forw),
-            },
-            Pending::Rolling { told, seen } => match own.back {
-                Some(back) => Pending::Rolling {
-                    told: *told,
-                    seen: Some((own.forw, back)),
-                },
-                None => Pending::Rolling {
-                    told: *told,
-                    seen: *seen,
-                },
-            },
-            _ => *self,
+            Pending::Purging { seen, .. } => *seen = Some(own.forw),
+            Pending::Leaving { seen, .. } => *seen = Some(own.forw),
+            Pending::Rolling { seen, .. } => {
+                if let Some(back) = own.back {
+                    *seen = Some((own.forw, back));
+                }
+            }
+            _ => {}
         }
     }
 }

@@ -3,6 +3,7 @@ ghost use Rattle.std.specs.Prelude.{◌≡◌, ◌<◌, All};
 ghost use Rattle.sci_core.specs.Whole.{nodes_of};
 
 mod growths;
+mod memory;
 
 use super::*;
 use sci_words::{Kind, MemState, NodeId, Tag};

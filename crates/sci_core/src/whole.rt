@@ -94,6 +94,13 @@ impl<K: Keeps> Whole<K> {
         self.number
     }
 
+    /// The fact that its words have.
+    pub fn keep(&self) -> K
+        ensures { result ≡ self.now.keep }
+    {
+        self.keep
+    }
+
     /// The memory word as it stands.
     pub fn mem(&self) -> Mem
         ensures value { result ≡ (state_of self.now).memory }
@@ -114,10 +121,10 @@ impl<K: Keeps> Whole<K> {
     }
 
     /// A node's pending step as it stands.
-    pub fn pending(&self, node: NodeId) -> Pending
+    pub fn pending(&self, node: NodeId) -> &Pending
         requires { node < nodes_of self.now }
-        ensures { result ≡ (state_of self.now).steps node }
+        ensures { result.now ≡ (state_of self.now).steps node }
     {
-        self.steps[usize::from(node.get())]
+        &self.steps[usize::from(node.get())]
     }
 }

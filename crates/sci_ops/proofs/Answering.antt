@@ -13,7 +13,9 @@ use Rattle.sci_core.specs.declared.outcomes.Outcome.{Outcome}
 use Rattle.sci_core.specs.Found.{is_settled_body}
 use Rattle.sci_core.specs.Step.{look_of}
 use Rattle.sci_core.specs.Table.Purging.{can_count}
-use Rattle.sci_port.specs.Call.{Call, Own, MemWas, TagWas, Stepped, Chain}
+use Rattle.sci_port.specs.declared.calls.Call.{Call}
+use Rattle.sci_port.specs.declared.calls.Call.TheVariants.{Own, MemWas, TagWas, Stepped}
+use Rattle.sci_port.specs.Call.{Chain}
 use Rattle.sci_port.specs.Owes.{Owes}
 use Rattle.sci_ops.specs.declared.goals.Goal.{Goal}
 use Rattle.sci_ops.specs.declared.goals.Write.{Write}

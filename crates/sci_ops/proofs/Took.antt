@@ -4,7 +4,8 @@ use Rattle.sci_words.specs.declared.tags.Tag.{Tag}
 use Rattle.sci_words.specs.declared.memory.Mem.{Mem}
 use Rattle.sci_core.specs.declared.events.Event.{Event}
 use Rattle.sci_core.specs.declared.outcomes.Outcome.{Outcome}
-use Rattle.sci_port.specs.Call.{Call, Own, MemWas, TagWas, Stepped}
+use Rattle.sci_port.specs.declared.calls.Call.{Call}
+use Rattle.sci_port.specs.declared.calls.Call.TheVariants.{Own, MemWas, TagWas, Stepped}
 use Rattle.sci_ops.specs.declared.answers.Turn.{Turn}
 use Rattle.sci_ops.specs.declared.answers.End.{End}
 use Rattle.sci_ops.specs.Plan.{Plan, own, mem, tag, exchange, ends, turn_after, Follows, Takes}

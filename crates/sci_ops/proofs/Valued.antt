@@ -19,7 +19,9 @@ use Rattle.sci_core.specs.Table.Purging.{written}
 use Rattle.sci_core.specs.Whole.{WholeLine, IsSameLine, nodes_of, state_of}
 use Rattle.sci_core.proofs.Answered.{update_same}
 use Rattle.sci_core.proofs.Lawfully.{one_value}
-use Rattle.sci_port.specs.Call.{Call, Own, MemWas, TagWas, Stepped, Chain}
+use Rattle.sci_port.specs.declared.calls.Call.{Call}
+use Rattle.sci_port.specs.declared.calls.Call.TheVariants.{Own, MemWas, TagWas, Stepped}
+use Rattle.sci_port.specs.Call.{Chain}
 use Rattle.sci_port.specs.Owes.{Owes}
 use Rattle.sci_port.specs.Solo.{Does, Gives}
 use Rattle.sci_port.specs.Way.{Way, way_to}

@@ -2,7 +2,7 @@
 use Rattle.std.specs.Prelude.{◌≡◌, ℕ, suc, List}
 use Rattle.sci_core.specs.declared.pending.Pending.{Pending}
 use Rattle.sci_core.specs.State.{State}
-use Rattle.sci_port.specs.Call.{Call}
+use Rattle.sci_port.specs.declared.calls.Call.{Call}
 use Rattle.sci_port.specs.Owes.{Owes}
 use Rattle.sci_port.specs.Solo.{Gives}
 use Rattle.sci_ops.specs.declared.answers.Answer.{Answer}

@@ -6,7 +6,8 @@ use Rattle.sci_core.specs.declared.lines.Line.{Line}
 use Rattle.sci_core.specs.declared.pending.Pending.{Pending}
 use Rattle.sci_core.specs.declared.events.Event.{Event}
 use Rattle.sci_core.specs.declared.outcomes.Outcome.{Outcome}
-use Rattle.sci_port.specs.Call.{Call, Own, Stepped}
+use Rattle.sci_port.specs.declared.calls.Call.{Call}
+use Rattle.sci_port.specs.declared.calls.Call.TheVariants.{Own, Stepped}
 use Rattle.sci_ops.specs.declared.goals.Goal.{Goal}
 use Rattle.sci_ops.specs.declared.goals.Write.{Write}
 use Rattle.sci_ops.specs.declared.answers.Answer.{Answer}

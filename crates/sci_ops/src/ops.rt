@@ -81,6 +81,13 @@ impl Op {
         Op::begin(Goal::Evict)
     }
 
+    /// What it is for.
+    pub fn goal(&self) -> Goal
+        ensures { result ≡ self.now.goal }
+    {
+        self.goal
+    }
+
     #[tactic(auto, using(crate::proofs::Short::three_loads))]
     /// One turn, by the table of turns: at most three loads and then at most one exchange, which the pending step allows. An
     /// answer is what the last of these calls gave. Seen: a load; Settle or Unhold was done, and answered this line. Wrote: a
@@ -99,7 +106,7 @@ impl Op {
         if let Some(answer) = self.answer {
             return Turn::Done(answer);
         }
-        read_stamp(&port.pending());
+        read_stamp(port.pending());
         let turn = turn_towards(port, self.goal);
         if let Turn::Done(answer) = turn {
             self.answer = Some(answer);

@@ -3,6 +3,7 @@ ghost use Rattle.std.specs.Prelude.{◌≡◌, ◌<◌, None, IfOk};
 ghost use Rattle.sci_core.specs.Whole.{state_of};
 ghost use Rattle.sci_ops.specs.Alone.{IsAtRest};
 
+mod memory;
 mod replays;
 
 use super::*;

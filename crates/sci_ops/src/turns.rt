@@ -84,7 +84,7 @@ pub fn turn_towards<P: Port>(port: &mut P, goal: Goal) -> Turn
     ensures same_way { P.way port.new ≡ P.way port.old }
     ensures same_fact { P.keep port.new ≡ P.keep port.old }
 {
-    match port.pending() {
+    match *port.pending() {
         Pending::Idle => idle(port, goal),
         Pending::Holding { .. } => exchange(port, Event::Unhold, seen_end(goal)),
         Pending::Queueing { forw } => queueing(port, forw),

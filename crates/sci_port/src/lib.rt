@@ -1,12 +1,20 @@
-//! One node's way to one line: the calls that operations are made of, whatever the line is kept in.
+//! One node's way to one line, or to all lines of a memory: the calls that operations are made of, whatever a line is kept in.
 #![tactic(auto)]
 
+mod at;
+mod bank;
+mod calls;
 mod port;
 pub mod recording;
 mod solo;
+mod solo_bank;
 #[cfg(test)]
 mod tests;
 
+pub use at::At;
+pub use bank::Bank;
+pub use calls::Call;
 pub use port::Port;
 pub use sci_core::{AnyWords, Keeps};
 pub use solo::Solo;
+pub use solo_bank::SoloBank;

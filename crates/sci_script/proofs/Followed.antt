@@ -7,7 +7,9 @@ use Rattle.sci_core.specs.Answers.{Answers}
 use Rattle.sci_core.specs.State.{State}
 use Rattle.sci_core.specs.Step.{looked}
 use Rattle.sci_core.specs.Whole.{WholeLine, nodes_of, state_of}
-use Rattle.sci_port.specs.Call.{Call, Own, MemWas, TagWas, Stepped, Chain}
+use Rattle.sci_port.specs.declared.calls.Call.{Call}
+use Rattle.sci_port.specs.declared.calls.Call.TheVariants.{Own, MemWas, TagWas, Stepped}
+use Rattle.sci_port.specs.Call.{Chain}
 use Rattle.sci_port.specs.Solo.{Gives}
 use Rattle.sci_ops.specs.declared.answers.Turn.{Turn}
 use Rattle.sci_ops.specs.Operation.{Operation}

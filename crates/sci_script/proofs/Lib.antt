@@ -7,3 +7,4 @@ pub mod Opened
 pub mod Followed
 pub mod Through
 pub mod Desks
+pub mod Extended

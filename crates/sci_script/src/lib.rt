@@ -22,3 +22,4 @@ pub use reader::read_script;
 pub use refusals::ScriptRefusal;
 pub use texts::{list_text, tag_text};
 pub use wholes::WholeDesk;
+pub use writing::{WriteFailed, put};

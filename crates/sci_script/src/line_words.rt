@@ -1,12 +1,12 @@
 //! The words of a line.
 
-ghost use Rattle.std.specs.Prelude.{◌≡◌, IfOk, map};
+ghost use Rattle.std.specs.Prelude.{◌≡◌, OnOk, map};
 ghost use Rattle.std.specs.List.{list_all};
 ghost use Rattle.sci_script.specs.Words.{is_blank, is_plain, is_skipped, words_of};
 ghost use Rattle.sci_script.specs.Format.{Gives, words_at};
 
 use crate::refusals::ScriptRefusal;
-use std::alloc::{AllocError, Global};
+use std::alloc::AllocError;
 
 pub fn is_blank(byte: u8) -> bool
     ensures { result ≡ is_blank byte }
@@ -33,12 +33,11 @@ pub fn is_skipped(line: &[u8]) -> bool
     line.first() == Some(&b'#') || is_empty_line(line)
 }
 
-fn words_of(alloc: Global, line: &[u8]) -> Result<Vec<&[u8]>, AllocError>
-    ensures { IfOk result (λ v. map (λ w. w.now) v.items ≡ words_of line.now) }
+fn words_of<'a>(words: &mut Vec<&'a [u8]>, line: &'a [u8]) -> Result<(), AllocError>
+    ensures { OnOk result (map (λ w. w.now) words.new.items ≡ words_of line.now) }
 {
-    line.split(|b| is_blank(*b))
-        .filter(|word| !word.is_empty())
-        .collect(alloc)
+    words.clear();
+    words.extend(line.split(|b| is_blank(*b)).filter(|word| !word.is_empty()))
 }
 
 fn is_plain_text(line: &[u8]) -> bool
@@ -47,13 +46,18 @@ fn is_plain_text(line: &[u8]) -> bool
     line.iter().all(|b| is_plain(*b))
 }
 
-/// The words of line `number`.
+/// The words of line `number`, in the list that was used for the lines before.
 #[tactic(auto, unfolding(crate::specs::Format::words_at))]
-pub fn words(alloc: Global, number: u64, line: &[u8]) -> Result<Vec<&[u8]>, ScriptRefusal>
-    ensures { Gives (λ v. map (λ w. w.now) v.items) result (words_at number line.now) }
+pub fn split_line<'a>(
+    words: &mut Vec<&'a [u8]>,
+    number: u64,
+    line: &'a [u8],
+) -> Result<(), ScriptRefusal>
+    ensures { Gives (λ _. map (λ w. w.now) words.new.items) result (words_at number line.now) }
 {
     if !is_plain_text(line) {
         return Err(ScriptRefusal::BadCommand(number));
     }
-    Ok(words_of(alloc, line)?)
+    words_of(words, line)?;
+    Ok(())
 }

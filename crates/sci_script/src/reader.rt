@@ -8,7 +8,7 @@ ghost use Rattle.sci_script.specs.Format.{Gives, entries_from, openings_of, step
 
 use crate::commands::{Opening, Script, Size, Step};
 use crate::line_commands::{command, opening, size};
-use crate::line_words::{is_skipped, words};
+use crate::line_words::{is_skipped, split_line};
 use crate::refusals::ScriptRefusal;
 use std::alloc::Global;
 
@@ -89,10 +89,11 @@ fn openings(alloc: Global, size: Size, number: u64, text: &[u8]) -> Result<Front
     ensures few { IfOk result (λ f. f.number + length f.rest.now < 2 ^ 64) }
 {
     let mut found = Vec::new(alloc);
+    let mut words = Vec::new(alloc);
     let mut at = number;
     let mut rest = text;
     while let Ok(entry) = first_entry(at, rest) {
-        let words = words(alloc, entry.number, entry.line)?;
+        split_line(&mut words, entry.number, entry.line)?;
         let Some(opening) = opening(entry.number, size, &words)? else {
             break;
         };
@@ -115,10 +116,11 @@ fn steps(alloc: Global, size: Size, number: u64, text: &[u8]) -> Result<Vec<Step
     ensures fits { IfOk result (λ v. AreIn size v.items) }
 {
     let mut steps = Vec::new(alloc);
+    let mut words = Vec::new(alloc);
     let mut at = number;
     let mut rest = text;
     while let Ok(entry) = first_entry(at, rest) {
-        let words = words(alloc, entry.number, entry.line)?;
+        split_line(&mut words, entry.number, entry.line)?;
         let command = command(entry.number, size, &words)?;
         steps.push(Step {
             number: entry.number,
@@ -139,7 +141,8 @@ pub fn read_script(alloc: Global, text: &[u8]) -> Result<Script, ScriptRefusal>
         Ok(first) => first,
         Err(end) => return Err(ScriptRefusal::BadCommand(end)),
     };
-    let words = words(alloc, first.number, first.line)?;
+    let mut words = Vec::new(alloc);
+    split_line(&mut words, first.number, first.line)?;
     let size = size(first.number, &words)?;
     let front = openings(alloc, size, first.number + 1, first.rest)?;
     let steps = steps(alloc, size, front.number, front.rest)?;

@@ -1,5 +1,5 @@
 //! Runs a script.
-ghost use Rattle.std.specs.Prelude.{◌≡◌, ◌<◌, ◌≤◌, ℕ, [], true, Some, string_bytes, IfOk, IfErr, All, MatchBool, MatchOption};
+ghost use Rattle.std.specs.Prelude.{◌≡◌, ◌<◌, ◌≤◌, ℕ, [], true, Some, string_bytes, IfOk, IfErr, OnOk, All, MatchBool, MatchOption};
 ghost use Rattle.sci_ops.specs.Table.{begun};
 ghost use Rattle.sci_script.specs.declared.commands.Command.TheVariants.{Done, List as ListLine};
 ghost use Rattle.sci_script.specs.Size.{is_request, IsIn};
@@ -58,25 +58,26 @@ fn turns_to_end<D: Desk>(desk: &mut D, node: NodeId) -> Option<Turn>
     None
 }
 
-/// `done`: the text of the end of the node's open call.
+/// `done`: the text of the end of the node's open call, behind an empty text.
 fn done<D: Desk>(
-    alloc: Global,
+    text: &mut String,
     desk: &mut D,
     nodes: u16,
     words: &[u8; 64],
     number: u64,
     node: NodeId,
-) -> Result<String, ScriptRefusal>
+) -> Result<(), ScriptRefusal>
+    requires empty { string_bytes text.old ≡ [] }
     requires node { node < (D.size desk.old).nodes }
     requires few { (D.size desk.old).nodes ≤ 64 }
     requires words { All (λ w. w < 8) words.now }
     requires open { D.is_open desk.old node ≡ true }
-    ensures ok { IfOk result (λ text. Prints D.is_open D.does words.now desk.old (Done node) (string_bytes text) desk.new) }
+    ensures ok { OnOk result (Prints D.is_open D.does words.now desk.old (Done node) (string_bytes text.new) desk.new) }
     ensures err { IfErr result (λ e. StopsAt D.is_open D.does nodes desk.old (record { number = number; command = Done node }) e desk.new) }
     ensures size { D.size desk.new ≡ D.size desk.old }
 {
     match turns_to_end(desk, node) {
-        Some(turn) => Ok(turn_text(alloc, node, words[usize::from(node.get())], turn)?),
+        Some(turn) => Ok(turn_text(text, node, words[usize::from(node.get())], &turn)?),
         None => Err(ScriptRefusal::NotDone(number)),
     }
 }
@@ -103,18 +104,20 @@ fn list<D: Desk>(
     }
 }
 
-/// One command: what it prints. The words are those that the nodes' last loads are to show.
+/// One command: what it prints, behind an empty text. The words are those that the nodes' last loads are to show.
 fn perform<D: Desk>(
     alloc: Global,
+    text: &mut String,
     desk: &mut D,
     nodes: u16,
     words: &[u8; 64],
     step: Step,
-) -> Result<String, ScriptRefusal>
+) -> Result<(), ScriptRefusal>
+    requires empty { string_bytes text.old ≡ [] }
     requires command { IsIn (D.size desk.old) step.command }
     requires few { (D.size desk.old).nodes ≤ 64 }
     requires words { All (λ w. w < 8) words.now }
-    ensures ok { IfOk result (λ text. Prints D.is_open D.does words.now desk.old step.command (string_bytes text) desk.new) }
+    ensures ok { OnOk result (Prints D.is_open D.does words.now desk.old step.command (string_bytes text.new) desk.new) }
     ensures err { IfErr result (λ e. StopsAt D.is_open D.does nodes desk.old step e desk.new) }
     ensures size { D.size desk.new ≡ D.size desk.old }
 {
@@ -129,26 +132,32 @@ fn perform<D: Desk>(
                 return Err(ScriptRefusal::BadCommand(number));
             }
             desk.begin(node, line, op(request));
-            Ok(String::new(alloc))
+            Ok(())
         }
         Command::Turn { node } => {
             if !desk.open(node) {
                 return Err(ScriptRefusal::BadCommand(number));
             }
             let turn = desk.turn(node);
-            Ok(turn_text(alloc, node, words[usize::from(node.get())], turn)?)
+            Ok(turn_text(text, node, words[usize::from(node.get())], &turn)?)
         }
         Command::Done { node } => {
             if !desk.open(node) {
                 return Err(ScriptRefusal::BadCommand(number));
             }
-            done(alloc, desk, nodes, words, number, node)
+            done(text, desk, nodes, words, number, node)
         }
-        Command::List { line } => list(alloc, desk, nodes, number, line),
-        Command::Tag { line, node } => match load_tag(desk, line, node) {
-            Some(tag) => Ok(tag_text(alloc, line, node, tag)?),
-            None => Err(ScriptRefusal::NotDone(number)),
-        },
+        Command::List { line } => {
+            *text = list(alloc, desk, nodes, number, line)?;
+            Ok(())
+        }
+        Command::Tag { line, node } => {
+            let Some(tag) = load_tag(desk, line, node) else {
+                return Err(ScriptRefusal::NotDone(number));
+            };
+            *text = tag_text(alloc, line, node, tag)?;
+            Ok(())
+        }
     }
 }
 
@@ -193,8 +202,11 @@ impl Script {
         ensures size { D.size desk.new ≡ D.size desk.old }
     {
         let mut words = [0; 64];
+        // one text for all commands, so that not each takes memory
+        let mut text = String::new(alloc);
         for step in &self.steps {
-            let text = perform(alloc, desk, self.size.nodes, &words, *step)?;
+            text.clear();
+            perform(alloc, &mut text, desk, self.size.nodes, &words, *step)?;
             note(&mut words, self.size, step.command);
             match put(out, text.as_bytes()) {
                 Ok(()) => {}

@@ -7,58 +7,58 @@ use sci_ops::{Answer, Turn};
 use sci_words::{LineNo, Mem, NodeId, Tag, mem_name, name};
 use std::alloc::{AllocError, Global};
 
-fn read_text(alloc: Global, node: u16, value: u64, stamp: u64) -> Result<String, AllocError>
-    ensures { IfOk result (λ text. string_bytes text ≡ read_line node value stamp) }
+fn read_text(text: &mut String, node: u16, value: u64, stamp: u64) -> Result<(), AllocError>
+    ensures { OnOk result (string_bytes text.new ≡ string_bytes text.old ++ read_line node value stamp) }
 {
-    format!(in alloc; "node {node} read {value} stamp {stamp}\n")
+    write!(text, "node {node} read {value} stamp {stamp}\n")
 }
 
-fn wrote_text(alloc: Global, node: u16, stamp: u64) -> Result<String, AllocError>
-    ensures { IfOk result (λ text. string_bytes text ≡ wrote_line node stamp) }
+fn wrote_text(text: &mut String, node: u16, stamp: u64) -> Result<(), AllocError>
+    ensures { OnOk result (string_bytes text.new ≡ string_bytes text.old ++ wrote_line node stamp) }
 {
-    format!(in alloc; "node {node} wrote stamp {stamp}\n")
+    write!(text, "node {node} wrote stamp {stamp}\n")
 }
 
-fn out_text(alloc: Global, node: u16) -> Result<String, AllocError>
-    ensures { IfOk result (λ text. string_bytes text ≡ out_line node) }
+fn out_text(text: &mut String, node: u16) -> Result<(), AllocError>
+    ensures { OnOk result (string_bytes text.new ≡ string_bytes text.old ++ out_line node) }
 {
-    format!(in alloc; "node {node} out\n")
+    write!(text, "node {node} out\n")
 }
 
-fn spent_text(alloc: Global, node: u16) -> Result<String, AllocError>
-    ensures { IfOk result (λ text. string_bytes text ≡ spent_line node) }
+fn spent_text(text: &mut String, node: u16) -> Result<(), AllocError>
+    ensures { OnOk result (string_bytes text.new ≡ string_bytes text.old ++ spent_line node) }
 {
-    format!(in alloc; "node {node} refused 11\n")
+    write!(text, "node {node} refused 11\n")
 }
 
 /// How a call ended. Of the line that a load has seen the word with this number is shown.
-fn answer_text(alloc: Global, node: u16, word: u8, answer: Answer) -> Result<String, AllocError>
+fn answer_text(text: &mut String, node: u16, word: u8, answer: &Answer) -> Result<(), AllocError>
     requires { word < 8 }
-    ensures { IfOk result (λ text. string_bytes text ≡ answer_line node word answer) }
+    ensures { OnOk result (string_bytes text.new ≡ string_bytes text.old ++ answer_line node word answer.now) }
 {
     match answer {
-        Answer::Seen { words, stamp } => read_text(alloc, node, words[usize::from(word)], stamp),
-        Answer::Wrote { stamp, .. } => wrote_text(alloc, node, stamp),
-        Answer::Out => out_text(alloc, node),
-        Answer::Spent => spent_text(alloc, node),
+        Answer::Seen { words, stamp } => read_text(text, node, words[usize::from(word)], *stamp),
+        Answer::Wrote { stamp, .. } => wrote_text(text, node, *stamp),
+        Answer::Out => out_text(text, node),
+        Answer::Spent => spent_text(text, node),
     }
 }
 
-fn wait_text(alloc: Global, node: u16) -> Result<String, AllocError>
-    ensures { IfOk result (λ text. string_bytes text ≡ wait_line node) }
+fn wait_text(text: &mut String, node: u16) -> Result<(), AllocError>
+    ensures { OnOk result (string_bytes text.new ≡ string_bytes text.old ++ wait_line node) }
 {
-    format!(in alloc; "node {node} waits\n")
+    write!(text, "node {node} waits\n")
 }
 
-/// What a turn prints.
-pub fn turn_text(alloc: Global, node: NodeId, word: u8, turn: Turn) -> Result<String, AllocError>
+/// Adds what a turn prints.
+pub fn turn_text(text: &mut String, node: NodeId, word: u8, turn: &Turn) -> Result<(), AllocError>
     requires { word < 8 }
-    ensures { IfOk result (λ text. string_bytes text ≡ turn_text node word turn) }
+    ensures { OnOk result (string_bytes text.new ≡ string_bytes text.old ++ turn_text node word turn.now) }
 {
     match turn {
-        Turn::Moved => Ok(String::new(alloc)),
-        Turn::Waiting => wait_text(alloc, node.get()),
-        Turn::Done(answer) => answer_text(alloc, node.get(), word, answer),
+        Turn::Moved => Ok(()),
+        Turn::Waiting => wait_text(text, node.get()),
+        Turn::Done(answer) => answer_text(text, node.get(), word, answer),
     }
 }
 

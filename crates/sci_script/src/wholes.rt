@@ -52,12 +52,12 @@ fn unused(alloc: Global, script: &Script) -> Result<Vec<Whole<AnyWords>>, AllocE
 
 /// One turn of the node's operation on the line.
 #[tactic(auto, using(sci_ops::proofs::Storing::any_store_fits))]
-fn turn_on(whole: &mut Whole<AnyWords>, node: NodeId, op: Op) -> Turn
+fn turn_on(whole: &mut Whole<AnyWords>, node: NodeId, op: &Op) -> Turn
     requires { node < nodes_of whole.old }
-    ensures turns { TurnsOn (nodes_of whole.old) node op (state_of whole.old) result (state_of whole.new) }
+    ensures turns { TurnsOn (nodes_of whole.old) node op.now (state_of whole.old) result (state_of whole.new) }
     ensures same { IsSameLine whole.old whole.new }
 {
-    let mut op = op;
+    let mut op = *op;
     let mut port = Solo::new(whole, node);
     op.turn(&mut port)
 }
@@ -102,10 +102,10 @@ impl Desk for WholeDesk {
 
     fn turn(&mut self, node: NodeId) -> Turn {
         let place = usize::from(node.get());
-        let Some(call) = self.calls[place] else {
+        let Some(call) = &self.calls[place] else {
             unreachable!()
         };
-        let turn = turn_on(&mut self.wholes[usize::from(call.line)], node, call.op);
+        let turn = turn_on(&mut self.wholes[usize::from(call.line)], node, &call.op);
         if is_end(turn) {
             self.calls[place] = None;
         }

@@ -1,8 +1,9 @@
--- A script's refusal as a fault of the program. This project's profile.
+-- A script's refusal as a fault of the program, and the status of a fault. This project's profile.
+use Rattle.std.specs.Prelude.{ℕ}
 use Rattle.sci_script.specs.declared.refusals.ScriptRefusal.{ScriptRefusal}
 use Rattle.sci_script.specs.declared.refusals.ScriptRefusal.TheVariants.{OutOfMemory, BadCommand, BadNumber, NotDone, WriteFailed}
 use Rattle.sci_sim.specs.declared.faults.SimFault.{SimFault}
-use Rattle.sci_sim.specs.declared.faults.SimFault.TheVariants.{CannotWrite, Refused}
+use Rattle.sci_sim.specs.declared.faults.SimFault.TheVariants.{CannotRead, CannotWrite, InputTooLong, Refused}
 
 abbrev pub fault_of : ScriptRefusal → SimFault
 fault_of OutOfMemory = Refused OutOfMemory
@@ -10,3 +11,10 @@ fault_of (BadCommand n) = Refused (BadCommand n)
 fault_of (BadNumber n) = Refused (BadNumber n)
 fault_of (NotDone n) = Refused (NotDone n)
 fault_of WriteFailed = CannotWrite
+
+-- every fault is status 1
+abbrev pub status_of : SimFault → ℕ
+status_of CannotRead = 1
+status_of CannotWrite = 1
+status_of InputTooLong = 1
+status_of (Refused e) = 1

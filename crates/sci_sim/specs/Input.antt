@@ -1,6 +1,7 @@
 -- What is kept of an input that is read to its end. This project's profile.
 use Rattle.std.specs.Prelude.{◌≡◌, ℕ, ◌<◌, ◌≤◌, List, length, Option, MatchOption}
 use Rattle.std.specs.Global.{Vec}
+use Rattle.std.specs.Io.KnownBytes.{IsAtEnd}
 use Rattle.sci_script.specs.declared.refusals.ScriptRefusal.TheVariants.{OutOfMemory, BadCommand, BadNumber, NotDone, WriteFailed}
 use Rattle.sci_sim.specs.declared.faults.SimFault.{SimFault}
 use Rattle.sci_sim.specs.declared.faults.SimFault.TheVariants.{CannotRead, CannotWrite, InputTooLong, Refused}
@@ -19,3 +20,8 @@ IsReadFault (Refused (BadCommand n)) input = ⊥
 IsReadFault (Refused (BadNumber n)) input = ⊥
 IsReadFault (Refused (NotDone n)) input = ⊥
 IsReadFault (Refused WriteFailed) input = ⊥
+
+-- that an input is too long is told at its end, with no byte left
+abbrev pub IsToldInTime : SimFault → Option (List ℕ) → Type 0
+IsToldInTime InputTooLong left = IsAtEnd left
+IsToldInTime _ left = Unit {0}

@@ -1,5 +1,6 @@
 -- What the command `script` writes. This project's profile.
-use Rattle.std.specs.Prelude.{◌≡◌, ℕ, ◌<◌, ◌≤◌, List, [], length, Ok, Err, ◌⊎◌}
+use Rattle.std.specs.Prelude.{◌≡◌, ℕ, ◌<◌, ◌≤◌, List, [], length, Option, None, Some, Ok, Err, ◌⊎◌}
+use Rattle.std.specs.Io.KnownBytes.{Appends}
 use Rattle.sci_script.specs.declared.commands.Size.{Size}
 use Rattle.sci_script.specs.declared.commands.Opening.{Opening}
 use Rattle.sci_script.specs.declared.commands.Step.{Step}
@@ -36,3 +37,16 @@ Stops CannotRead input written = written ≡ []
 Stops CannotWrite input written = StopsRunning WriteFailed input written
 Stops InputTooLong input written = (1048576 < length input) × (written ≡ [])
 Stops (Refused e) input written = (IsRefused e input × (written ≡ [])) ⊎ StopsRunning e input written
+
+-- a writer that is known to hold no fewer bytes than at first
+abbrev pub LosesNothing : Option (List ℕ) → Option (List ℕ) → Type 0
+LosesNothing None new = ⊥
+LosesNothing (Some xs) None = ⊥
+LosesNothing (Some xs) (Some ys) = length xs ≤ length ys
+
+-- what the writer holds where the command fails through a buffer; nothing is said of a failed writer that loses what it held
+abbrev pub LeavesBehind : SimFault → List ℕ → Option (List ℕ) → Option (List ℕ) → Type 0
+LeavesBehind CannotRead input old new = (written : List ℕ) × Stops CannotRead input written × Appends old new written
+LeavesBehind CannotWrite input old new = LosesNothing old new → (written : List ℕ) × Stops CannotWrite input written × Appends old new written
+LeavesBehind InputTooLong input old new = (written : List ℕ) × Stops InputTooLong input written × Appends old new written
+LeavesBehind (Refused e) input old new = (written : List ℕ) × Stops (Refused e) input written × Appends old new written

@@ -1,7 +1,7 @@
 //! Why a command of the program fails.
 
 ghost use Rattle.std.specs.Prelude.{◌≡◌};
-ghost use Rattle.sci_sim.specs.Fault.{fault_of};
+ghost use Rattle.sci_sim.specs.Fault.{fault_of, status_of};
 ghost use Rattle.sci_sim.specs.declared.faults.SimFault.TheVariants.{Refused};
 ghost use Rattle.sci_script.specs.declared.refusals.ScriptRefusal.TheVariants.{OutOfMemory};
 
@@ -9,7 +9,7 @@ use sci_script::ScriptRefusal;
 use std::alloc::AllocError;
 use thiserror::Error;
 
-/// Why a command of the program fails. Its text stands on standard error behind `scisim: `, and the status is 1.
+/// Why a command of the program fails. Its text stands on standard error behind `scisim: `.
 #[derive(Clone, Copy, Debug, PartialEq, Eq, Drop, Error)]
 pub enum SimFault {
     /// FILE or the input can't be opened or read, or the input doesn't end.
@@ -24,6 +24,20 @@ pub enum SimFault {
     /// What was read is refused.
     #[error(transparent)]
     Refused(ScriptRefusal),
+}
+
+impl SimFault {
+    /// The status that the program ends with.
+    pub fn status(self) -> u8
+        ensures { result ≡ status_of self }
+    {
+        match self {
+            SimFault::CannotRead
+            | SimFault::CannotWrite
+            | SimFault::InputTooLong
+            | SimFault::Refused(_) => 1,
+        }
+    }
 }
 
 impl From<ScriptRefusal> for SimFault {

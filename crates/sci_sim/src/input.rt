@@ -1,7 +1,8 @@
 //! The whole of an input, up to a limit.
 
-ghost use Rattle.std.specs.Prelude.{◌≡◌, ◌<◌, ◌≤◌, ◌++◌, ℕ, List, length, IfOk, IfErr, IfSome};
-ghost use Rattle.sci_sim.specs.Input.{IsKept, IsReadFault};
+ghost use Rattle.std.specs.Prelude.{◌≡◌, ◌<◌, ◌≤◌, ◌++◌, ℕ, List, length, IfOk, IfErr, IfSome, OnOk};
+ghost use Rattle.std.specs.Io.KnownBytes.{IsAtEnd};
+ghost use Rattle.sci_sim.specs.Input.{IsKept, IsReadFault, IsToldInTime};
 
 use crate::faults::SimFault;
 use std::alloc::{AllocError, Global};
@@ -27,11 +28,14 @@ fn keep(kept: Option<Vec<u8>>, bytes: &[u8]) -> Result<Option<Vec<u8>>, AllocErr
     Ok(Some(input))
 }
 
-/// Reads to the end. Bytes past the limit are dropped, and the input is then refused with 23.
+/// Reads to the end. Bytes past the limit are dropped, and the input is then refused with 23, at its end. An input that
+/// hasn't ended after 2,097,152 reads can't be read.
 pub fn read_input<R: Read>(alloc: Global, reader: &mut R) -> Result<Vec<u8>, SimFault>
     ensures read { IfOk result (λ v. IfSome (R.remaining reader.old) (λ input. v.items ≡ input)) }
     ensures short { IfOk result (λ v. length v.items ≤ 1048576) }
+    ensures end { OnOk result (IsAtEnd (R.remaining reader.new)) }
     ensures err { IfErr result (λ e. IfSome (R.remaining reader.old) (IsReadFault e)) }
+    ensures in_time { IfErr result (λ e. IsToldInTime e (R.remaining reader.new)) }
 {
     let mut kept = Some(Vec::new(alloc));
     let mut buffer = [0u8; 4096];

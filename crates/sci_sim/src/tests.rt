@@ -1,24 +1,25 @@
 ghost use Rattle.std.specs.Prelude.{Some};
 
 use crate::faults::SimFault;
-use crate::serve::serve_script;
+use crate::serve::{serve_buffered, serve_script};
 use sci_script::ScriptRefusal;
 use std::alloc::{AllocError, Global};
 use std::io;
-use std::io::{ErrorKind, Read, Write};
+use std::io::{BufWriter, ErrorKind, Read, Write};
 use std::process::Abort;
 use std::test::*;
 
-/// Gives one byte a read, and each other read is interrupted.
+/// Gives one byte a read. Where it is shy, each other read is interrupted.
 #[derive(Drop)]
 struct OneByte<'a> {
     rest: &'a [u8],
+    is_shy: bool,
     interrupted: bool,
 }
 
 impl Read for OneByte<'_> {
     fn read(&mut self, buf: &mut [u8]) -> io::Result<usize> {
-        self.interrupted = !self.interrupted;
+        self.interrupted = self.is_shy && !self.interrupted;
         if self.interrupted {
             return Err(io::Error::from(ErrorKind::Interrupted));
         }
@@ -43,12 +44,18 @@ impl Read for Broken {
     }
 }
 
-/// Is interrupted at each read.
+/// Is interrupted so many times, and then at its end.
 #[derive(Drop)]
-struct Interrupted;
+struct Late {
+    interruptions: u32,
+}
 
-impl Read for Interrupted {
+impl Read for Late {
     fn read(&mut self, _buf: &mut [u8]) -> io::Result<usize> {
+        if self.interruptions == 0 {
+            return Ok(0);
+        }
+        self.interruptions -= 1;
         Err(io::Error::from(ErrorKind::Interrupted))
     }
 }
@@ -128,6 +135,7 @@ fn serves(rt: HostRuntime) {
 fn one_byte_at_a_time(rt: HostRuntime) {
     let mut reader = OneByte {
         rest: SHARERS.as_bytes(),
+        is_shy: true,
         interrupted: false,
     };
     let mut writer = Narrow {
@@ -146,9 +154,6 @@ fn readers_and_writers_that_fail(rt: HostRuntime) {
     let end = serve_script(rt.alloc(), &mut Broken, &mut out);
     assert_eq!(rt; end, Err(SimFault::CannotRead));
     assert!(rt; out.is_empty());
-    let end = serve_script(rt.alloc(), &mut Interrupted, &mut out);
-    assert_eq!(rt; end, Err(SimFault::CannotRead));
-    assert!(rt; out.is_empty());
     let mut writer = Narrow {
         held: Vec::new(rt.alloc()),
         room: 29,
@@ -157,6 +162,53 @@ fn readers_and_writers_that_fail(rt: HostRuntime) {
     let end = serve_script(rt.alloc(), &mut SHARERS.as_bytes(), &mut writer);
     assert_eq!(rt; end, Err(SimFault::CannotWrite));
     assert!(rt; writer.held.as_slice() == &SHARED.as_bytes()[..29]);
+}
+
+/// The bytes of the writer and the fault, through a buffer of so many bytes before a writer with so much room.
+fn through_buffer(
+    alloc: Global,
+    script: &str,
+    capacity: usize,
+    room: usize,
+) -> Result<(Vec<u8>, Option<SimFault>), Fail> {
+    let writer = Narrow {
+        held: Vec::new(alloc),
+        room,
+        interrupted: false,
+    };
+    let output = BufWriter::with_capacity(alloc, capacity, writer)?;
+    let (writer, end) = serve_buffered(alloc, &mut script.as_bytes(), output);
+    Ok((writer.held, end.err()))
+}
+
+/// What is printed before a refusal goes out, and a writer that is full is told before the refusal.
+#[test]
+fn buffers_before_a_writer_that_fills(rt: HostRuntime) -> Result<(), Fail> {
+    let cases: [Case; 3] = [
+        (SHARERS, None, SHARED),
+        (
+            "memory 1 1\nlist 0\nlist 0\nturn 0\n",
+            refused(ScriptRefusal::BadCommand(4)),
+            "line 0 HOME\nline 0 HOME\n",
+        ),
+        ("memory 0 1", refused(ScriptRefusal::BadNumber(1)), ""),
+    ];
+    for (script, fault, text) in cases {
+        for capacity in [0, 1, 20, 24, 65_536] {
+            for room in 0..text.len() {
+                let (held, end) = through_buffer(rt.alloc(), script, capacity, room)?;
+                assert_eq!(rt; end, Some(SimFault::CannotWrite), "of {script}, {room}");
+                assert!(rt;
+                    held.as_slice() == &text.as_bytes()[..room],
+                    "of {script}, {room}"
+                );
+            }
+            let (held, end) = through_buffer(rt.alloc(), script, capacity, text.len())?;
+            assert_eq!(rt; end, fault, "of {script}");
+            assert!(rt; held.as_slice() == text.as_bytes(), "of {script}");
+        }
+    }
+    Ok(())
 }
 
 fn input(alloc: Global, length: usize) -> Result<Vec<u8>, AllocError> {
@@ -182,8 +234,57 @@ fn long_inputs(rt: HostRuntime) -> Result<(), Fail> {
     Ok(())
 }
 
+/// The fault of an input that a reader gives byte by byte.
+fn fault_by_bytes(
+    alloc: Global,
+    length: usize,
+    is_shy: bool,
+) -> Result<Option<SimFault>, AllocError> {
+    let input = input(alloc, length)?;
+    let mut reader = OneByte {
+        rest: &input,
+        is_shy,
+        interrupted: false,
+    };
+    let mut out = Vec::new(alloc);
+    Ok(serve_script(alloc, &mut reader, &mut out).err())
+}
+
 #[test]
-fn texts_of_faults(rt: HostRuntime) -> Result<(), Fail> {
+fn long_inputs_byte_by_byte(rt: HostRuntime) -> Result<(), Fail> {
+    for (length, fault) in [
+        (1_048_576, refused(ScriptRefusal::BadCommand(2))),
+        (1_048_577, Some(SimFault::InputTooLong)),
+    ] {
+        assert_eq!(rt; fault_by_bytes(rt.alloc(), length, false)?, fault);
+    }
+    Ok(())
+}
+
+// A reader that is interrupted before each byte, and before its end, takes two reads for each.
+#[test]
+fn inputs_of_2_097_152_reads(rt: HostRuntime) -> Result<(), Fail> {
+    for (length, fault) in [
+        (1_048_575, refused(ScriptRefusal::BadCommand(2))),
+        (1_048_576, Some(SimFault::CannotRead)),
+    ] {
+        assert_eq!(rt; fault_by_bytes(rt.alloc(), length, true)?, fault);
+    }
+    for (interruptions, fault) in [
+        (2_097_151, refused(ScriptRefusal::BadCommand(1))),
+        (2_097_152, Some(SimFault::CannotRead)),
+        (u32::MAX, Some(SimFault::CannotRead)),
+    ] {
+        let mut out = Vec::new(rt.alloc());
+        let end = serve_script(rt.alloc(), &mut Late { interruptions }, &mut out);
+        assert_eq!(rt; end.err(), fault, "after {interruptions}");
+        assert!(rt; out.is_empty());
+    }
+    Ok(())
+}
+
+#[test]
+fn texts_and_statuses_of_faults(rt: HostRuntime) -> Result<(), Fail> {
     let cases = [
         (SimFault::CannotRead, "cannot read"),
         (SimFault::CannotWrite, "cannot write"),
@@ -205,6 +306,7 @@ fn texts_of_faults(rt: HostRuntime) -> Result<(), Fail> {
     for (fault, text) in cases {
         let shown = format!(in rt.alloc(); "{fault}")?;
         assert!(rt; shown.as_str() == text, "of {text}");
+        assert_eq!(rt; fault.status(), 1, "of {text}");
     }
     Ok(())
 }

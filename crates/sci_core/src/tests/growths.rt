@@ -1,12 +1,19 @@
-//! Each growth may be refused: the answer is then 7 or an `AllocError`, and all is as before. The gate runs this test with
-//! each allocation refused in turn.
+//! Each growth may be refused: its call then answers 7 or an `AllocError`, all is as before, and a second try has the memory.
+//! With ample memory these tests pass. tools/growths runs them once more with allocation LAST refused: that is growth K of
+//! test K, which has spent LAST - K before, and the test ends by saying which call answered it. Where a call makes up for a
+//! refused growth by a later one, it answers Ok.
 use super::{LINE, fresh, node, run};
+use crate::closing::Closed;
 use crate::events::Event;
 use crate::keeps::AnyWords;
 use crate::outcomes::OpenRefusal;
 use crate::whole::Whole;
 use sci_words::{MemState, NodeId, Tag};
+use std::alloc::{AllocError, Global};
 use std::process::Abort;
+use std::test::Fail;
+
+const LAST: u16 = 8;
 
 // Memory's state, both tags and memory's stamp.
 fn shown(whole: &Whole<AnyWords>) -> Option<(MemState, Tag, Tag, u64)> {
@@ -22,35 +29,71 @@ fn shown(whole: &Whole<AnyWords>) -> Option<(MemState, Tag, Tag, u64)> {
     ))
 }
 
-fn lists(rt: &impl Abort, whole: &Whole<AnyWords>, alloc: std::alloc::Global, want: &[u16]) {
-    let before = shown(whole);
-    if let Ok(chain) = whole.chain(alloc) {
-        assert_eq!(rt; chain.len(), want.len());
-        for (node, number) in chain.iter().zip(want.iter()) {
-            assert_eq!(rt; node.get(), *number);
-        }
+// Makes so many allocations.
+fn spend(alloc: Global, count: u16) -> Result<(), AllocError> {
+    for place in 0..count {
+        let mut kept = Vec::with_capacity(alloc, 1)?;
+        kept.push(place)?;
     }
-    assert!(rt; shown(whole) == before);
+    Ok(())
 }
 
-#[test]
-fn growths_refused_in_turn(rt: HostRuntime) {
-    let mut whole = match Whole::open(rt.alloc(), 2, 7, LINE, AnyWords) {
+fn is_chain(rt: &impl Abort, chain: &[NodeId], want: &[u16]) {
+    assert_eq!(rt; chain.len(), want.len());
+    for (node, number) in chain.iter().zip(want.iter()) {
+        assert_eq!(rt; node.get(), *number);
+    }
+}
+
+fn lists(
+    rt: &impl Abort,
+    whole: &Whole<AnyWords>,
+    alloc: Global,
+    want: &[u16],
+) -> Result<(), Fail> {
+    let before = shown(whole);
+    if let Ok(chain) = whole.chain(alloc) {
+        is_chain(rt, &chain, want);
+        return Ok(());
+    }
+    assert!(rt; shown(whole) == before);
+    is_chain(rt, &whole.chain(alloc)?, want);
+    Err(Fail::new("chain answered 7"))
+}
+
+fn is_unused(rt: &impl Abort, closed: &Closed) {
+    assert_eq!(rt; closed.memory, LINE);
+    assert_eq!(rt; closed.tags.len(), 2);
+    assert_eq!(rt; closed.lines.as_slice(), [LINE; 2].as_slice());
+}
+
+// A second try to open has the memory.
+fn opens_again(rt: &impl Abort, alloc: Global, refusal: OpenRefusal) -> Result<(), Fail> {
+    assert_eq!(rt; refusal, OpenRefusal::OutOfMemory);
+    assert_eq!(rt; refusal.number(), 7);
+    let whole = Whole::open(alloc, 2, 7, LINE, AnyWords)?;
+    is_chain(rt, &whole.chain(alloc)?, &[]);
+    Err(Fail::new("open answered 7"))
+}
+
+fn refuses(rt: &impl Abort, alloc: Global, spent: u16) -> Result<(), Fail> {
+    if spend(alloc, spent).is_err() {
+        return Err(Fail::new("spending answered 7"));
+    }
+    let mut whole = match Whole::open(alloc, 2, 7, LINE, AnyWords) {
         Ok(whole) => whole,
-        Err(refusal) => {
-            assert_eq!(rt; refusal, OpenRefusal::OutOfMemory);
-            assert_eq!(rt; refusal.number(), 7);
-            return;
-        }
+        Err(refusal) => return opens_again(rt, alloc, refusal),
     };
     let before = shown(&whole);
-    if let Ok(closed) = whole.closed(rt.alloc()) {
-        assert_eq!(rt; closed.memory, LINE);
-        assert_eq!(rt; closed.tags.len(), 2);
-        assert_eq!(rt; closed.lines.as_slice(), [LINE; 2].as_slice());
+    match whole.closed(alloc) {
+        Ok(closed) => is_unused(rt, &closed),
+        Err(_) => {
+            assert!(rt; shown(&whole) == before);
+            is_unused(rt, &whole.closed(alloc)?);
+            return Err(Fail::new("closed answered 7"));
+        }
     }
-    assert!(rt; shown(&whole) == before);
-    lists(&rt, &whole, rt.alloc(), &[]);
+    lists(rt, &whole, alloc, &[])?;
     let reads: [(NodeId, Event); 7] = [
         (node(1), Event::Queue(None)),
         (node(1), Event::PrependValid),
@@ -61,5 +104,54 @@ fn growths_refused_in_turn(rt: HostRuntime) {
         (node(1), Event::Hold(fresh(None))),
     ];
     assert_eq!(rt; run(&mut whole, &reads), Some(Ok(7)));
-    lists(&rt, &whole, rt.alloc(), &[0, 1]);
+    lists(rt, &whole, alloc, &[0, 1])?;
+    if spend(alloc, 1).is_err() {
+        return Err(Fail::new("nothing answered 7"));
+    }
+    Ok(())
+}
+
+#[test]
+fn growth_0_of_spending(rt: HostRuntime) -> Result<(), Fail> {
+    refuses(&rt, rt.alloc(), LAST)
+}
+
+#[test]
+fn growth_1_of_open(rt: HostRuntime) -> Result<(), Fail> {
+    refuses(&rt, rt.alloc(), LAST - 1)
+}
+
+#[test]
+fn growth_2_of_open(rt: HostRuntime) -> Result<(), Fail> {
+    refuses(&rt, rt.alloc(), LAST - 2)
+}
+
+#[test]
+fn growth_3_of_open(rt: HostRuntime) -> Result<(), Fail> {
+    refuses(&rt, rt.alloc(), LAST - 3)
+}
+
+#[test]
+fn growth_4_of_closed(rt: HostRuntime) -> Result<(), Fail> {
+    refuses(&rt, rt.alloc(), LAST - 4)
+}
+
+#[test]
+fn growth_5_made_up_for(rt: HostRuntime) -> Result<(), Fail> {
+    refuses(&rt, rt.alloc(), LAST - 5)
+}
+
+#[test]
+fn growth_6_of_chain(rt: HostRuntime) -> Result<(), Fail> {
+    refuses(&rt, rt.alloc(), LAST - 6)
+}
+
+#[test]
+fn growth_7_of_chain(rt: HostRuntime) -> Result<(), Fail> {
+    refuses(&rt, rt.alloc(), LAST - 7)
+}
+
+#[test]
+fn growth_8_of_nothing(rt: HostRuntime) -> Result<(), Fail> {
+    refuses(&rt, rt.alloc(), 0)
 }

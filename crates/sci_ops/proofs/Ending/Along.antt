@@ -9,7 +9,8 @@ use Rattle.sci_port.specs.Way.{Way, way_to}
 use Rattle.sci_ops.specs.Alone.{TakesTurn, on_line}
 use Rattle.sci_ops.specs.Operation.{Operation}
 use Rattle.sci_ops.specs.Table.{turn_of}
-use Rattle.sci_port.specs.Call.{Call, Chain}
+use Rattle.sci_port.specs.declared.calls.Call.{Call}
+use Rattle.sci_port.specs.Call.{Chain}
 use Rattle.sci_ops.specs.declared.answers.Turn.{Turn}
 use Rattle.sci_ops.specs.Plan.{Plan, Takes}
 

@@ -14,7 +14,9 @@ use Rattle.sci_core.specs.Row.{exchange_with}
 use Rattle.sci_core.specs.Run.{KeepsLawful}
 use Rattle.sci_core.specs.Step.{Finds, is_look, looked, stepped, taken_line}
 use Rattle.sci_core.specs.Table.{has_row, row_of}
-use Rattle.sci_port.specs.Call.{Call, Own, MemWas, TagWas, Stepped, Chain}
+use Rattle.sci_port.specs.declared.calls.Call.{Call}
+use Rattle.sci_port.specs.declared.calls.Call.TheVariants.{Own, MemWas, TagWas, Stepped}
+use Rattle.sci_port.specs.Call.{Chain}
 use Rattle.sci_port.specs.Owes.{IsTag}
 use Rattle.sci_port.specs.Solo.{Does}
 use Rattle.sci_ops.specs.declared.answers.Turn.{Turn}

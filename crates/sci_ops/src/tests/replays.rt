@@ -9,7 +9,12 @@ use std::test::Fail;
 
 // One turn of a node's operation, through a port that records it.
 #[tactic(auto, using(crate::proofs::Storing::any_store_fits))]
-fn turn(whole: &mut Whole<AnyWords>, trace: &mut Trace, number: u16, op: &mut Op) -> Option<Turn> {
+pub fn turn(
+    whole: &mut Whole<AnyWords>,
+    trace: &mut Trace,
+    number: u16,
+    op: &mut Op,
+) -> Option<Turn> {
     let node = NodeId::new(number)?;
     if node.get() >= whole.nodes() {
         return None;

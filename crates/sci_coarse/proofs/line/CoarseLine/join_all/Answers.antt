@@ -1,8 +1,8 @@
-use Rattle.std.proofs.Common.{◌<◌, ◌≡◌, Some, length, arith, ◌∙◌, ap}
+use Rattle.std.proofs.Common.{rules, ◌<◌, ◌≡◌, ◌+◌, ℕ, Some, length, vec_len, arith, sym, ◌∙◌, ap, subst}
 use Rattle.sci_coarse.proofs.Seating.{joins_as}
 use Rattle.atomic_table.proofs.Lists.{at_index}
-use Rattle.sci_coarse.proofs.Listed.{each_others, each_last}
-use Rattle.sci_coarse.proofs.Ordered.{first_of, others_of, last_of}
+use Rattle.sci_coarse.specs.Views.{joined_view}
+use Rattle.sci_coarse.proofs.Ordered.{KeepsFrom, first_of, others_of, last_of, first_kept, others_first, fewer_first, kept_more, kept_all}
 use Rattle.sci_coarse.proofs.line.CoarseLine.join_all.Goals as goal
 
 pub loop-seat-init : goal.loop-seat-init
@@ -18,7 +18,8 @@ loop-seat-init g c =
       joined = s.seen.2 ∙ (ap (λ x. x.nodes) f.0.1 ∙ (omega arith));
       idle = s.seen.1 ∙ f.2;
       seats = others_of c.args.self.now c.args.seats.items r.new.self.items c.requires.seats r.ensures.items;
-      unused = λ none. (none 0 s (at_index c.args.seats.items 0 s some_seat r.ensures.value), each_others _ c.args.seats.items r.new.self.items none r.ensures.items);
+      calls = first_kept c.args.seats.items s _ (at_index c.args.seats.items 0 s some_seat r.ensures.value) (s.seen.0 ∙ f.1) (omega (arith, c.args.seats.ok, r.new.self.ok));
+      others = others_first c.args.seats.items r.new.self.items r.ensures.items;
     }
 
 pub join_seat-requires : goal.join_seat-requires
@@ -40,5 +41,11 @@ loop-seat-preserved g c =
       joined = ap (λ v. v.joined) me ∙ (omega (arith, c.pop.new.self.ok));
       idle = ap (λ v. v.pending) me ∙ i.idle;
       seats = l.1;
-      unused = λ none. let was = i.unused none in let u = each_last (λ x. x.token.me.0.regions ≡ 0) c.loop-seat.seats.items c.pop.new.self.items s was.1 c.in-Some.ensures.items in let mine = was.0 in let its = u.0 in (ap (λ v. v.regions) me ∙ (omega arith), u.1);
+      calls = subst (KeepsFrom c.args.seats.items (vec_len c.pop.new.self + 1)) (sym me) (subst (λ (n : ℕ). KeepsFrom c.args.seats.items (n + 1) (joined_view c.loop-seat.root.me.0 s.token.me.0)) (sym c.pop.new.self.ok.0)
+          (kept_more c.args.seats.items c.loop-seat.seats.items c.pop.new.self.items s c.loop-seat.root.me.0 c.in-Some.ensures.items i.others (seen ∙ node) i.first
+          (subst (λ (n : ℕ). KeepsFrom c.args.seats.items (n + 1) c.loop-seat.root.me.0) c.loop-seat.seats.ok.0 i.calls)));
+      others = fewer_first c.args.seats.items c.loop-seat.seats.items c.pop.new.self.items s c.in-Some.ensures.items i.others;
     }
+
+pub returns-clause-logs : goal.returns-clause-logs
+returns-clause-logs g c = let z : vec_len c.loop-seat.seats ≡ 0 = search rules in kept_all c.args.seats.items _ c.loop-seat.root.me.0 (omega arith) c.loop-seat.invariant.calls

@@ -1,6 +1,7 @@
 use Rattle.std.proofs.Common.{◌≡◌, ◌+◌, Some, false, vec_len}
 use Rattle.sci_core.specs.declared.pending.Pending.TheVariants.{Idle}
-use Rattle.sci_coarse.specs.Seats.{AreIdleFrom, AreUnused}
+use Rattle.sci_coarse.specs.Seats.{AreIdleFrom}
+use Rattle.sci_coarse.proofs.Ordered.{KeepsFrom, AreFirstOf}
 use Rattle.sci_coarse.proofs.line.CoarseLine.join_all.Given as goal
 
 abbrev pub invariant-loop-seat : goal.invariant-loop-seat
@@ -12,7 +13,8 @@ invariant-loop-seat g l = record {
   joined : l.root.me.0.joined ≡ vec_len l.seats + 1;
   idle : l.root.me.0.pending ≡ Idle;
   seats : AreIdleFrom l.self 1 l.seats.items;
-  unused : AreUnused l.fn.seats.items → (l.root.me.0.regions ≡ 0) × AreUnused l.seats.items;
+  calls : KeepsFrom l.fn.seats.items (vec_len l.seats + 1) l.root.me.0;
+  others : AreFirstOf l.fn.seats.items l.seats.items;
 }
 
 abbrev pub decreases-loop-seat : goal.decreases-loop-seat

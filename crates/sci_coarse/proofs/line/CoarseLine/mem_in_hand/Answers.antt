@@ -1,5 +1,5 @@
 use Rattle.std.proofs.Common.{Some}
-use Rattle.sci_port.specs.Call.{MemWas}
+use Rattle.sci_port.specs.declared.calls.Call.TheVariants.{MemWas}
 use Rattle.sci_coarse.proofs.Lending.{whole_hand, lent}
 use Rattle.sci_coarse.proofs.line.CoarseLine.mem_in_hand.Goals as goal
 

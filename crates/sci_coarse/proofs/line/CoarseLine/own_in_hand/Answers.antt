@@ -1,6 +1,6 @@
 use Rattle.std.proofs.Common.{◌<◌, Some, ◌∙◌, ap, subst}
 use Rattle.sci_core.specs.Whole.{WholeLine, nodes_of, state_of}
-use Rattle.sci_port.specs.Call.{Own}
+use Rattle.sci_port.specs.declared.calls.Call.TheVariants.{Own}
 use Rattle.sci_coarse.specs.Rule.{IsOn}
 use Rattle.sci_coarse.proofs.Lending.{whole_hand, same_hand, lent, same_given}
 use Rattle.sci_coarse.proofs.line.CoarseLine.own_in_hand.Goals as goal

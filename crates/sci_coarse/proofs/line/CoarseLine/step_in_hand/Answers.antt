@@ -1,7 +1,7 @@
 use Rattle.std.proofs.Common.{◌≡◌, ◌<◌, true, ◌∙◌, ap, subst}
 use Rattle.sci_core.specs.Whole.{WholeLine, nodes_of, state_of}
 use Rattle.sci_core.specs.Answers.{is_allowed}
-use Rattle.sci_port.specs.Call.{Stepped}
+use Rattle.sci_port.specs.declared.calls.Call.TheVariants.{Stepped}
 use Rattle.sci_coarse.specs.Rule.{IsOn}
 use Rattle.sci_coarse.proofs.Lending.{whole_hand, same_hand, lent, same_given}
 use Rattle.sci_coarse.proofs.line.CoarseLine.step_in_hand.Goals as goal

@@ -1,6 +1,6 @@
 use Rattle.std.proofs.Common.{◌<◌, Some, subst}
 use Rattle.sci_core.specs.Whole.{WholeLine, nodes_of}
-use Rattle.sci_port.specs.Call.{TagWas}
+use Rattle.sci_port.specs.declared.calls.Call.TheVariants.{TagWas}
 use Rattle.sci_coarse.proofs.Lending.{whole_hand, same_hand, lent}
 use Rattle.sci_coarse.proofs.line.CoarseLine.tag_in_hand.Goals as goal
 

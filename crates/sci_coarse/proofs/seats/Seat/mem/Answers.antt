@@ -1,5 +1,5 @@
 use Rattle.std.proofs.Common.{rules, Some, refl, sym, ap, ◌∙◌}
-use Rattle.sci_port.specs.Call.{MemWas}
+use Rattle.sci_port.specs.declared.calls.Call.TheVariants.{MemWas}
 use Rattle.sci_coarse.proofs.Composing.{was_taken, was_missed, hand, still_of, still_holds, to_give, region, sits, owing, calls, still}
 use Rattle.sci_coarse.proofs.seats.Seat.mem.Goals as goal
 
@@ -28,7 +28,7 @@ returns g c = let s = c.args.self.now in let t = c.args.line.now.terms in let of
 }
 
 pub invariant_of-self : goal.invariant_of-self
-invariant_of-self g c = let s = c.args.self.now in let h = was_missed _ _ c.take.result c.take.ensures.taken (search rules) in record { of = ap (λ v. v.of) h.0 ∙ s.of; seen = (ap (λ v. v.node) h.0 ∙ s.seen.0, ap (λ v. v.pending) h.0 ∙ s.seen.1, ap (λ v. v.joined) h.0 ∙ s.seen.2, ap (λ v. v.holds) h.0 ∙ s.seen.3); hand = h.1; below = s.below }
+invariant_of-self g c = let s = c.args.self.now in let h = was_missed _ _ c.take.result c.take.ensures.taken (search rules) in record { of = ap (λ v. v.of) h.1 ∙ s.of; seen = (ap (λ v. v.node) h.1 ∙ s.seen.0, ap (λ v. v.pending) h.1 ∙ s.seen.1, ap (λ v. v.joined) h.1 ∙ s.seen.2, ap (λ v. v.holds) h.1 ∙ s.seen.3); hand = h.2; below = s.below }
 
 pub returns-then-not-take : goal.returns-then-not-take
-returns-then-not-take g c = let s = c.args.self.now in let h = was_missed _ _ c.take.result c.take.ensures.taken (search rules) in record { made = record { same = (search rules, search rules, refl, refl); came = (h.0, h.2 s.standing.terms s.of); owes = (refl, tt) } }
+returns-then-not-take g c = let s = c.args.self.now in let h = was_missed _ _ c.take.result c.take.ensures.taken (search rules) in record { made = record { same = (search rules, search rules, refl, refl); came = (h.0, h.1, h.3 s.standing.terms s.of); owes = (refl, tt) } }

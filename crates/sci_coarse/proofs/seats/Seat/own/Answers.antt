@@ -1,35 +1,35 @@
 use Rattle.std.proofs.Common.{rules, ◌<◌, Some, refl, sym, ap, ◌∙◌, subst}
-use Rattle.sci_port.specs.Call.{Own}
+use Rattle.sci_port.specs.declared.calls.Call.TheVariants.{Own}
 use Rattle.sci_coarse.specs.declared.views.Terms.{Terms}
 use Rattle.sci_coarse.proofs.Composing.{was_taken, was_missed, hand, still_of, still_holds, to_give, region, sits, owing, reads}
 use Rattle.sci_coarse.proofs.seats.Seat.own.Goals as goal
 
-pub own_in_hand-tag-requires-clause-hand : goal.own_in_hand-tag-requires-clause-hand
-own_in_hand-tag-requires-clause-hand g c = let s = c.args.self.now in let t = c.args.line.now.terms in let of = s.of ∙ ap (λ x. Some x) c.requires.of.1 in let taken = was_taken _ _ c.take.result c.take.ensures.taken (search rules) in hand g.K.Keeps.fits t s.node s.token.me c.take.new.token.me of s.seen.0 taken
+pub own_in_hand-standing-requires-clause-hand : goal.own_in_hand-standing-requires-clause-hand
+own_in_hand-standing-requires-clause-hand g c = let s = c.args.self.now in let t = c.args.line.now.terms in let of = s.of ∙ ap (λ x. Some x) c.requires.of.1 in let taken = was_taken _ _ c.take.result c.take.ensures.taken (search rules) in hand g.K.Keeps.fits t s.node s.token.me c.take.new.token.me of s.seen.0 taken
 
 pub give-requires-clause-of : goal.give-requires-clause-of
-give-requires-clause-of g c = let s = c.args.self.now in let t = c.args.line.now.terms in let of = s.of ∙ ap (λ x. Some x) c.requires.of.1 in let taken = was_taken _ _ c.take.result c.take.ensures.taken (search rules) in (search rules, still_of g.K.Keeps.fits t s.node s.token.me c.take.new.token.me of s.seen.0 taken (Own (Some c.own_in_hand-tag.result.0)) c.own_in_hand-tag.new.token.me (c.own_in_hand-tag.ensures.called))
+give-requires-clause-of g c = let s = c.args.self.now in let t = c.args.line.now.terms in let of = s.of ∙ ap (λ x. Some x) c.requires.of.1 in let taken = was_taken _ _ c.take.result c.take.ensures.taken (search rules) in (search rules, still_of g.K.Keeps.fits t s.node s.token.me c.take.new.token.me of s.seen.0 taken (Own (Some c.own_in_hand-standing.result.0)) c.own_in_hand-standing.new.token.me (c.own_in_hand-standing.ensures.called))
 
 pub give-requires-clause-held : goal.give-requires-clause-held
-give-requires-clause-held g c = let s = c.args.self.now in let t = c.args.line.now.terms in let of = s.of ∙ ap (λ x. Some x) c.requires.of.1 in let taken = was_taken _ _ c.take.result c.take.ensures.taken (search rules) in still_holds g.K.Keeps.fits t s.node s.token.me c.take.new.token.me of s.seen.0 taken (Own (Some c.own_in_hand-tag.result.0)) c.own_in_hand-tag.new.token.me (c.own_in_hand-tag.ensures.called)
+give-requires-clause-held g c = let s = c.args.self.now in let t = c.args.line.now.terms in let of = s.of ∙ ap (λ x. Some x) c.requires.of.1 in let taken = was_taken _ _ c.take.result c.take.ensures.taken (search rules) in still_holds g.K.Keeps.fits t s.node s.token.me c.take.new.token.me of s.seen.0 taken (Own (Some c.own_in_hand-standing.result.0)) c.own_in_hand-standing.new.token.me (c.own_in_hand-standing.ensures.called)
 
 pub give-requires-clause-hand : goal.give-requires-clause-hand
-give-requires-clause-hand g c = let s = c.args.self.now in let t = c.args.line.now.terms in let of = s.of ∙ ap (λ x. Some x) c.requires.of.1 in let taken = was_taken _ _ c.take.result c.take.ensures.taken (search rules) in to_give g.K.Keeps.fits t s.node s.token.me c.take.new.token.me of s.seen.0 taken (Own (Some c.own_in_hand-tag.result.0)) c.own_in_hand-tag.new.token.me (c.own_in_hand-tag.ensures.called)
+give-requires-clause-hand g c = let s = c.args.self.now in let t = c.args.line.now.terms in let of = s.of ∙ ap (λ x. Some x) c.requires.of.1 in let taken = was_taken _ _ c.take.result c.take.ensures.taken (search rules) in to_give g.K.Keeps.fits t s.node s.token.me c.take.new.token.me of s.seen.0 taken (Own (Some c.own_in_hand-standing.result.0)) c.own_in_hand-standing.new.token.me (c.own_in_hand-standing.ensures.called)
 
 pub invariant_of-self-2 : goal.invariant_of-self-2
-invariant_of-self-2 g c = let s = c.args.self.now in let t = c.args.line.now.terms in let of = s.of ∙ ap (λ x. Some x) c.requires.of.1 in let taken = was_taken _ _ c.take.result c.take.ensures.taken (search rules) in let q = sits g.K.Keeps.fits t s.node s.token.me c.take.new.token.me of s.seen.0 taken (Own (Some c.own_in_hand-tag.result.0)) c.own_in_hand-tag.new.token.me (c.own_in_hand-tag.ensures.called) c.give.new.token.me c.give.ensures.given in record { of = q.0 ∙ ap (λ x. Some x) (sym c.own_in_hand-tag.ensures.terms); seen = (q.1, reads g.K.Keeps.fits t s.node s.token.me c.take.new.token.me of s.seen.0 taken (Own (Some c.own_in_hand-tag.result.0)) c.own_in_hand-tag.new.token.me (c.own_in_hand-tag.ensures.called) c.give.new.token.me c.give.ensures.given c.own_in_hand-tag.result.1.pending c.own_in_hand-tag.ensures.pending, q.2 ∙ s.seen.2 ∙ ap (λ (x : Terms g.row.K.Denot). x.nodes) (c.requires.of.1 ∙ sym c.own_in_hand-tag.ensures.terms), q.3); hand = q.4; below = subst (λ (x : Terms g.row.K.Denot). s.node < x.nodes) (c.requires.of.1 ∙ sym c.own_in_hand-tag.ensures.terms) s.below }
+invariant_of-self-2 g c = let s = c.args.self.now in let t = c.args.line.now.terms in let of = s.of ∙ ap (λ x. Some x) c.requires.of.1 in let taken = was_taken _ _ c.take.result c.take.ensures.taken (search rules) in let q = sits g.K.Keeps.fits t s.node s.token.me c.take.new.token.me of s.seen.0 taken (Own (Some c.own_in_hand-standing.result.0)) c.own_in_hand-standing.new.token.me (c.own_in_hand-standing.ensures.called) c.give.new.token.me c.give.ensures.given in record { of = q.0 ∙ ap (λ x. Some x) (sym c.own_in_hand-standing.ensures.terms); seen = (q.1, reads g.K.Keeps.fits t s.node s.token.me c.take.new.token.me of s.seen.0 taken (Own (Some c.own_in_hand-standing.result.0)) c.own_in_hand-standing.new.token.me (c.own_in_hand-standing.ensures.called) c.give.new.token.me c.give.ensures.given c.own_in_hand-standing.result.1.pending c.own_in_hand-standing.ensures.pending, q.2 ∙ s.seen.2 ∙ ap (λ (x : Terms g.row.K.Denot). x.nodes) (c.requires.of.1 ∙ sym c.own_in_hand-standing.ensures.terms), q.3); hand = q.4; below = subst (λ (x : Terms g.row.K.Denot). s.node < x.nodes) (c.requires.of.1 ∙ sym c.own_in_hand-standing.ensures.terms) s.below }
 
 pub returns : goal.returns
 returns g c = let s = c.args.self.now in let t = c.args.line.now.terms in let of = s.of ∙ ap (λ x. Some x) c.requires.of.1 in let taken = was_taken _ _ c.take.result c.take.ensures.taken (search rules) in record {
   made = record {
-    same = (search rules, search rules, refl, c.own_in_hand-tag.ensures.terms ∙ sym c.requires.of.1);
-    came = region g.K.Keeps.fits s.standing.terms s.node s.token.me c.take.new.token.me s.of s.seen.0 taken (Own (Some c.own_in_hand-tag.result.0)) c.own_in_hand-tag.new.token.me (c.own_in_hand-tag.ensures.called) c.give.new.token.me c.give.ensures.given;
-    owes = owing g.K.Keeps.fits s.standing.terms s.node s.token.me c.take.new.token.me s.of s.seen.0 taken (Own (Some c.own_in_hand-tag.result.0)) c.own_in_hand-tag.new.token.me (c.own_in_hand-tag.ensures.called) c.give.new.token.me c.give.ensures.given s.standing.pending c.own_in_hand-tag.result.1.pending (reads g.K.Keeps.fits t s.node s.token.me c.take.new.token.me of s.seen.0 taken (Own (Some c.own_in_hand-tag.result.0)) c.own_in_hand-tag.new.token.me (c.own_in_hand-tag.ensures.called) c.give.new.token.me c.give.ensures.given c.own_in_hand-tag.result.1.pending c.own_in_hand-tag.ensures.pending) s.seen.1;
+    same = (search rules, search rules, refl, c.own_in_hand-standing.ensures.terms ∙ sym c.requires.of.1);
+    came = region g.K.Keeps.fits s.standing.terms s.node s.token.me c.take.new.token.me s.of s.seen.0 taken (Own (Some c.own_in_hand-standing.result.0)) c.own_in_hand-standing.new.token.me (c.own_in_hand-standing.ensures.called) c.give.new.token.me c.give.ensures.given;
+    owes = owing g.K.Keeps.fits s.standing.terms s.node s.token.me c.take.new.token.me s.of s.seen.0 taken (Own (Some c.own_in_hand-standing.result.0)) c.own_in_hand-standing.new.token.me (c.own_in_hand-standing.ensures.called) c.give.new.token.me c.give.ensures.given s.standing.pending c.own_in_hand-standing.result.1.pending (reads g.K.Keeps.fits t s.node s.token.me c.take.new.token.me of s.seen.0 taken (Own (Some c.own_in_hand-standing.result.0)) c.own_in_hand-standing.new.token.me (c.own_in_hand-standing.ensures.called) c.give.new.token.me c.give.ensures.given c.own_in_hand-standing.result.1.pending c.own_in_hand-standing.ensures.pending) s.seen.1;
   };
 }
 
 pub invariant_of-self : goal.invariant_of-self
-invariant_of-self g c = let s = c.args.self.now in let h = was_missed _ _ c.take.result c.take.ensures.taken (search rules) in record { of = ap (λ v. v.of) h.0 ∙ s.of; seen = (ap (λ v. v.node) h.0 ∙ s.seen.0, ap (λ v. v.pending) h.0 ∙ s.seen.1, ap (λ v. v.joined) h.0 ∙ s.seen.2, ap (λ v. v.holds) h.0 ∙ s.seen.3); hand = h.1; below = s.below }
+invariant_of-self g c = let s = c.args.self.now in let h = was_missed _ _ c.take.result c.take.ensures.taken (search rules) in record { of = ap (λ v. v.of) h.1 ∙ s.of; seen = (ap (λ v. v.node) h.1 ∙ s.seen.0, ap (λ v. v.pending) h.1 ∙ s.seen.1, ap (λ v. v.joined) h.1 ∙ s.seen.2, ap (λ v. v.holds) h.1 ∙ s.seen.3); hand = h.2; below = s.below }
 
 pub returns-then-not-take : goal.returns-then-not-take
-returns-then-not-take g c = let s = c.args.self.now in let h = was_missed _ _ c.take.result c.take.ensures.taken (search rules) in record { made = record { same = (search rules, search rules, refl, refl); came = (h.0, h.2 s.standing.terms s.of); owes = (refl, tt) } }
+returns-then-not-take g c = let s = c.args.self.now in let h = was_missed _ _ c.take.result c.take.ensures.taken (search rules) in record { made = record { same = (search rules, search rules, refl, refl); came = (h.0, h.1, h.3 s.standing.terms s.of); owes = (refl, tt) } }

@@ -19,26 +19,26 @@ loop-step-init g c =
       written = ([], prints_none g.D.Desk.is_open g.D.Desk.does no_words c.args.desk.now, Appends-nil _);
     }
 
-pub returns-in_err-text-clause-err : goal.returns-in_err-text-clause-err
-returns-in_err-text-clause-err g c =
+pub returns-in_err-perform-clause-err : goal.returns-in_err-perform-clause-err
+returns-in_err-perform-clause-err g c =
     let p = err_from_is_err_and c.from_residual.result c.from_residual.ensures.1 in
     let (written, so_far, appended) = c.loop-step.invariant.written in
     let at = step_is c.deref-step-items.result.now c.args.self.now.steps.items c.loop-step.step-index c.step-item.result c.deref-step-items.ensures.value c.loop-step-test.true c.step-item.is in
     rw (p.1, p.2) (
       written,
       stops_here g.D.Desk.is_open g.D.Desk.does c.args.self.now.size.nodes c.args.desk.now c.loop-step.desk c.perform.new.desk c.args.self.now.steps.items c.loop-step.step-index c.step-item.result
-          written c.in_err-text.field-0.0 so_far at c.in_err-text.ensures.err,
+          written c.in_err-perform.field-0.0 so_far at c.in_err-perform.ensures.err,
       appended,
     )
 
 pub returns-in-Err-clause-err : goal.returns-in-Err-clause-err
 returns-in-Err-clause-err g c =
     let (written, so_far, appended) = c.loop-step.invariant.written in
-    let text = string_bytes c.in_ok-text.text in
+    let text = string_bytes c.perform.new.text in
     let n = c.in-Err.ensures.err.0 in
     let front = rw c.as_bytes.ensures.value at c.in-Err.ensures.err.2 in
     let less = rw c.as_bytes.ensures.value at c.in-Err.ensures.err.1 in
-    let printed = subst (λ (step : Step). Prints g.D.Desk.is_open g.D.Desk.does c.loop-step.words c.loop-step.desk step.command text c.perform.new.desk) c.step-item.is c.in_ok-text.ensures.ok in
+    let printed = subst (λ (step : Step). Prints g.D.Desk.is_open g.D.Desk.does c.loop-step.words c.loop-step.desk step.command text c.perform.new.desk) c.step-item.is c.in_ok-perform.ensures.ok in
     let shown = subst (λ (words : List ℕ). Prints g.D.Desk.is_open g.D.Desk.does words c.loop-step.desk (get_or c.deref-step-items.result.now c.loop-step.step-index c.step-item.result).command text c.perform.new.desk) c.loop-step.invariant.noted printed in
     let all = run_step g.D.Desk.is_open g.D.Desk.does no_words c.deref-step-items.result.now c.args.self.now.steps.items c.loop-step.step-index c.step-item.result written text c.args.desk.now c.loop-step.desk c.perform.new.desk
     c.deref-step-items.ensures.value c.loop-step-test.true so_far shown in
@@ -47,14 +47,14 @@ returns-in-Err-clause-err g c =
 pub loop-step-preserved : goal.loop-step-preserved
 loop-step-preserved g c =
     let (written, so_far, appended) = c.loop-step.invariant.written in
-    let text = string_bytes c.in_ok-text.text in
+    let text = string_bytes c.perform.new.text in
     let put = rw c.as_bytes.ensures.value at c.in-Ok.ensures.ok in
-    let printed = subst (λ (step : Step). Prints g.D.Desk.is_open g.D.Desk.does c.loop-step.words c.loop-step.desk step.command text c.perform.new.desk) c.step-item.is c.in_ok-text.ensures.ok in
+    let printed = subst (λ (step : Step). Prints g.D.Desk.is_open g.D.Desk.does c.loop-step.words c.loop-step.desk step.command text c.perform.new.desk) c.step-item.is c.in_ok-perform.ensures.ok in
     let shown = subst (λ (words : List ℕ). Prints g.D.Desk.is_open g.D.Desk.does words c.loop-step.desk (get_or c.deref-step-items.result.now c.loop-step.step-index c.step-item.result).command text c.perform.new.desk) c.loop-step.invariant.noted printed in
     let all = run_step g.D.Desk.is_open g.D.Desk.does no_words c.deref-step-items.result.now c.args.self.now.steps.items c.loop-step.step-index c.step-item.result written text c.args.desk.now c.loop-step.desk c.perform.new.desk
     c.deref-step-items.ensures.value c.loop-step-test.true so_far shown in
     record {
-      size = c.in_ok-text.ensures.size ∙ c.loop-step.invariant.size;
+      size = c.in_ok-perform.ensures.size ∙ c.loop-step.invariant.size;
       noted = c.note.ensures.words ∙ ap (λ (step : Step). words_after c.loop-step.words step.command) c.step-item.is
           ∙ ap (λ (words : List ℕ). words_after words (get_or c.deref-step-items.result.now c.loop-step.step-index c.step-item.result).command) c.loop-step.invariant.noted
           ∙ sym (words_step no_words c.deref-step-items.result.now c.args.self.now.steps.items c.loop-step.step-index c.step-item.result c.deref-step-items.ensures.value c.loop-step-test.true);

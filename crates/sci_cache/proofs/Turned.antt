@@ -1,0 +1,94 @@
+-- A turn of a node's call, by what was done on the line at work.
+use Rattle.std.proofs.Common.{◌≡◌, ◌≢◌, ℕ, Option, Some, None, IfSome, Result, Ok, List, [], ◌∷◌, refl, sym, ap, subst, ◌∙◌}
+use Rattle.sci_core.specs.declared.pending.Pending.{Pending}
+use Rattle.sci_port.specs.declared.calls.Call.{Call}
+use Rattle.sci_ops.specs.declared.goals.Goal.{Goal}
+use Rattle.sci_ops.specs.declared.answers.Answer.{Answer}
+use Rattle.sci_ops.specs.declared.answers.Turn.{Turn}
+use Rattle.sci_ops.specs.Answers.{AnswersAt, ChainTo, IsAnswer}
+use Rattle.sci_ops.specs.Operation.{Operation}
+use Rattle.sci_ops.specs.Plan.{Takes, LoadsAtMost}
+use Rattle.sci_ops.specs.Table.{turn_of}
+use Rattle.sci_cache.specs.declared.calls.OpenCall.{OpenCall}
+use Rattle.sci_cache.specs.declared.refusals.NodeRefusal.{NodeRefusal}
+use Rattle.sci_cache.specs.Nodes.{NodeState, TurnsAt, TurnsBy, line_by, op_by, shown_by, call_after, residents_after, taken_by, node_state, LeavesBy}
+use Rattle.sci_cache.specs.Residents.{without}
+
+-- what an eviction answers
+answer_out : (a : Answer) (p : Pending) (call : Call) → IsAnswer Goal.Evict a p call → a ≡ Answer.Out
+answer_out Answer.Out p call h = refl
+answer_out (Answer.Seen words stamp) p call h = absurd h
+answer_out (Answer.Wrote before stamp) p call h = absurd h
+answer_out Answer.Spent p call h = absurd h
+
+out_chain : {U : Type 0} (gives : U → Call → U → Type 0) (step : U → Pending) (a : Answer) (calls : List Call) (u v : U) → ChainTo gives (λ s call. IsAnswer Goal.Evict a (step s) call) u calls v → a ≡ Answer.Out
+out_chain gives step a [] u v h = absurd h
+out_chain gives step a (c ∷ []) u v h = answer_out a (step u) c h.1
+out_chain gives step a (c ∷ d ∷ cs) u v (mid, h, rest) = out_chain gives step a (d ∷ cs) mid v rest
+
+leaves_by : {U : Type 0} (gives : U → Call → U → Type 0) (step : U → Pending) (w : Option ℕ) (op : Operation) (me : ℕ) (u v : U) (t : Turn) → AnswersAt gives step (op_by w op) me u t v → LeavesBy w t
+leaves_by gives step None op me u v t h = tt
+leaves_by gives step (Some x) op me u v (Turn.Done a) h = let b = h refl in out_chain gives step a b.calls u v b.chain
+leaves_by gives step (Some x) op me u v Turn.Moved h = tt
+leaves_by gives step (Some x) op me u v Turn.Waiting h = tt
+
+pub no_victim : (o : Option ℕ) → ((x : ℕ) → o ≡ Some x → ⊥) → o ≡ None
+no_victim None h = refl
+no_victim (Some x) h = absurd (h x refl)
+
+-- the other lines' steps are those that they were
+pub others_by : {P : ℕ → Type 0} (call : Option OpenCall) (c : OpenCall) (w : Option ℕ) → call ≡ Some c → c.victim ≡ w → ((m : ℕ) → m ≢ line_by w c.line → P m) → IfSome call (λ (d : OpenCall). (m : ℕ) → m ≢ line_by d.victim d.line → P m)
+others_by {P} call c w is victim h =
+    subst (λ (o : Option OpenCall). IfSome o (λ (d : OpenCall). (m : ℕ) → m ≢ line_by d.victim d.line → P m)) (sym is)
+    (subst (λ (o : Option ℕ). (m : ℕ) → m ≢ line_by o c.line → P m) (sym victim) h)
+
+module _ {U : Type 0} (gives : U → ℕ → Call → U → Type 0) (step : U → ℕ → Pending) (n now : NodeState) (view : n ≡ now) (c : OpenCall) (u v : U) (t : Turn) (calls : n.call ≡ Some c) where
+  -- the operation o took the turn on the line
+  abbrev pub Worked : Operation → ℕ → ℕ → Type 0
+  Worked o me line =
+      Takes (λ a call b. gives a line call b) (turn_of o me (step u line)) u t v
+      × AnswersAt (λ a call b. gives a line call b) (λ a. step a line) o me u t v
+      × LoadsAtMost 3 (turn_of o me (step u line))
+
+  abbrev pub after_by : Option ℕ → NodeState
+  after_by w = record n { residents = residents_after c w t n.residents; call = call_after c w t }
+
+  pub turns_by : (o : Operation) (me : ℕ) (w : Option ℕ) (shown : Turn) (m : NodeState) → me ≡ now.id → c.victim ≡ w → o ≡ op_by w c.op → Worked o me (line_by w c.line) → shown ≡ shown_by w t → m ≡ after_by w → TurnsBy gives step now now.call u (Ok shown) v m
+  turns_by o me w shown m mine victim op worked shows node =
+      let with_op : Worked (op_by w c.op) me (line_by w c.line) = subst (λ (x : Operation). Worked x me (line_by w c.line)) op worked in
+      let with_me : Worked (op_by w c.op) n.id (line_by w c.line) = subst (λ (k : ℕ). Worked (op_by w c.op) k (line_by w c.line)) (mine ∙ ap (λ (k : NodeState). k.id) (sym view)) with_op in
+      let at : Worked (op_by c.victim c.op) n.id (line_by c.victim c.line) = subst (λ (x : Option ℕ). Worked (op_by x c.op) n.id (line_by x c.line)) (sym victim) with_me in
+      let turns : TurnsAt gives step n c u shown v m = record {
+        turn = t;
+        calls = at.0;
+        answers = at.1;
+        loads = at.2;
+        leaves = leaves_by (λ a call b. gives a (line_by c.victim c.line) call b) (λ a. step a (line_by c.victim c.line)) c.victim c.op n.id u v t at.1;
+        shows = shows ∙ ap (λ (x : Option ℕ). shown_by x t) (sym victim);
+        node = node ∙ ap after_by (sym victim);
+      } in
+      subst (λ (k : NodeState). TurnsBy gives step k k.call u (Ok shown) v m) view
+      (subst (λ (x : Option OpenCall). TurnsBy gives step n x u (Ok shown) v m) (sym calls) turns)
+
+-- a turn that goes on leaves the node as it is
+pub goes_on : (n : NodeState) (c : OpenCall) (w : Option ℕ) (t : Turn) → n.call ≡ Some c → ((answer : Answer) → t ≡ Turn.Done answer → ⊥) → (t ≡ shown_by w t) × (n ≡ record n { residents = residents_after c w t n.residents; call = call_after c w t })
+goes_on n c w (Turn.Done answer) is not = absurd (not answer refl)
+goes_on n c None Turn.Moved is not = (refl, ap (λ (o : Option OpenCall). record n { call = o }) is)
+goes_on n c None Turn.Waiting is not = (refl, ap (λ (o : Option OpenCall). record n { call = o }) is)
+goes_on n c (Some x) Turn.Moved is not = (refl, ap (λ (o : Option OpenCall). record n { call = o }) is)
+goes_on n c (Some x) Turn.Waiting is not = (refl, ap (λ (o : Option OpenCall). record n { call = o }) is)
+
+taken_other : (g : Goal) (line : ℕ) (xs : List ℕ) → (g ≡ Goal.Evict → ⊥) → xs ≡ taken_by g line xs
+taken_other Goal.Evict line xs h = absurd (h refl)
+taken_other Goal.Load line xs h = refl
+taken_other (Goal.Write w) line xs h = refl
+
+-- the node where a call has ended
+module _ (n : NodeState) (c : OpenCall) (answer : Answer) (g : Goal) (is : g ≡ c.op.goal) where
+  pub ends_other : (g ≡ Goal.Evict → ⊥) → node_state n.id n.lines n.capacity n.residents None ≡ record n { residents = residents_after c None (Turn.Done answer) n.residents; call = call_after c None (Turn.Done answer) }
+  ends_other h = ap (λ (xs : List ℕ). node_state n.id n.lines n.capacity xs None) (taken_other g c.line n.residents h ∙ ap (λ (k : Goal). taken_by k c.line n.residents) is)
+
+  pub ends_evict : (capacity : ℕ) (xs : List ℕ) → g ≡ Goal.Evict → capacity ≡ n.capacity → xs ≡ without c.line n.residents → node_state n.id n.lines capacity xs None ≡ record n { residents = residents_after c None (Turn.Done answer) n.residents; call = call_after c None (Turn.Done answer) }
+  ends_evict capacity xs h same taken =
+      let all : xs ≡ taken_by c.op.goal c.line n.residents = taken ∙ ap (λ (k : Goal). taken_by k c.line n.residents) (sym h ∙ is) in
+      λ i. node_state n.id n.lines (same i) (all i) None

@@ -1,0 +1,69 @@
+-- A call's turns, one after another.
+use Rattle.std.proofs.Common.{◌≡◌, ℕ, Option, Some, None, Result, Ok, Err, List, refl, sym, ap, subst, ◌∙◌}
+use Rattle.sci_core.specs.declared.pending.Pending.{Pending}
+use Rattle.sci_port.specs.declared.calls.Call.{Call}
+use Rattle.sci_ops.specs.declared.answers.Answer.{Answer}
+use Rattle.sci_ops.specs.declared.answers.Turn.{Turn}
+use Rattle.sci_ops.specs.Table.{begun}
+use Rattle.sci_cache.specs.declared.calls.OpenCall.{OpenCall}
+use Rattle.sci_cache.specs.declared.refusals.NodeRefusal.{NodeRefusal}
+use Rattle.sci_cache.specs.declared.requests.Request.{Request}
+use Rattle.sci_cache.specs.Requests.{line_of, goal_of}
+use Rattle.sci_cache.specs.Nodes.{NodeState, TurnsAt, TurnsBy, shown_by, node_after, node_with, node_ended, residents_with, victim_with, GoesOn, IsSameNode}
+
+pub still_same : {n k m : NodeState} → IsSameNode n k → IsSameNode k m → IsSameNode n m
+still_same h g = record { id = g.id ∙ h.id; lines = g.lines ∙ h.lines; capacity = g.capacity ∙ h.capacity }
+
+abbrev pub call_of : Request → Option ℕ → OpenCall
+call_of r w = record { line = line_of r; op = begun (goal_of r); victim = w }
+
+abbrev pub work_of : NodeState → Request → Option ℕ → NodeState
+work_of n r w = record n { residents = residents_with n r; call = Some (call_of r w) }
+
+-- the request is at work, with a victim still or without
+abbrev pub AtWork : NodeState → Request → NodeState → Type 0
+AtWork n r k = (w : Option ℕ) × (k ≡ work_of n r w)
+
+ended_node : (n : NodeState) (r : Request) (a : Answer) → node_after (work_of n r None) (call_of r None) (Turn.Done a) ≡ node_ended n r
+ended_node n (Request.Load line) a = refl
+ended_node n (Request.Store line word value) a = refl
+ended_node n (Request.Add line word delta) a = refl
+ended_node n (Request.WriteLine line words) a = refl
+ended_node n (Request.Evict line) a = refl
+
+moved_done : (a : Answer) → Turn.Done a ≡ Turn.Moved → ⊥
+moved_done a h = cc
+
+waiting_done : (a : Answer) → Turn.Done a ≡ Turn.Waiting → ⊥
+waiting_done a h = cc
+
+ends : (n : NodeState) (r : Request) (w : Option ℕ) (turn : Turn) (a : Answer) → Turn.Done a ≡ shown_by w turn → node_after (work_of n r w) (call_of r w) turn ≡ node_ended n r
+ends n r None (Turn.Done b) a h = ended_node n r b
+ends n r None Turn.Moved a h = absurd (moved_done a h)
+ends n r None Turn.Waiting a h = absurd (waiting_done a h)
+ends n r (Some x) (Turn.Done b) a h = absurd (moved_done a h)
+ends n r (Some x) Turn.Moved a h = absurd (moved_done a h)
+ends n r (Some x) Turn.Waiting a h = absurd (waiting_done a h)
+
+goes : (n : NodeState) (r : Request) (w : Option ℕ) (turn : Turn) → GoesOn (shown_by w turn) → AtWork n r (node_after (work_of n r w) (call_of r w) turn)
+goes n r None (Turn.Done b) h = absurd h
+goes n r None Turn.Moved h = (None, refl)
+goes n r None Turn.Waiting h = (None, refl)
+goes n r (Some x) (Turn.Done b) h = (None, refl)
+goes n r (Some x) Turn.Moved h = (Some x, refl)
+goes n r (Some x) Turn.Waiting h = (Some x, refl)
+
+module _ {U : Type 0} (gives : U → ℕ → Call → U → Type 0) (step : U → ℕ → Pending) (n : NodeState) (r : Request) (k : NodeState) (work : AtWork n r k) (u v : U) (m : NodeState) where
+  at_work : (t : Result Turn NodeRefusal) → TurnsBy gives step k k.call u t v m → TurnsBy gives step (work_of n r work.0) (Some (call_of r work.0)) u t v m
+  at_work t h = subst (λ (x : NodeState). TurnsBy gives step x x.call u t v m) work.1 h
+
+  pub turn_ends : (a : Answer) → TurnsBy gives step k k.call u (Ok (Turn.Done a)) v m → m ≡ node_ended n r
+  turn_ends a h = let t = at_work (Ok (Turn.Done a)) h in t.node ∙ ends n r work.0 t.turn a t.shows
+
+  pub turn_goes : (t : Turn) → GoesOn t → TurnsBy gives step k k.call u (Ok t) v m → AtWork n r m
+  turn_goes t on h =
+      let d = at_work (Ok t) h in
+      subst (λ (x : NodeState). AtWork n r x) (sym d.node) (goes n r work.0 d.turn (subst (λ (x : Turn). GoesOn x) d.shows on))
+
+  pub never_refuses : (e : NodeRefusal) → TurnsBy gives step k k.call u (Err e) v m → ⊥
+  never_refuses e h = at_work (Err e) h

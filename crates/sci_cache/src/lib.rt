@@ -1,0 +1,15 @@
+//! Nodes with bounded caches: which lines a node has used, and the call that it has open.
+#![tactic(auto)]
+
+mod calls;
+mod node;
+mod ports;
+mod refusals;
+mod requests;
+mod tables;
+mod waiting;
+
+pub use calls::OpenCall;
+pub use node::Node;
+pub use refusals::NodeRefusal;
+pub use requests::Request;

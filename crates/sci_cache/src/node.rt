@@ -1,0 +1,170 @@
+//! Nodes.
+ghost use Rattle.std.specs.Prelude.{◌≡◌, ◌≢◌, ◌<◌, ◌≤◌, ◌⊎◌, ◌↔◌, ℕ, Some, None, Ok, Err, length, true, is_some, [], IfOk, IfErr, IfSome, OnOk, OnErr, IsOk};
+ghost use Rattle.sci_ops.specs.Change.{StoresFitting};
+ghost use Rattle.sci_cache.specs.declared.refusals.NodeRefusal.{NodeRefusal};
+ghost use Rattle.sci_cache.specs.Requests.{line_of, is_evict};
+ghost use Rattle.sci_cache.specs.Residents.{is_resident};
+
+use crate::calls::OpenCall;
+use crate::ports::turn_at;
+use crate::refusals::NodeRefusal;
+use crate::requests::Request;
+use crate::tables::{make_recent, take_out};
+use lru::LruCache;
+use sci_ops::{Goal, Op, Turn};
+use sci_port::Bank;
+use sci_words::{LineNo, NodeId};
+use std::alloc::{AllocError, Global};
+use std::marker::Model;
+use std::num::NonZeroUsize;
+
+/// A node with a bounded cache: a table of the lines that it has used, and its open call.
+#[derive(Drop)]
+pub struct Node {
+    id: NodeId,
+    lines: u16,
+    table: LruCache<LineNo, ()>,
+    call: Option<OpenCall>,
+}
+
+impl Model for Node {
+    ghost use Rattle.std.specs.Map.{keys_of};
+    ghost use Rattle.sci_cache.specs.Nodes.{NodeState, node_state, IsSoundNode};
+
+    ghost Value = { NodeState };
+
+    ghost view = { λ n. node_state n.id n.lines n.table.cap (keys_of n.table.entries) n.call };
+
+    ghost invariant = { λ n. IsSoundNode (node_state n.id n.lines n.table.cap (keys_of n.table.entries) n.call) };
+}
+
+impl Node {
+    ghost use Rattle.sci_cache.specs.Nodes.{node_state, refusal_of, IsRefused, node_with, TurnsBy, line_by, ShowsAnswerTo, IsSameNode};
+
+    /// A node of a memory of so many lines, which names up to `capacity` of them and has used none. The refusals: 13 for a
+    /// capacity of 0 or more than 1,024, then 7.
+    pub fn new(alloc: Global, id: NodeId, lines: u16, capacity: u16) -> Result<Node, NodeRefusal>
+        ensures capacity { (result ≡ Err NodeRefusal.BadCapacity) ↔ ((capacity ≡ 0) ⊎ (1024 < capacity)) }
+        ensures refused { IfErr result (λ e. (e ≡ NodeRefusal.BadCapacity) ⊎ (e ≡ NodeRefusal.OutOfMemory)) }
+        ensures made { IfOk result (λ n. n ≡ node_state id lines capacity [] None) }
+    {
+        if capacity > 1024 {
+            return Err(NodeRefusal::BadCapacity);
+        }
+        let Some(bound) = NonZeroUsize::new(usize::from(capacity)) else {
+            return Err(NodeRefusal::BadCapacity);
+        };
+        let Ok(table) = LruCache::new(alloc, bound) else {
+            return Err(NodeRefusal::OutOfMemory);
+        };
+        Ok(Node {
+            id,
+            lines,
+            table,
+            call: None,
+        })
+    }
+
+    /// The node.
+    pub fn id(&self) -> NodeId
+        ensures { result ≡ self.now.id }
+    {
+        self.id
+    }
+
+    /// A call is open.
+    pub fn open(&self) -> bool
+        ensures { result ≡ is_some self.now.call }
+    {
+        self.call.is_some()
+    }
+
+    /// Opens a call. A request other than Evict makes its line the most recent; where it is new and the table full, the last
+    /// leaves the table and becomes the victim. The refusals: 14, 12, 10, then 7; none changes anything. An eviction, and a
+    /// line that the table names, take no memory.
+    pub fn begin(&mut self, request: Request) -> Result<(), NodeRefusal>
+        ensures refused { IfErr result (IsRefused self.old request) }
+        ensures accepted { OnOk result (refusal_of self.old request ≡ None) }
+        ensures begun { OnOk result (self.new ≡ node_with self.old request) }
+        ensures same { OnErr result (self.new ≡ self.old) }
+        ensures same_node { IsSameNode self.old self.new }
+        ensures succeeds { refusal_of self.old request ≡ None → (is_evict request ≡ true) ⊎ (is_resident (line_of request) self.old.residents ≡ true) → IsOk result }
+    {
+        if self.call.is_some() {
+            return Err(NodeRefusal::CallOpen);
+        }
+        let line = request.line();
+        if line >= self.lines {
+            return Err(NodeRefusal::BadLine);
+        }
+        let Ok(op) = request.op() else {
+            return Err(NodeRefusal::BadWord);
+        };
+        if request.is_evict() {
+            let victim = None;
+            self.call = Some(OpenCall { line, op, victim });
+            return Ok(());
+        }
+        let Ok(victim) = make_recent(&mut self.table, line) else {
+            return Err(NodeRefusal::OutOfMemory);
+        };
+        self.call = Some(OpenCall { line, op, victim });
+        Ok(())
+    }
+
+    /// One turn of the open call: of the victim's eviction, as long as there is one, whose end is Moved, and then of the
+    /// request's operation. At the end of an eviction its line leaves the table. Refusal 15 where no call is open, and only
+    /// there.
+    pub fn turn<B: Bank>(&mut self, bank: &mut B) -> Result<Turn, NodeRefusal>
+        requires node { (B.way bank.old).node ≡ self.old.id }
+        requires lines { (B.way bank.old).lines ≡ self.old.lines }
+        requires fits { IfSome self.old.call (λ c. StoresFitting (B.Keep.fits (B.keep bank.old) c.line) c.op.goal) }
+        ensures turns { TurnsBy B.gives B.at_step self.old self.old.call bank.old result bank.new self.new }
+        ensures same_node { IsSameNode self.old self.new }
+        ensures content { IfSome self.old.call (λ c. IfOk result (λ turn. ShowsAnswerTo (B.Keep.fits (B.keep bank.old) c.line) c.op.goal turn)) }
+        ensures same_way { B.way bank.new ≡ B.way bank.old }
+        ensures same_nodes { (m : ℕ) → B.nodes_on bank.new m ≡ B.nodes_on bank.old m }
+        ensures same_fact { B.keep bank.new ≡ B.keep bank.old }
+        ensures others { IfSome self.old.call (λ c. (m : ℕ) → m ≢ line_by c.victim c.line → B.at_step bank.new m ≡ B.at_step bank.old m) }
+    {
+        let Some(call) = self.call else {
+            return Err(NodeRefusal::NoCall);
+        };
+        if let Some(victim) = call.victim {
+            let mut evict = Op::evict();
+            let turn = turn_at(bank, victim, &mut evict);
+            let Turn::Done(_) = turn else {
+                return Ok(turn);
+            };
+            self.call = Some(OpenCall {
+                line: call.line,
+                op: call.op,
+                victim: None,
+            });
+            return Ok(Turn::Moved);
+        }
+        let mut op = call.op;
+        let turn = turn_at(bank, call.line, &mut op);
+        let Turn::Done(_) = turn else {
+            return Ok(turn);
+        };
+        self.call = None;
+        let Goal::Evict = op.goal() else {
+            return Ok(turn);
+        };
+        take_out(&mut self.table, call.line);
+        Ok(turn)
+    }
+
+    /// The lines that the table names, most recent first, at most as many as the capacity.
+    pub fn resident(&self, alloc: Global) -> Result<Vec<LineNo>, AllocError>
+        ensures list { IfOk result (λ lines. lines.items ≡ self.now.residents) }
+        ensures few { length self.now.residents ≤ self.now.capacity }
+    {
+        let mut lines = Vec::with_capacity(alloc, self.table.len())?;
+        for (line, _) in self.table.iter() {
+            lines.push(*line)?;
+        }
+        Ok(lines)
+    }
+}

@@ -1,0 +1,28 @@
+//! A turn on one line of a bank.
+ghost use Rattle.std.specs.Prelude.{◌≡◌, ◌≢◌, ◌<◌, ℕ, None};
+ghost use Rattle.sci_ops.specs.Answers.{AnswersAt};
+ghost use Rattle.sci_ops.specs.Change.{StoresFitting};
+ghost use Rattle.sci_ops.specs.Plan.{Takes, LoadsAtMost};
+ghost use Rattle.sci_ops.specs.Table.{turn_of, after_turn};
+ghost use Rattle.sci_cache.specs.Nodes.{ShowsAnswerTo};
+
+use sci_ops::{Op, Turn};
+use sci_port::{At, Bank};
+use sci_words::LineNo;
+
+/// One turn of the operation on the line, over the bank's port to it.
+pub(crate) fn turn_at<B: Bank>(bank: &mut B, line: LineNo, op: &mut Op) -> Turn
+    requires line { line < (B.way bank.old).lines }
+    requires fits { StoresFitting (B.Keep.fits (B.keep bank.old) line) op.old.goal }
+    ensures calls { Takes (λ s call t. B.gives s line call t) (turn_of op.old (B.way bank.old).node (B.at_step bank.old line)) bank.old result bank.new }
+    ensures answers { AnswersAt (λ s call t. B.gives s line call t) (λ s. B.at_step s line) op.old (B.way bank.old).node bank.old result bank.new }
+    ensures loads { LoadsAtMost 3 (turn_of op.old (B.way bank.old).node (B.at_step bank.old line)) }
+    ensures content { op.old.answer ≡ None → ShowsAnswerTo (B.Keep.fits (B.keep bank.old) line) op.old.goal result }
+    ensures op { op.new ≡ after_turn op.old result }
+    ensures same_way { B.way bank.new ≡ B.way bank.old }
+    ensures same_nodes { (m : ℕ) → B.nodes_on bank.new m ≡ B.nodes_on bank.old m }
+    ensures same_fact { B.keep bank.new ≡ B.keep bank.old }
+    ensures others { (m : ℕ) → m ≢ line → B.at_step bank.new m ≡ B.at_step bank.old m }
+{
+    op.turn(&mut At::new(bank, line))
+}

@@ -1,0 +1,114 @@
+//! Steps and readers take no memory, as a walk by chance through all rows shows. The gate runs this test with allocation 32
+//! refused, and wants it to fail in its last line, and there alone.
+use super::{LINE, step};
+use crate::events::Event;
+use crate::keeps::AnyWords;
+use crate::lines::Line;
+use crate::outcomes::Outcome;
+use crate::whole::Whole;
+use sci_words::{NodeId, Tag};
+use std::alloc::{AllocError, Global};
+
+const NODES: u16 = 3;
+
+const EVENTS: usize = 34;
+
+const STEPS: u32 = 200_000;
+
+/// The next number by chance.
+fn next(chance: u32) -> u32 {
+    chance.wrapping_mul(1_664_525).wrapping_add(1_013_904_223)
+}
+
+/// The event of this number, of a node that has found this head and this tag. HomeWrite is none of them.
+fn event(kind: usize, head: Option<NodeId>, found: Tag) -> Event {
+    match kind {
+        0 => Event::Look,
+        1 => Event::Queue(head),
+        2 => Event::Requeue(head),
+        3 => Event::PrependValid,
+        4 => Event::ReturnMemory,
+        5 => Event::AttachFresh(found),
+        6 => Event::Settle,
+        7 => Event::Hold(found),
+        8 => Event::Unhold,
+        9 => Event::Convert(found),
+        10 => Event::FreshToGone,
+        11 => Event::Converted,
+        12 => Event::Unconverted,
+        13 => Event::BeginPurge(found),
+        14 => Event::Written(Some(LINE.words)),
+        15 => Event::PrependGone,
+        16 => Event::AttachDirty(found),
+        17 => Event::ReturnCopy,
+        18 => Event::PurgeOne(found),
+        19 => Event::Advance,
+        20 => Event::Clear,
+        21 => Event::Roll(found),
+        22 => Event::TellSuccessor(found),
+        23 => Event::TellPredecessor(found),
+        24 => Event::Adopt(found),
+        25 => Event::Rolled,
+        26 => Event::Leave(found),
+        27 => Event::Promote(found),
+        28 => Event::PassOn,
+        29 => Event::Stay,
+        30 => Event::ReEnter,
+        31 => Event::ReturnHomeFresh,
+        32 => Event::ReturnHomeDirty,
+        _ => Event::Left,
+    }
+}
+
+/// A node's tag, once all that stands was read; if there is that node.
+fn read(whole: &Whole<AnyWords>, number: u16) -> Option<Tag> {
+    let node = NodeId::new(number)?;
+    if node.get() >= whole.nodes() {
+        return None;
+    }
+    let lines: [Line; 2] = [whole.memory_line(), whole.line(node)];
+    let allowed = whole
+        .pending(node)
+        .allows(node, whole.nodes(), &Event::Settle);
+    let _ = (lines, allowed, whole.number());
+    Some(whole.tag(node))
+}
+
+/// Which of the events were done in so many steps by chance.
+fn walk(whole: &mut Whole<AnyWords>) -> Option<[bool; EVENTS]> {
+    let mut done = [false; EVENTS];
+    let mut chance = 1;
+    for _ in 0..STEPS {
+        chance = next(chance);
+        let kind = (chance >> 16) as usize % EVENTS;
+        chance = next(chance);
+        let node = (chance >> 16) as u16 % NODES;
+        chance = next(chance);
+        let other = (chance >> 16) as u16 % NODES;
+        let event = event(kind, whole.mem().forw, read(whole, other)?);
+        if let Ok(Outcome::Done(_)) = step(whole, node, event)? {
+            done[kind] = true;
+        }
+    }
+    Some(done)
+}
+
+/// Takes so many allocations, and gives them back.
+fn spend(alloc: Global, count: u16) -> Result<(), AllocError> {
+    for place in 0..count {
+        let mut kept = Vec::with_capacity(alloc, 1)?;
+        kept.push(place)?;
+    }
+    Ok(())
+}
+
+#[test]
+fn steps_take_no_memory(rt: HostRuntime) {
+    // `open` takes three.
+    assert!(rt; spend(rt.alloc(), 28).is_ok());
+    let Ok(mut whole) = Whole::open(rt.alloc(), NODES, 7, LINE, AnyWords) else {
+        panic!(rt; "`open` takes more than three allocations")
+    };
+    assert!(rt; walk(&mut whole) == Some([true; EVENTS]));
+    assert!(rt; spend(rt.alloc(), 1).is_ok(), "allocation 32 is refused");
+}

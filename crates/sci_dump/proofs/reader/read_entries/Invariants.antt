@@ -1,0 +1,16 @@
+use Rattle.std.proofs.Common.{◌≡◌, ◌-◌, ◌+◌, ◌≤◌, ◌<◌, true, All, length}
+use Rattle.sci_words.specs.Tag.{tag_well_formed}
+use Rattle.sci_dump.specs.Reading.{entries_at}
+use Rattle.sci_dump.proofs.Looping.{with_nodes}
+use Rattle.sci_dump.proofs.reader.read_entries.Given as goal
+
+-- the nodes so far and those of what is left are those of all
+abbrev pub invariant-loop-node : goal.invariant-loop-node
+invariant-loop-node l =
+    record {
+      left : with_nodes l.tags.items l.lines.items (entries_at l.line l.node (l.nodes - l.node) l.at l.rest) ≡ entries_at l.line 0 l.nodes l.number l.text;
+      well_formed : All (λ t. tag_well_formed t ≡ true) l.tags.items;
+      tags : length l.tags.items ≡ l.node;
+      lines : length l.lines.items ≡ l.node;
+      near : l.at ≤ l.number + l.node;
+    }

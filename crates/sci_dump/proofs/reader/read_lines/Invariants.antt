@@ -1,0 +1,14 @@
+use Rattle.std.proofs.Common.{◌≡◌, ◌-◌, ◌+◌, ◌*◌, ◌≤◌, ◌<◌, true, All, length}
+use Rattle.sci_dump.specs.Reading.{lines_at}
+use Rattle.sci_dump.proofs.Looping.{with_lines}
+use Rattle.sci_dump.proofs.reader.read_lines.Given as goal
+
+-- the lines so far and those of what is left are those of all
+abbrev pub invariant-loop-line : goal.invariant-loop-line
+invariant-loop-line l =
+    record {
+      left : with_lines l.lines.items (lines_at l.line (l.count - l.line) l.nodes l.number l.rest) ≡ lines_at 0 l.count l.nodes 2 l.text;
+      each : All (λ c. length c.tags ≡ l.nodes) l.lines.items;
+      count : length l.lines.items ≡ l.line;
+      near : l.number ≤ 2 + 65 * l.line;
+    }

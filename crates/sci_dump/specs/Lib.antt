@@ -1,0 +1,5 @@
+pub mod Dumps
+pub mod Refusals
+pub mod Text
+pub mod Reading
+pub mod Rules

@@ -1,0 +1,18 @@
+//! Dumps: the text of closed lines, its reader, and the check that each line is an exact sharing list.
+#![tactic(auto)]
+
+mod checking;
+mod dumps;
+mod fields;
+mod reader;
+mod refusals;
+mod rows;
+#[cfg(test)]
+mod tests;
+mod texts;
+
+pub use checking::{Rule, Verdict, check};
+pub use dumps::Dump;
+pub use reader::read_dump;
+pub use refusals::DumpRefusal;
+pub use texts::dump;

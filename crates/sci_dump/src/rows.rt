@@ -1,0 +1,99 @@
+//! The lines of text of a dump.
+
+ghost use Rattle.std.specs.Prelude.{◌≡◌, ◌≤◌, true, IfSome};
+ghost use Rattle.sci_words.specs.Mem.{mem_well_formed};
+ghost use Rattle.sci_words.specs.Tag.{is_invalid, tag_well_formed};
+ghost use Rattle.sci_dump.specs.Reading.{Reads, mem_of, tag_of, memory_at, node_at, tag_at, head_at};
+
+use crate::fields::{behind, content, count, numbered, word};
+use sci_core::Line;
+use sci_words::{Kind, Mem, Tag, read_mem, read_tag};
+
+/// The memory word with this code.
+fn mem(word: u64) -> Option<Mem>
+    ensures exact { result ≡ mem_of word }
+    ensures well_formed { IfSome result (λ m. mem_well_formed m ≡ true) }
+{
+    match read_mem(word) {
+        Ok(mem) => Some(mem),
+        Err(_) => None,
+    }
+}
+
+/// Whether a kind is Invalid.
+fn is_invalid(kind: Kind) -> bool
+    ensures { result ≡ is_invalid kind }
+{
+    matches!(kind, Kind::Invalid)
+}
+
+/// The tag with this code, if it isn't Invalid.
+#[tactic(auto, using(crate::proofs::Tags::tag_read, crate::proofs::Tags::invalid_read, crate::proofs::Tags::refused_read))]
+fn tag(word: u64) -> Option<Tag>
+    ensures exact { Reads (λ t. t) result (tag_of word) }
+    ensures well_formed { IfSome result (λ t. tag_well_formed t ≡ true) }
+{
+    match read_tag(word) {
+        Err(_) => None,
+        Ok(tag) => {
+            if is_invalid(tag.kind) {
+                None
+            } else {
+                Some(tag)
+            }
+        }
+    }
+}
+
+/// `line L`, the memory word, and memory's line.
+#[tactic(auto, unfolding(crate::specs::Reading::memory_at))]
+pub fn memory_row(number: u64, text: &[u8]) -> Option<(Mem, Line, &[u8])>
+    ensures exact { Reads (λ x. (x.0, x.1, x.2.now)) result (memory_at number text.now) }
+    ensures well_formed { IfSome result (λ x. mem_well_formed x.0 ≡ true) }
+{
+    let text = behind(b"line ", text)?;
+    let text = numbered(number, text)?;
+    let text = behind(b" ", text)?;
+    let (word, text) = word(text)?;
+    let mem = mem(word)?;
+    let (line, rest) = content(text)?;
+    Some((mem, line, rest))
+}
+
+/// What stands behind `tag L N `.
+#[tactic(auto, unfolding(crate::specs::Reading::node_at))]
+pub fn behind_node(number: u64, node: u64, text: &[u8]) -> Option<&[u8]>
+    ensures { Reads (λ t. t.now) result (node_at number node text.now) }
+{
+    let text = behind(b"tag ", text)?;
+    let text = numbered(number, text)?;
+    let text = behind(b" ", text)?;
+    let text = numbered(node, text)?;
+    behind(b" ", text)
+}
+
+/// A tag that isn't Invalid, and the node's line.
+#[tactic(auto, unfolding(crate::specs::Reading::tag_at))]
+pub fn tag_row(text: &[u8]) -> Option<(Tag, Line, &[u8])>
+    ensures exact { Reads (λ x. (x.0, x.1, x.2.now)) result (tag_at text.now) }
+    ensures well_formed { IfSome result (λ x. tag_well_formed x.0 ≡ true) }
+{
+    let (word, text) = word(text)?;
+    let tag = tag(word)?;
+    let (line, rest) = content(text)?;
+    Some((tag, line, rest))
+}
+
+/// `scidump 1 NODES LINES`.
+#[tactic(auto, unfolding(crate::specs::Reading::head_at))]
+pub fn head_row(text: &[u8]) -> Option<(u16, u16, &[u8])>
+    ensures exact { Reads (λ x. (x.0, x.1, x.2.now)) result (head_at text.now) }
+    ensures range { IfSome result (λ x. (1 ≤ x.0) × (x.0 ≤ 64) × (1 ≤ x.1) × (x.1 ≤ 1024)) }
+{
+    let text = behind(b"scidump 1 ", text)?;
+    let (nodes, text) = count(64, text)?;
+    let text = behind(b" ", text)?;
+    let (lines, text) = count(1024, text)?;
+    let rest = behind(b"\n", text)?;
+    Some((nodes as u16, lines as u16, rest))
+}

@@ -1,0 +1,227 @@
+//! Dumps that are read, checked and written again, and texts that are none.
+use super::*;
+use std::alloc::{AllocError, Global};
+use std::test::Fail;
+
+/// The dump of one line that nodes 0, 1 and 2 have loaded, in this order.
+const SHARED: &str = "scidump 1 3 1\n\
+    line 0 0000000000000201 0 0 0 0 0 0 0 0 0\n\
+    tag 0 0 000000000001ff07 0 0 0 0 0 0 0 0 0\n\
+    tag 0 1 0000000000020007 0 0 0 0 0 0 0 0 0\n\
+    tag 0 2 0000000000ff0102 0 0 0 0 0 0 0 0 0\n\
+    end\n";
+
+/// SHARED with one change, and its verdict.
+const CHANGED: [(&str, &str, Verdict); 8] = [
+    ("scidump 1 3 1", "scidump 1 3 1", Verdict::Lawful),
+    (
+        "tag 0 2 0000000000ff0102",
+        "tag 0 2 0000000000ff0112",
+        Verdict::Unlawful {
+            line: 0,
+            rule: Rule::Settled,
+        },
+    ),
+    (
+        "tag 0 0 000000000001ff07",
+        "tag 0 0 0000000000010107",
+        Verdict::Unlawful {
+            line: 0,
+            rule: Rule::Ending,
+        },
+    ),
+    (
+        "line 0 0000000000000201",
+        "line 0 000000000000ff00",
+        Verdict::Unlawful {
+            line: 0,
+            rule: Rule::Listed,
+        },
+    ),
+    (
+        "tag 0 1 0000000000020007",
+        "tag 0 1 0000000000ff0003",
+        Verdict::Unlawful {
+            line: 0,
+            rule: Rule::Linked,
+        },
+    ),
+    (
+        "line 0 0000000000000201",
+        "line 0 0000000000000202",
+        Verdict::Unlawful {
+            line: 0,
+            rule: Rule::Suited,
+        },
+    ),
+    (
+        "tag 0 0 000000000001ff07 0",
+        "tag 0 0 000000000001ff07 1",
+        Verdict::Unlawful {
+            line: 0,
+            rule: Rule::Equal,
+        },
+    ),
+    (
+        "line 0 0000000000000201 0 0",
+        "line 0 0000000000000201 0 1",
+        Verdict::Unlawful {
+            line: 0,
+            rule: Rule::Equal,
+        },
+    ),
+];
+
+// The text of a dump.
+fn text_of(alloc: Global, lines: &Dump) -> Result<String, AllocError> {
+    dump(alloc, &lines.lines)
+}
+
+// The line of the fault that a text has. None: it has none, or there was no memory.
+fn fault_of(alloc: Global, text: &[u8]) -> Option<u64> {
+    match read_dump(alloc, text) {
+        Err(DumpRefusal::DumpFault(line)) => Some(line),
+        _ => None,
+    }
+}
+
+// The line of text behind a byte of this line.
+fn line_behind(line: u64, byte: u8) -> u64 {
+    if byte == b'\n' {
+        line.saturating_add(1)
+    } else {
+        line
+    }
+}
+
+#[test]
+fn verdicts(rt: HostRuntime) -> Result<(), Fail> {
+    for (old, new, verdict) in &CHANGED {
+        let text = SHARED.replacen(rt.alloc(), old, new, 1)?;
+        let read = read_dump(rt.alloc(), text.as_bytes())?;
+        assert_eq!(rt; check(&read), *verdict, "with {new}");
+        assert_eq!(rt; text_of(rt.alloc(), &read)?, text);
+    }
+    Ok(())
+}
+
+/// Two lines of two nodes: the first is unused, the second is node 1's alone, dirty.
+const TWO_LINES: &str = "scidump 1 2 2\n\
+    line 0 000000000000ff00 0 0 0 0 0 0 0 0 0\n\
+    line 1 0000000000000102 0 0 0 0 0 0 0 0 0\n\
+    tag 1 1 0000000000ffff03 1 18446744073709551615 0 0 0 0 0 0 0\n\
+    end\n";
+
+#[test]
+fn the_first_line_that_breaks_a_rule(rt: HostRuntime) -> Result<(), Fail> {
+    let read = read_dump(rt.alloc(), TWO_LINES.as_bytes())?;
+    assert_eq!(rt; check(&read), Verdict::Lawful);
+    assert_eq!(rt; read.nodes, 2);
+    assert!(rt; text_of(rt.alloc(), &read)?.as_str() == TWO_LINES);
+    let (old, new) = ("0000000000000102", "000000000000ff02");
+    let text = TWO_LINES.replacen(rt.alloc(), old, new, 1)?;
+    assert_eq!(rt; fault_of(rt.alloc(), text.as_bytes()), Some(3));
+    let text = TWO_LINES.replacen(rt.alloc(), old, "0000000000000101", 1)?;
+    let read = read_dump(rt.alloc(), text.as_bytes())?;
+    let unlawful = Verdict::Unlawful {
+        line: 1,
+        rule: Rule::Suited,
+    };
+    assert_eq!(rt; check(&read), unlawful);
+    Ok(())
+}
+
+/// A dump without its last bytes is refused at the line that is cut or missing.
+#[test]
+fn cut_at_each_byte(rt: HostRuntime) -> Result<(), Fail> {
+    let mut line = 1;
+    let mut cut = Vec::new(rt.alloc());
+    for byte in SHARED.as_bytes() {
+        assert_eq!(rt; fault_of(rt.alloc(), &cut), Some(line), "behind {line}");
+        cut.push(*byte)?;
+        line = line_behind(line, *byte);
+    }
+    assert!(rt; read_dump(rt.alloc(), &cut).is_ok());
+    Ok(())
+}
+
+/// Texts that are no dumps, and the line of the first fault.
+const FAULTS: [(&str, &str, u64); 16] = [
+    ("scidump 1 3 1", "scidump 2 3 1", 1),
+    ("scidump 1 3 1", "scidump 1 65 1", 1),
+    ("scidump 1 3 1", "scidump 1 0 1", 1),
+    ("scidump 1 3 1", "scidump 1 3 1025", 1),
+    ("scidump 1 3 1", "scidump 1 03 1", 1),
+    ("scidump 1 3 1\n", "scidump 1 3 1\r\n", 1),
+    ("scidump 1 3 1", "scidump 1 2 1", 5),
+    ("scidump 1 3 1", "scidump 1 3 2", 6),
+    ("line 0 ", "line 1 ", 2),
+    ("line 0 ", "line  0 ", 2),
+    ("0000000000000201 0", "0000000000000201 00", 2),
+    ("000000000001ff07", "000000000001FF07", 3),
+    ("tag 0 1 ", "tag 0 0 ", 4),
+    ("tag 0 2 0000000000ff0102", "tag 0 2 0000000000ffff00", 5),
+    (
+        "0000000000020007 0",
+        "0000000000020007 18446744073709551616",
+        4,
+    ),
+    ("end\n", "end\n\n", 7),
+];
+
+#[test]
+fn faults(rt: HostRuntime) -> Result<(), Fail> {
+    for (old, new, line) in &FAULTS {
+        let text = SHARED.replacen(rt.alloc(), old, new, 1)?;
+        let fault = fault_of(rt.alloc(), text.as_bytes());
+        assert_eq!(rt; fault, Some(*line), "with {new}");
+    }
+    Ok(())
+}
+
+/// A dump with one byte changed is refused at that byte's line or at a later one, or it is the dump of other lines.
+#[test]
+fn changed_in_each_byte(rt: HostRuntime) -> Result<(), Fail> {
+    let mut line = 1;
+    for (place, old) in SHARED.as_bytes().iter().enumerate() {
+        for byte in b"\n\r 019afgx-" {
+            let mut text = Vec::from_slice(rt.alloc(), SHARED.as_bytes())?;
+            if let Some(changed) = text.get_mut(place) {
+                *changed = *byte;
+            }
+            match read_dump(rt.alloc(), &text) {
+                Ok(read) => {
+                    let again = text_of(rt.alloc(), &read)?;
+                    assert!(rt; again.as_bytes() == text.as_slice(), "byte {place}");
+                }
+                Err(refusal) => {
+                    assert!(rt;
+                        matches!(refusal, DumpRefusal::DumpFault(at) if line <= at && at <= 6),
+                        "byte {place}"
+                    );
+                }
+            }
+        }
+        line = line_behind(line, *old);
+    }
+    Ok(())
+}
+
+#[test]
+fn numbers_of_refusals(rt: HostRuntime) {
+    assert_eq!(rt; DumpRefusal::OutOfMemory.number(), 7);
+    assert_eq!(rt; DumpRefusal::DumpFault(1).number(), 21);
+}
+
+// A growth may be refused: the answer is then 7 or an `AllocError`. With ample memory it is the dump.
+#[test]
+fn growths_refused_in_turn(rt: HostRuntime) {
+    match read_dump(rt.alloc(), SHARED.as_bytes()) {
+        Ok(read) => {
+            if let Ok(text) = text_of(rt.alloc(), &read) {
+                assert!(rt; text.as_str() == SHARED);
+            }
+        }
+        Err(refusal) => assert_eq!(rt; refusal.number(), 7),
+    }
+}

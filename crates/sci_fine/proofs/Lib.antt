@@ -1,0 +1,15 @@
+pub mod Elements
+pub mod Forms
+pub mod Tables
+pub mod Giving
+pub mod Moves
+pub mod Carried
+pub mod Coming
+pub mod Asking
+pub mod Landing
+pub mod Reading
+pub mod Seating
+pub mod Ordered
+pub mod Ending
+pub mod Staying
+pub mod Telling

@@ -1,0 +1,40 @@
+use Rattle.std.proofs.Common.{◌<◌, Some, length, arith, ◌∙◌, ap}
+use Rattle.sci_fine.proofs.Seating.{joins_as}
+use Rattle.sci_fine.proofs.Ordered.{first_of, others_of, last_of, empty_hand, no_logs, logs_first, logs_last}
+use Rattle.sci_fine.proofs.line.FineLine.join_all.Goals as goal
+
+pub loop-seat-init : goal.loop-seat-init
+loop-seat-init g c =
+    let sized = c.args.self.now.sized in let r = c.remove-root in let s = r.result in
+    let some_seat : 0 < length c.args.seats.items = omega (arith, c.args.seats.ok) in
+    let f = first_of c.args.self.now c.args.seats.items s c.requires.seats some_seat r.ensures.value in
+    record {
+      of = f.0.0;
+      live = s.of ∙ ap (λ x. Some x) f.0.1;
+      first = s.seen.0 ∙ f.1;
+      joined = s.seen.2 ∙ (ap (λ x. x.nodes) f.0.1 ∙ (omega arith));
+      idle = s.seen.1 ∙ f.2;
+      seats = others_of c.args.self.now c.args.seats.items r.new.self.items c.requires.seats r.ensures.items;
+      logs = logs_first s c.args.seats.items r.new.self.items s.token.me.0.logs some_seat r.ensures.value r.ensures.items (no_logs s);
+    }
+
+pub join_seat-requires : goal.join_seat-requires
+join_seat-requires g c =
+    let i = c.loop-seat.invariant in let sized = c.args.self.now.sized in let s = c.in-Some.seat in
+    let l = last_of c.args.self.now 1 c.loop-seat.seats.items c.pop.new.self.items s i.seats c.in-Some.ensures.items in let node = l.0.1 in let seen = s.seen.0 in
+    (i.of, l.0.0.0, empty_hand s l.0.2, omega arith, joins_as g.K.Keeps.fits c.args.self.now.terms c.args.self.now.table.shared.key _ _ _ _ sized.0 i.live (s.of ∙ ap (λ x. Some x) l.0.0.1) (omega (arith, c.pop.new.self.ok, c.in-Some.ensures.len, i.joined)) (s.seen.1 ∙ l.0.2))
+
+pub loop-seat-preserved : goal.loop-seat-preserved
+loop-seat-preserved g c =
+    let i = c.loop-seat.invariant in let s = c.in-Some.seat in let j = c.join_seat.ensures in
+    let l = last_of c.args.self.now 1 c.loop-seat.seats.items c.pop.new.self.items s i.seats c.in-Some.ensures.items in let node = l.0.1 in let seen = s.seen.0 in
+    let me = ap (λ m. m.0) j.2 in
+    record {
+      of = j.0 ∙ i.of;
+      live = ap (λ v. v.of) me ∙ i.live;
+      first = ap (λ v. v.node) me ∙ i.first;
+      joined = ap (λ v. v.joined) me ∙ (omega (arith, c.pop.new.self.ok));
+      idle = ap (λ v. v.pending) me ∙ i.idle;
+      seats = l.1;
+      logs = logs_last c.loop-seat.seats.items c.pop.new.self.items s c.loop-seat.root.me.0 c.join_seat.new.seat.me.0 me c.in-Some.ensures.items ∙ i.logs;
+    }

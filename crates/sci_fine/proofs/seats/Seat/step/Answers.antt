@@ -1,0 +1,9 @@
+use Rattle.std.proofs.Common.{None, sym, subst}
+use Rattle.sci_core.specs.declared.events.Event.{Event}
+use Rattle.sci_core.specs.declared.outcomes.Outcome.{Outcome}
+use Rattle.sci_port.specs.declared.calls.Call.TheVariants.{Stepped}
+use Rattle.sci_fine.specs.Seats.{HasMade}
+use Rattle.sci_fine.proofs.seats.Seat.step.Goals as goal
+
+pub returns-in-Look : goal.returns-in-Look
+returns-in-Look g c = record { made = subst (λ (e : Event). HasMade g.K.Keeps.fits c.args.self.now (Stepped e (Outcome.Done None)) c.look.new.self) (sym c.in-Look.is) c.look.ensures.made }

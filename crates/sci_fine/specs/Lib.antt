@@ -1,0 +1,9 @@
+pub mod Rule
+pub mod Views
+pub mod Standings
+pub mod Steps
+pub mod Calls
+pub mod Seats
+pub mod Ports
+pub mod Ends
+pub mod Laws

@@ -1,0 +1,62 @@
+-- What clauses say of a line and its seats. This project's profile.
+use Rattle.std.specs.Prelude.{◌≡◌, ◌⊎◌, ℕ, ◌+◌, List, length, map}
+use mathlib.Core.Option.{some}
+use lib.ListN.{get_elem?}
+use Rattle.sci_core.specs.declared.keeps.Keeps as keeps
+use Rattle.sci_core.specs.declared.lines.Line.{Line}
+use Rattle.sci_core.specs.declared.pending.Pending.{Pending}
+use Rattle.sci_port.specs.declared.calls.Call.{Call}
+use Rattle.sci_port.specs.Owes.{Owes}
+use Rattle.sci_fine.specs.Calls.{IsStep}
+use Rattle.sci_fine.specs.Views.{HasMadeNone}
+use Rattle.sci_fine.specs.declared.line.FineLine.{FineLine}
+use Rattle.sci_fine.specs.declared.seats.Seat.{Seat}
+
+-- the seat is one of this very line
+abbrev pub IsSeatOf : {K : Type 0} {g : keeps.Ghosts K} → FineLine K → Seat K g → Type 0
+IsSeatOf l s = (s.token.table_id ≡ l.table.shared.table_id) × (s.standing.terms ≡ l.terms)
+
+-- the same seat, after steps
+abbrev pub IsSameSeat : {K : Type 0} {g : keeps.Ghosts K} → Seat K g → Seat K g → Type 0
+IsSameSeat s t = (t.token.table_id ≡ s.token.table_id) × (t.token.id ≡ s.token.id) × (t.standing.node ≡ s.standing.node) × (t.standing.terms ≡ s.standing.terms)
+
+-- the seat at k is that of the node k + from on this line, and Idle
+abbrev pub AreIdleFrom : {K : Type 0} {g : keeps.Ghosts K} → FineLine K → ℕ → List (Seat K g) → Type 0
+AreIdleFrom {K} {g} l from seats = (k : ℕ) (s : Seat K g) → get_elem? seats k ≡ some s → IsSeatOf l s × (s.standing.node ≡ k + from) × (s.standing.pending ≡ Pending.Idle)
+
+-- the seat made this call, in one step, with what every port owes of it
+pub record HasMade {K : Type 0} {g : keeps.Ghosts K} (fits : K → ℕ → List ℕ → Type 0) (s : Seat K g) (call : Call) (t : Seat K g) : Type 0 where
+  pub same : IsSameSeat s t
+  pub came : IsStep fits s.standing.terms s.token.me.0 call t.token.me.0
+  pub owes : Owes s.standing.terms.nodes (fits s.standing.terms.keep s.standing.terms.number) s.standing.node s.standing.pending call t.standing.pending
+
+-- what each seat has done, in the order of the seats
+abbrev pub logs_of : {K : Type 0} {g : keeps.Ghosts K} → List (Seat K g) → List (List (ℕ × Call))
+logs_of {K} {g} seats = map (λ (s : Seat K g). s.token.me.0.log) seats
+
+-- no seat has made a call
+abbrev pub AreNew : {K : Type 0} {g : keeps.Ghosts K} → List (Seat K g) → Type 0
+AreNew {K} {g} seats = (k : ℕ) (s : Seat K g) → get_elem? seats k ≡ some s → HasMadeNone s.token.me.0
+
+-- the line has n nodes, this number, this opening, and this fact
+pub record HasTerms {K : Type 0} (l : FineLine K) (n m : ℕ) (line : Line) (k : K) : Type 0 where
+  pub nodes : l.terms.nodes ≡ n
+  pub number : l.terms.number ≡ m
+  pub opening : l.terms.opening ≡ line
+  pub keep : l.terms.keep ≡ k
+
+-- each seat is one of this very line, and Idle
+abbrev pub AreIdle : {K : Type 0} {g : keeps.Ghosts K} → FineLine K → List (Seat K g) → Type 0
+AreIdle {K} {g} l seats = (k : ℕ) (s : Seat K g) → get_elem? seats k ≡ some s → IsSeatOf l s × (s.standing.pending ≡ Pending.Idle)
+
+-- the seat is that of the node k, at a line of this number
+abbrev pub SitsAt : {K : Type 0} {g : keeps.Ghosts K} → ℕ → ℕ → Seat K g → Type 0
+SitsAt number k s = (s.standing.node ≡ k) × (s.standing.terms.number ≡ number)
+
+-- one seat per node, in order, with the line's number
+abbrev pub IsOnePerNode : {K : Type 0} {g : keeps.Ghosts K} → FineLine K → List (Seat K g) → Type 0
+IsOnePerNode {K} {g} l seats = (length seats ≡ l.terms.nodes) × ((k : ℕ) (s : Seat K g) → get_elem? seats k ≡ some s → SitsAt l.terms.number k s)
+
+-- 9 where the list is not one seat per node in order, else 7
+abbrev pub IsRightRefusal : {K : Type 0} {g : keeps.Ghosts K} → FineLine K → List (Seat K g) → ℕ → Type 0
+IsRightRefusal l seats refusal = ((refusal ≡ 9) × (IsOnePerNode l seats → ⊥)) ⊎ ((refusal ≡ 7) × IsOnePerNode l seats)

@@ -1,0 +1,149 @@
+//! How a line is closed, and its seats with it.
+ghost use Rattle.std.specs.Prelude.{◌≡◌, ℕ, ◌↔◌, ◌+◌, ◌<◌, ◌≤◌, Some, List, ◌∷◌, length, IsTrue, IfOk, IfErr, vec_len, vec_capacity};
+ghost use Rattle.sci_port.specs.declared.calls.Call as a_call;
+ghost use Rattle.std.specs.Slots.{slots_items, slots_len, IsFull};
+ghost use Rattle.sci_core.specs.declared.pending.Pending.TheVariants.{Idle};
+ghost use Rattle.sci_fine.specs.Seats.{AreIdle, AreIdleFrom, IsOnePerNode, IsRightRefusal, SitsAt, logs_of};
+ghost use Rattle.sci_fine.specs.Rule.{lies_at};
+ghost use Rattle.sci_fine.specs.Ends.{IsEnd, IsAtRest};
+
+use crate::codes::lies_at;
+use crate::line::FineLine;
+use crate::seats::{Seat, Token};
+use crate::views::{Terms, Together};
+use sci_core::{Closed, Keeps, Line};
+use sci_words::{LineNo, Tag, read_mem, read_tag};
+use std::alloc::Global;
+
+/// A line that was not closed. The line and the seats come back as they were.
+#[derive(Drop)]
+pub struct FinishRefusal<K: Keeps> {
+    pub line: FineLine<K>,
+    pub seats: Vec<Seat<K>>,
+    /// 9: the seats are not one per node in order. 7: memory ran out.
+    pub refusal: u8,
+}
+
+// The seat is that of the node of this number, at a line of this number.
+fn sits_at<K: Keeps>(seat: &Seat<K>, place: usize, number: LineNo) -> bool
+    ensures { IsTrue result ↔ SitsAt number place seat.now }
+{
+    usize::from(seat.node().get()) == place && seat.number() == number
+}
+
+// Reads the words and takes the lines of a table that nobody shares any more.
+fn read_out<K: Keeps>(
+    mut table: atomic_table::Closed<Line, Global>,
+    terms: Terms<K>,
+    mut tags: Vec<Tag>,
+    mut lines: Vec<Line>,
+) -> Closed
+    requires nodes { terms.nodes ≤ 64 }
+    requires counts { (slots_len table.words ≡ lies_at (terms.nodes + 1)) × (slots_len table.slots ≡ terms.nodes + 1) }
+    requires full { IsFull table.words × IsFull table.slots }
+    requires rest { (logs : List (List (ℕ × a_call.Call))) × IsAtRest K.fits terms logs (slots_items table.words) (slots_items table.slots) }
+    requires room { (vec_len tags ≡ 0) × (vec_len lines ≡ 0) × (terms.nodes ≤ vec_capacity tags) × (terms.nodes ≤ vec_capacity lines) }
+    ensures { (logs : List (List (ℕ × a_call.Call))) → IsAtRest K.fits terms logs (slots_items table.words) (slots_items table.slots) → IsEnd K.fits terms logs result }
+{
+    let mem = match read_mem(table.word(0)) {
+        Ok(mem) => mem,
+        Err(_) => unreachable!(),
+    };
+    let memory = table.take(0);
+    for node in 0..usize::from(terms.nodes) {
+        let tag = match read_tag(table.word(lies_at(node + 1))) {
+            Ok(tag) => tag,
+            Err(_) => unreachable!(),
+        };
+        tags.push_reserved(tag);
+        lines.push_reserved(table.take(node + 1));
+    }
+    table.free();
+    Closed {
+        mem,
+        memory,
+        tags,
+        lines,
+    }
+}
+
+impl<K: Keeps> FineLine<K> {
+    // The list has one seat per node, in order, with this line's number.
+    fn has_seats(&self, seats: &[Seat<K>]) -> bool
+        ensures { IsTrue result ↔ IsOnePerNode self.now seats.now }
+    {
+        if seats.len() != usize::from(self.terms.nodes) {
+            return false;
+        }
+        for (place, seat) in seats.iter().enumerate() {
+            if !sits_at(seat, place, self.terms.number) {
+                return false;
+            }
+        }
+        true
+    }
+
+    /// The line as it stands once nobody uses it any more: an exact sharing list. The seats are to be of this very line, and
+    /// Idle. The refusals: 9 where they are not one per node in order with this line's number, then 7 where memory ran out.
+    /// Both hand the line and the seats back.
+    pub fn finish(self, alloc: Global, seats: Vec<Seat<K>>) -> Result<Closed, FinishRefusal<K>>
+        requires { AreIdle self seats.items }
+        ensures seats { IfOk result (λ _. IsOnePerNode self seats.items) }
+        ensures ok { IfOk result (λ c. IsEnd K.fits self.terms (logs_of seats.items) c) }
+        ensures err { IfErr result (λ e. (e.line ≡ self) × (e.seats ≡ seats) × IsRightRefusal self seats.items e.refusal) }
+    {
+        if !self.has_seats(&seats) {
+            return Err(FinishRefusal {
+                line: self,
+                seats,
+                refusal: 9,
+            });
+        }
+        let count = usize::from(self.terms.nodes);
+        let (Ok(tags), Ok(lines)) = (
+            Vec::with_capacity(alloc, count),
+            Vec::with_capacity(alloc, count),
+        ) else {
+            return Err(FinishRefusal {
+                line: self,
+                seats,
+                refusal: 7,
+            });
+        };
+        let terms = self.terms;
+        let root = self.join_all(seats);
+        Ok(read_out(self.lay_open(root), terms, tags, lines))
+    }
+
+    // Joins all seats to the first.
+    fn join_all(&self, mut seats: Vec<Seat<K>>) -> Token<K>
+        requires seats { AreIdleFrom self.now 0 seats.items }
+        requires len { vec_len seats ≡ self.now.terms.nodes }
+        ensures of { (result.table_id ≡ self.now.table.shared.table_id) × (result.me.0.of ≡ Some self.now.terms) }
+        ensures view { (result.me.0.node ≡ 0) × (result.me.0.joined ≡ 1) × (result.me.0.pending ≡ Idle) }
+        ensures logs { result.me.0.log ∷ result.me.0.logs ≡ logs_of seats.items }
+    {
+        let Seat {
+            token: mut root,
+            standing: _,
+        } = seats.remove(0);
+        while let Some(seat) = seats.pop() {
+            let Seat { token, standing: _ } = seat;
+            self.table.shared.join_seat::<Together>(&mut root, token);
+        }
+        root
+    }
+
+    // The table after the last step.
+    fn lay_open(self, root: Token<K>) -> atomic_table::Closed<Line, Global>
+        requires of { (root.table_id ≡ self.table.shared.table_id) × (root.me.0.of ≡ Some self.terms) }
+        requires view { (root.me.0.node ≡ 0) × (root.me.0.joined ≡ 1) × (root.me.0.pending ≡ Idle) }
+        requires logs { length (root.me.0.log ∷ root.me.0.logs) ≡ self.terms.nodes }
+        ensures counts { (slots_len result.words ≡ lies_at (self.terms.nodes + 1)) × (slots_len result.slots ≡ self.terms.nodes + 1) }
+        ensures full { IsFull result.words × IsFull result.slots }
+        ensures rest { IsAtRest K.fits self.terms (root.me.0.log ∷ root.me.0.logs) (slots_items result.words) (slots_items result.slots) }
+    {
+        let FineLine { table, terms: _ } = self;
+        table.close_with(root)
+    }
+}

@@ -1,0 +1,23 @@
+//! A line that threads share, on separate words: one memory word, one tag word per node, and no lock. Its seats, one per
+//! node, and their ports.
+#![tactic(auto)]
+
+mod closing;
+mod codes;
+mod laws;
+mod line;
+mod moving;
+mod opening;
+mod port;
+mod seats;
+mod standing;
+mod stepping;
+#[cfg(test)]
+mod tests;
+mod views;
+
+pub use closing::FinishRefusal;
+pub use laws::law_of_one_run;
+pub use line::FineLine;
+pub use port::FinePort;
+pub use seats::Seat;

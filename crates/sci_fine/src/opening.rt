@@ -1,0 +1,112 @@
+//! How a line is made, with its seats.
+ghost use Rattle.std.specs.Prelude.{◌≡◌, ◌<◌, ◌≤◌, ◌⊎◌, ◌↔◌, ℕ, ◌+◌, Some, [], IfOk, vec_len, vec_capacity};
+ghost use Rattle.sci_core.specs.declared.pending.Pending.TheVariants.{Idle};
+ghost use Rattle.sci_fine.specs.Seats.{AreIdleFrom, AreNew, HasTerms};
+ghost use Rattle.sci_fine.specs.Views.{first_view};
+
+use crate::codes::lies_at;
+use crate::line::FineLine;
+use crate::seats::{Seat, Token};
+use crate::standing::Standing;
+use crate::views::{Apart, Terms};
+use atomic_table::Table;
+use sci_core::{Keeps, Line, OpenRefusal, Pending};
+use sci_words::{Kind, LineNo, Mem, MemState, NodeId, Tag, write_mem, write_tag};
+use std::alloc::Global;
+
+// A seat in no step.
+fn idle_seat<K: Keeps>(token: Token<K>, node: NodeId, terms: Terms<K>) -> Seat<K>
+    requires of { token.me.0.of ≡ Some terms }
+    requires view { (token.me.0.node ≡ node) × (token.me.0.pending ≡ Idle) × (token.me.0.joined ≡ terms.nodes) × (token.me.0.logs ≡ []) }
+    requires hand { token.me.1 ≡ [] }
+    requires below { node < terms.nodes }
+    requires fits { K.fits terms.keep terms.number terms.opening.words }
+    ensures token { result.token ≡ token }
+    ensures standing { (result.standing.terms ≡ terms) × (result.standing.node ≡ node) × (result.standing.pending ≡ Idle) }
+{
+    Seat {
+        token,
+        standing: Standing::new(terms, node, Pending::Idle),
+    }
+}
+
+// One of the first numbers is a node's.
+fn node_of(number: u16) -> NodeId
+    requires { number < 64 }
+    ensures { result ≡ number }
+{
+    match NodeId::new(number) {
+        Some(node) => node,
+        None => unreachable!(),
+    }
+}
+
+impl<K: Keeps> FineLine<K> {
+    /// A line that nobody has used, HOME, with `line` in every slot, and its seats, node i's at place i. The refusals: 6 for
+    /// 0 or more than 64 nodes, then 7 where memory ran out.
+    pub fn new(
+        alloc: Global,
+        nodes: u16,
+        number: LineNo,
+        line: Line,
+        keep: K,
+    ) -> Result<(FineLine<K>, Vec<Seat<K>>), OpenRefusal>
+        requires { K.fits keep number line.words }
+        ensures nodes { (result ≡ Err OpenRefusal.BadNodes) ↔ ((nodes ≡ 0) ⊎ (64 < nodes)) }
+        ensures terms { IfOk result (λ r. HasTerms r.0 nodes number line keep) }
+        ensures seats { IfOk result (λ r. (vec_len r.1 ≡ nodes) × AreIdleFrom r.0 0 r.1.items) }
+        ensures new { IfOk result (λ r. AreNew r.1.items) }
+    {
+        if nodes == 0 || nodes > 64 {
+            return Err(OpenRefusal::BadNodes);
+        }
+        let count = usize::from(nodes) + 1;
+        let invalid = Tag {
+            kind: Kind::Invalid,
+            held: false,
+            forw: None,
+            back: None,
+        };
+        let home = Mem {
+            state: MemState::Home,
+            lent: false,
+            forw: None,
+        };
+        let mut words = vec![in alloc; write_tag(invalid); lies_at(count)]?;
+        words[0] = write_mem(home);
+        let slots = vec![in alloc; line; count]?;
+        let mut seats = Vec::with_capacity(alloc, usize::from(nodes))?;
+        let terms = Terms {
+            nodes,
+            number,
+            opening: line,
+            keep,
+        };
+        let Ok((table, root)) = Table::new(alloc, words.as_slice(), slots, &terms) else {
+            return Err(OpenRefusal::OutOfMemory);
+        };
+        let line = FineLine { table, terms };
+        line.seat_all(root, &mut seats);
+        Ok((line, seats))
+    }
+
+    // Makes all seats, in room that was taken before.
+    fn seat_all(&self, mut root: Token<K>, seats: &mut Vec<Seat<K>>)
+        requires of { root.table_id ≡ self.now.table.shared.table_id }
+        requires view { root.me ≡ (first_view self.now.terms, []) }
+        requires fits { K.fits self.now.terms.keep self.now.terms.number self.now.terms.opening.words }
+        requires room { (seats.old.items ≡ []) × (vec_len seats.old ≡ 0) × (self.now.terms.nodes ≤ vec_capacity seats.old) }
+        ensures len { vec_len seats.new ≡ self.now.terms.nodes }
+        ensures seats { AreIdleFrom self.now 0 seats.new.items }
+        ensures new { AreNew seats.new.items }
+    {
+        for number in 1..self.terms.nodes {
+            let token = self.table.shared.split_seat::<Apart>(&mut root);
+            seats.push_reserved(idle_seat(token, node_of(number), self.terms));
+        }
+        let first = idle_seat(root, node_of(0), self.terms);
+        if seats.insert(0, first).is_err() {
+            unreachable!();
+        }
+    }
+}

@@ -1,0 +1,103 @@
+//! The calls of a seat, each one step on one word.
+ghost use Rattle.std.specs.Prelude.{◌≡◌, ◌<◌, Some, true};
+ghost use Rattle.sci_core.specs.Answers.{is_allowed, FitsEvent};
+ghost use Rattle.sci_core.specs.Table.{has_row};
+ghost use Rattle.sci_port.specs.declared.calls.Call.TheVariants.{Own, MemWas, TagWas, Stepped};
+ghost use Rattle.sci_fine.specs.Seats.{IsSeatOf, HasMade};
+ghost use Rattle.sci_fine.specs.Steps.{IsLook};
+
+use crate::codes::{codes, number_of};
+use crate::line::FineLine;
+use crate::seats::Seat;
+use crate::views::{AsLoad, AsStep, Notes};
+use sci_core::{Event, Keeps, Line, Outcome};
+use sci_words::{Mem, NodeId, Tag, read_mem, read_tag};
+use std::marker::Brand;
+
+impl<K: Keeps> Seat<K> {
+    // The memory word.
+    pub(crate) fn mem(&mut self, line: &FineLine<K>) -> Mem
+        requires of { IsSeatOf line.now self.old }
+        ensures made { HasMade K.fits self.old (MemWas (Some result)) self.new }
+    {
+        let found = line.load(&mut self.token, 0);
+        match read_mem(found) {
+            Ok(mem) => mem,
+            Err(_) => unreachable!(),
+        }
+    }
+
+    // A node's tag.
+    pub(crate) fn tag(&mut self, line: &FineLine<K>, node: NodeId) -> Tag
+        requires of { IsSeatOf line.now self.old }
+        requires node { node < self.old.standing.terms.nodes }
+        ensures made { HasMade K.fits self.old (TagWas node (Some result)) self.new }
+    {
+        let found = line.load(&mut self.token, number_of(node));
+        match read_tag(found) {
+            Ok(tag) => tag,
+            Err(_) => unreachable!(),
+        }
+    }
+
+    // The node's own tag, looked at: by a load or by a step.
+    fn look<N: Notes>(&mut self, line: &FineLine<K>) -> Tag
+        requires of { IsSeatOf line.now self.old }
+        requires note { IsLook N.call }
+        ensures made { HasMade K.fits self.old (N.call result) self.new }
+    {
+        let number = number_of(self.standing.node());
+        let found = line.look::<N>(&mut self.token, number);
+        let tag = match read_tag(found) {
+            Ok(tag) => tag,
+            Err(_) => unreachable!(),
+        };
+        self.standing.look(&tag);
+        tag
+    }
+
+    // The node's own tag.
+    pub(crate) fn own(&mut self, line: &FineLine<K>) -> Tag
+        requires of { IsSeatOf line.now self.old }
+        ensures made { HasMade K.fits self.old (Own (Some result)) self.new }
+    {
+        self.look::<AsLoad>(line)
+    }
+
+    // The exchange that the event asks for.
+    fn exchange(&mut self, line: &FineLine<K>, event: &Event) -> Outcome
+        requires of { IsSeatOf line.now self.old }
+        requires allowed { has_row self.old.standing.terms.nodes self.old.standing.node self.old.standing.pending event.now ≡ true }
+        requires fits { FitsEvent (K.fits self.old.standing.terms.keep self.old.standing.terms.number) event.now }
+        ensures made { HasMade K.fits self.old (Stepped event.now result) self.new }
+    {
+        let node = self.standing.node();
+        let pending = self.standing.pending();
+        let asked = pending.exchange(node, event, &Line::ZERO);
+        let (number, old, new) = codes(&asked.change);
+        line.lay(&mut self.token, &asked.carry);
+        let found = line.swap::<Brand>(&mut self.token, event, &asked, number, old, new);
+        if found != old {
+            return Outcome::Missed(found);
+        }
+        let taken = line.pick_up(&mut self.token, &asked.carry);
+        let made = pending.exchange(node, event, &taken);
+        self.standing.go_on(made.after);
+        Outcome::Done(made.answer)
+    }
+
+    // An event of the node that its pending step allows.
+    pub(crate) fn step(&mut self, line: &FineLine<K>, event: Event) -> Outcome
+        requires of { IsSeatOf line.now self.old }
+        requires allowed { is_allowed self.old.standing.terms.nodes self.old.standing.node self.old.standing.pending event ≡ true }
+        requires fits { FitsEvent (K.fits self.old.standing.terms.keep self.old.standing.terms.number) event }
+        ensures made { HasMade K.fits self.old (Stepped event result) self.new }
+    {
+        if let Event::Look = event {
+            let _ = self.look::<AsStep>(line);
+            Outcome::Done(None)
+        } else {
+            self.exchange(line, &event)
+        }
+    }
+}

@@ -1,0 +1,124 @@
+"""Tries the edits of crates/NAME/refused/, many in one check: the prover must refuse each by a goal of its own function.
+
+    python3 tools/refused [--size N] [NAME ..]
+
+README.md beside this file says how. The last line is `N passed, M failed`; the status is 0 where none failed.
+"""
+
+import argparse
+import os
+import pathlib
+import resource
+import shutil
+import sys
+import tempfile
+import threading
+
+sys.path.insert(0, str(pathlib.Path(__file__).resolve().parent))
+sys.dont_write_bytecode = True
+
+from edits import edits_of
+from kit import RT
+from trying import Trial
+
+ROOT = pathlib.Path(__file__).resolve().parents[2]
+PRINTING = threading.Lock()
+
+
+def say(text):
+    with PRINTING:
+        print(f"refused: {text}", flush=True)
+
+
+def copy_of(root, room, is_warm):
+    """Copies what a check reads of the repository; what earlier checks kept only where that is asked for."""
+    shutil.copyfile(f"{root}/crates.txt", f"{room}/crates.txt")
+    shutil.copytree(f"{root}/crates", f"{room}/crates", ignore=shutil.ignore_patterns("out"))
+    for name in os.listdir(f"{root}/crates") if is_warm else []:
+        if os.path.isdir(f"{root}/crates/{name}/out/incremental"):
+            shutil.copytree(f"{root}/crates/{name}/out/incremental", f"{room}/kept/{name}")
+
+
+def prove(trial, is_used, given, jobs):
+    """Proves a crate once, for all its edits and for the crates above it."""
+    lacking = [it.name for it in trial.crate.below() if not given[it.name, "proof"]]
+    if lacking:
+        say(f"{trial.crate.name} NOT PROVED: its library {lacking[0]} failed")
+        return False
+    status, said, used, seconds = trial.prove(jobs, is_used)
+    well = status == 0 and "\nlogic=proved " in said
+    if not well:
+        say(said[-3000:])
+    say(f"{trial.crate.name}: {'proved' if well else 'NOT PROVED'} ({used:.0f} CPU s, {seconds:.0f} s)")
+    return well
+
+
+def tried(trial, size, given):
+    """Tries a crate's edits, once it is proved."""
+    if given[trial.crate.name, "proof"]:
+        trial.try_all(size)
+    else:
+        trial.failed = {it: "its crate isn't proved" for it in trial.edits}
+
+
+def tasks_of(crates, room, size):
+    """Returns the trials of the crates that have edits, and the tasks for them and for the libraries below them."""
+    edits = {it.name: edits_of(it) for it in crates}
+    wanted = [it for it in crates if edits[it.name][0]]
+    used = {below.name for it in wanted for below in it.below()}
+    trials, tasks = [], {}
+    for crate in crates:
+        if crate not in wanted and crate.name not in used:
+            continue
+        trial = Trial(crate, *edits[crate.name], f"{room}/kept/{crate.name}", say)
+        trials.append(trial)
+        waits, lines, needs = [(it.name, "proof") for it in crate.below()], crate.count(rb"\n"), RT.need(crate)
+        is_used = crate.name in used
+        tasks[crate.name, "proof"] = waits, lines, needs, lambda given, jobs, it=trial, use=is_used: prove(it, use, given, jobs)
+        if trial.edits:
+            tasks[crate.name, "edits"] = [(crate.name, "proof")], lines, needs, lambda given, jobs, it=trial: tried(it, size, given)
+    return trials, tasks
+
+
+def report(trials):
+    """Prints what became of each edit and of each crate, and returns how many failed."""
+    passed, failed = 0, 0
+    for trial in trials:
+        for edit in trial.edits:
+            label = f"{trial.crate.name}/{edit.name}"
+            if edit in trial.refused:
+                say(f"{label}: refused, as it must be: {trial.refused[edit]}")
+            else:
+                say(f"{label}: FAILED: {trial.failed.get(edit, 'it was not tried')}")
+        passed += len(trial.refused)
+        failed += len(trial.edits) - len(trial.refused)
+    used = resource.getrusage(resource.RUSAGE_CHILDREN)
+    say(f"{used.ru_utime + used.ru_stime:.0f} CPU s")
+    print(f"{passed} passed, {failed} failed")
+    return failed
+
+
+def main():
+    parser = argparse.ArgumentParser(prog="refused", description=__doc__.split("\n")[0])
+    parser.add_argument("--size", type=int, default=40, help="how many edits at most in one check")
+    parser.add_argument("--warm", action="store_true", help="begin over what rt check kept in out/, and not from nothing")
+    parser.add_argument("--root", default=str(ROOT), help="the repository, if another than this one")
+    parser.add_argument("names", nargs="*", metavar="NAME", help="the crates; all, if none is named")
+    given = parser.parse_args()
+    with tempfile.TemporaryDirectory(prefix="refused-") as room:
+        copy_of(os.path.realpath(given.root), room, given.warm)
+        crates = sorted(RT.rtlib.crates_below(room), key=lambda it: len(it.below()))
+        unknown = {*given.names} - {it.name for it in crates}
+        if unknown:
+            parser.error(f"crates.txt names no {' '.join(sorted(unknown))}")
+        if given.names:
+            for it in crates:
+                if it.name not in given.names:
+                    shutil.rmtree(f"{it.folder}/refused", ignore_errors=True)
+        trials, tasks = tasks_of(crates, room, max(given.size, 1))
+        RT.in_lanes(tasks)
+        return 1 if report(trials) else 0
+
+
+if __name__ == "__main__":
+    sys.exit(main())

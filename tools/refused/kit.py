@@ -1,0 +1,26 @@
+"""The kit's own `rt`, as a module: how it checks a crate, reads an edit and shares the processors."""
+
+import importlib.machinery
+import importlib.util
+import os
+import shutil
+import sys
+
+
+def load():
+    """Returns the module, or ends the program where there is no kit."""
+    path = shutil.which("rt")
+    if not path:
+        sys.exit("refused: there is no rt on the path")
+    sys.dont_write_bytecode = True
+    loader = importlib.machinery.SourceFileLoader("rt", os.path.realpath(path))
+    made = importlib.util.module_from_spec(importlib.util.spec_from_loader("rt", loader))
+    loader.exec_module(made)
+    made.rtlib.Crate = made.Crate
+    # (its first call sets a signal's handler, which only the main thread may)
+    made.rtlib.guarded()
+    return made
+
+
+RT = load()
+RATTLE = RT.rtlib.RATTLE

@@ -1,0 +1,102 @@
+"""Tests tools/refused on a small crate: edits that are refused, and each way in which an edit fails."""
+
+import pathlib
+import subprocess
+import sys
+import tempfile
+
+TOOL = pathlib.Path(__file__).resolve().parent
+
+CODE = """//! Halves and their sums.
+#![tactic(auto)]
+
+ghost use Rattle.std.specs.Prelude.{◌≡◌, ◌+◌, ◌≤◌, ◌<◌};
+
+/// One more.
+pub fn next(number: u32) -> u32
+    requires { number < 1000 }
+    ensures { result ≡ number + 1 }
+{
+    number + 1
+}
+
+/// Two more.
+pub fn second(number: u32) -> u32
+    requires { number < 900 }
+    ensures { result ≡ number + 2 }
+{
+    next(next(number))
+}
+
+/// A number that is at most the one given.
+pub fn below(number: u32) -> u32
+    ensures { result ≤ number }
+{
+    number / 2
+}
+
+/// A number.
+#[derive(Clone, Copy, PartialEq, Eq)]
+pub struct Number(u32);
+
+impl Number {
+    /// The number of this.
+    pub fn get(self) -> u32
+        ensures { result ≡ self.0 }
+    {
+        self.0
+    }
+}
+"""
+
+# the name of an edit, its text, and a word of what the tool says of it
+EDITS = [
+    ("refused_in_a_function", "file: src/lib.rt\nold:     number + 1\nnew:     number + 2\n", "lib::next did not prove"),
+    ("refused_in_a_method", "file: src/lib.rt\nold:         self.0\nnew:         self.0 / 2\n", "lib::Number::get did not prove"),
+    ("accepted", "file: src/lib.rt\nold:     number / 2\nnew:     number / 3\n", "NOT REFUSED"),
+    # the same value, while the function that it calls is edited beside it in the same check
+    ("only_what_it_calls_is_refused", "file: src/lib.rt\nold: next(next(number))\nnew: next(next(number) + 0)\n", "NOT REFUSED"),
+    ("does_not_compile", "file: src/lib.rt\nold:     number / 2\nnew:     numeral / 2\n", "BAD EDIT: it doesn't reach the prover"),
+    ("cannot_be_applied", "file: src/lib.rt\nold:     number / 5\nnew:     number / 2\n", "BAD EDIT: an 'old:' text is in"),
+    ("changes_a_contract", "file: src/lib.rt\nold:     ensures { result ≤ number }\nnew:     ensures { result < number }\n", "outside the bodies"),
+    ("changes_two_functions", "file: src/lib.rt\nold:     number / 2\nnew:     number\nold:     number + 1\nnew:     number + 3\n", "bodies of 2 functions"),
+]
+
+
+def make(root):
+    """Makes a repository of one crate with these edits."""
+    crate = root / "crates" / "lib_of_halves"
+    (crate / "src").mkdir(parents=True)
+    (crate / "refused").mkdir()
+    (root / "crates.txt").write_text("lib_of_halves:\n", encoding="utf-8")
+    (crate / "src" / "lib.rt").write_text(CODE, encoding="utf-8")
+    for name, text, _ in EDITS:
+        (crate / "refused" / f"{name}.edit").write_text(text, encoding="utf-8")
+
+
+def main():
+    with tempfile.TemporaryDirectory(prefix="refused-test-") as folder:
+        root = pathlib.Path(folder)
+        make(root)
+        words = [sys.executable, str(TOOL), "--root", folder]
+        ran = subprocess.run(words, stdin=subprocess.DEVNULL, stdout=subprocess.PIPE, stderr=subprocess.STDOUT)
+        said = ran.stdout.decode(errors="replace")
+        is_kept = not (root / "crates" / "lib_of_halves" / "out").exists()
+    faults = [] if is_kept else ["it wrote into the repository"]
+    for name, _, word in EDITS:
+        line = next((it for it in said.split("\n") if f"/{name}.edit: " in it), "no line")
+        is_refused = ": refused, as it must be: " in line
+        if word.replace("lib::", "lib_of_halves::") not in line or is_refused != name.startswith("refused"):
+            faults.append(f"{name}: {line}")
+    refused = sum(it[0].startswith("refused") for it in EDITS)
+    last = f"{refused} passed, {len(EDITS) - refused} failed"
+    if said.rstrip("\n").split("\n")[-1] != last or ran.returncode != 1:
+        faults.append(f"its last line is not {last}, or its status, {ran.returncode}, is not 1")
+    for it in faults:
+        print(f"the test of tools/refused: {it}")
+    print(said if faults else f"the test of tools/refused: each of {len(EDITS)} edits was told for what it is")
+    return 1 if faults else 0
+
+
+if __name__ == "__main__":
+    sys.exit(main())

@@ -1,0 +1,154 @@
+"""Tries a crate's edits over one folder of kept work."""
+
+import os
+import re
+import shutil
+import signal
+import subprocess
+import tempfile
+import time
+
+from edits import in_batches
+from functions import named
+from kit import RATTLE, RT
+
+LINE = re.compile(r"^fn (\S+): (.*)$", re.M)
+# what the prover says of a function whose own goals it could not show
+GOALS = re.compile(r"`search` did not prove (`[^`]+`(?:, `[^`]+`)*)")
+# a proof file that names what the edit took away says nothing of the contract
+NAMES = re.compile(r"has no field|is not in scope|has no `|was not admitted")
+
+
+def run(words, folder):
+    """Runs rattle and returns its status, what it said and the CPU seconds that it took."""
+    before = time.monotonic()
+    how = {"cwd": folder, "stdin": subprocess.DEVNULL, "stdout": subprocess.PIPE, "stderr": subprocess.STDOUT}
+    started = subprocess.Popen([*RT.rtlib.guarded(), RATTLE, *words], **how)
+    said = started.stdout.read().decode(errors="replace")
+    _, status, used = os.wait4(started.pid, 0)
+    started.returncode = os.waitstatus_to_exitcode(status) if hasattr(os, "waitstatus_to_exitcode") else ended(status)
+    if started.returncode == -signal.SIGKILL and "--jobs" in words and words[words.index("--jobs") + 1] != "1":
+        at = words.index("--jobs") + 1
+        return run([*words[:at], "1", *words[at + 1 :]], folder)
+    return started.returncode, said, used.ru_utime + used.ru_stime, time.monotonic() - before
+
+
+def ended(status):
+    return -os.WTERMSIG(status) if os.WIFSIGNALED(status) else os.WEXITSTATUS(status)
+
+
+class Trial:
+    """A crate of the copy, its folder of kept work, and what became of its edits."""
+
+    def __init__(self, crate, edits, types, kept, say):
+        self.crate, self.edits, self.types, self.kept, self.say = crate, edits, types, kept, say
+        self.refused, self.failed = {}, {}
+
+    def words(self, jobs):
+        return [*self.crate.words(["--jobs", str(jobs)], keeps=False), "--incremental", self.kept]
+
+    def prove(self, jobs, is_used):
+        """Proves the crate as it stands, into the folder of kept work; builds its library where crates above use it."""
+        os.makedirs(self.kept, exist_ok=True)
+        words = ["check", *self.words(jobs)]
+        if is_used:
+            os.makedirs(os.path.dirname(self.crate.rlib), exist_ok=True)
+            words = ["build", *self.words(jobs), "-o", self.crate.rlib]
+        status, said, used, seconds = run(words, self.crate.folder)
+        known = {name for name, _ in LINE.findall(said)}
+        for it in self.edits:
+            it.function = None if it.why else named(it.change, self.types, self.crate.name, known)
+            if not it.why and not it.function:
+                it.why = f"which of the prover's functions is {it.change.name}, which it changes, isn't told"
+        return status, said, used, seconds
+
+    def check(self, edits):
+        """Checks a copy of the crate with these edits, and returns what the prover said, or why they can't stand together."""
+        with tempfile.TemporaryDirectory(prefix="refused-") as room:
+            for part in RT.rtlib.PARTS:
+                if os.path.isdir(f"{self.crate.folder}/{part}"):
+                    shutil.copytree(f"{self.crate.folder}/{part}", f"{room}/{part}")
+            changed = set()
+            for edit in edits:
+                texts, why = RT.edited(edit.text, room)
+                if why:
+                    return None, changed, why, 0
+                for path, text in texts.items():
+                    with open(f"{room}/{path}", "w", encoding="utf-8") as it:
+                        it.write(text)
+                changed |= {*texts}
+            status, said, used, _ = run(["check", *self.words(1)], room)
+        return status, changed, said, used
+
+    def reaches_the_prover(self, status, changed, said):
+        """Returns why the check says nothing of any contract, or None."""
+        lines = said.rstrip("\n").split("\n")
+        unread = next((it for it in lines if RT.unread(it, changed)), "")
+        if unread:
+            return f"the prover can't read the edited text: {unread[:200]}"
+        if RT.rtlib.STALE.search(said):
+            return "the kept work of a library could not be used"
+        if status == 0 or status == 1 and lines[-1].startswith("logic=not-proved"):
+            return None
+        return "it doesn't reach the prover: " + " | ".join(it for it in lines[:3])[:300]
+
+    def judge(self, edit, said):
+        """Returns whether a goal of the edit's own function failed, and what to say."""
+        lines = dict(LINE.findall(said))
+        line = lines.get(edit.function)
+        if line is None:
+            return False, f"the prover says nothing of {edit.function}"
+        goals = GOALS.search(line)
+        if line != "proved" and goals:
+            return True, f"{edit.function} did not prove {goals[1][:160]}"
+        place = re.escape("/".join(edit.function.split("::")[1:]))
+        errors = re.findall(rf"(?m)^(?:\./)?proofs/{place}/\w+\.antt:\d+:\d+: error.*$", said)
+        own = [it for it in errors if not NAMES.search(it)]
+        if line != "proved" and own:
+            return True, f"{edit.function}: {own[0][:200]}"
+        if line == "proved":
+            others = [name for name, it in lines.items() if it != "proved"]
+            told = f", though {others[0]} isn't" if others else ""
+            return False, f"NOT REFUSED: {edit.function} is still proved with this edit{told}"
+        if errors:
+            return False, f"{edit.function}: only a proof file that names what the edit took away fails: change a value and keep the names"
+        return False, f"no goal of {edit.function} failed: {line[:200]}"
+
+    def try_all(self, size):
+        """Tries the edits in batches, and alone each that no batch confirmed. The crate is to be proved over the folder again at the end."""
+        for it in self.edits:
+            if it.why:
+                self.failed[it] = f"BAD EDIT: {it.why}"
+        batches = in_batches([it for it in self.edits if not it.why], size)
+        for at, batch in enumerate(batches):
+            self.try_batch(batch, f"batch {at + 1} of {len(batches)}")
+        status, said, used, _ = run(["check", *self.words(1)], self.crate.folder)
+        if status or "\nlogic=proved " not in said:
+            for it in self.refused:
+                self.failed[it] = "the crate isn't proved any more over the folder that the edits were tried in"
+            self.refused = {}
+        self.say(f"{self.crate.name}: {'proved' if not status else 'NOT PROVED'} again after its edits ({used:.0f} CPU s)")
+
+    def try_batch(self, batch, label):
+        """Tries these edits in one check; in halves, where they don't compile together."""
+        status, changed, said, used = self.check(batch)
+        why = said if status is None else self.reaches_the_prover(status, changed, said)
+        alone = len(batch) == 1
+        if why and not alone:
+            self.say(f"{self.crate.name}: {label}: {len(batch)} edits don't go together, so in halves ({used:.0f} CPU s)")
+            for half in (batch[: len(batch) // 2], batch[len(batch) // 2 :]):
+                self.try_batch(half, label)
+            return
+        again = []
+        for edit in batch:
+            is_refused, told = (False, f"BAD EDIT: {why}") if why else self.judge(edit, said)
+            if is_refused:
+                self.refused[edit] = told
+            elif alone:
+                self.failed[edit] = told
+            else:
+                again.append(edit)
+        told = [it.name for it in batch if it in self.refused]
+        self.say(f"{self.crate.name}: {label}: {len(told)} of {len(batch)} edits refused ({used:.0f} CPU s): {' '.join(told)}")
+        for edit in again:
+            self.try_batch([edit], f"{label}: {edit.name} alone")

@@ -1,0 +1,141 @@
+"""Scripts: how many turns a second `scisim script` makes, beside a plain Rust simulator."""
+
+import os
+import random
+import subprocess
+import sys
+import tempfile
+
+MEBIBYTE = 1 << 20
+# nodes, lines, bytes of the script
+SETTINGS = [
+    (8, 1, MEBIBYTE),
+    (64, 1, MEBIBYTE),
+    (8, 1024, MEBIBYTE),
+    (64, 1024, MEBIBYTE // 4),
+    (64, 1024, MEBIBYTE // 2),
+    (64, 1024, MEBIBYTE),
+]
+# where the output goes
+OUTPUTS = {"null": subprocess.DEVNULL, "pipe": subprocess.PIPE}
+
+
+class SharingList:
+    """A line between two calls: its sharers from the head on, and whether the head is dirty."""
+
+    def __init__(self):
+        self.sharers = []
+        self.dirty = False
+
+    def enter(self, node):
+        """Turns to become the head."""
+        turns = 5 if self.sharers else 4
+        self.sharers.insert(0, node)
+        return turns
+
+    def roll_out(self, node):
+        """Turns of an entry behind the head to leave."""
+        turns = 3 if self.sharers[-1] == node else 4
+        self.sharers.remove(node)
+        return turns
+
+    def load(self, node):
+        return 2 if node in self.sharers else self.enter(node)
+
+    def write(self, node):
+        turns = 0
+        if node in self.sharers[1:]:
+            turns += self.roll_out(node)
+        if node not in self.sharers:
+            turns += self.enter(node)
+        turns += 1 if self.dirty else 3
+        turns += 3 * (len(self.sharers) - 1) + 1
+        self.sharers = [node]
+        self.dirty = True
+        return turns
+
+    def evict(self, node):
+        if node not in self.sharers:
+            return 1
+        if self.sharers[0] != node:
+            return self.roll_out(node)
+        if len(self.sharers) > 1:
+            self.sharers.pop(0)
+            return 4
+        turns = 4 if self.dirty else 3
+        self.sharers.pop()
+        self.dirty = False
+        return turns
+
+
+def script_of(nodes, lines, size, each_turn):
+    """A script of at most so many bytes, its calls and its turns."""
+    pick = random.Random(f"{nodes} {lines}")
+    lists = [SharingList() for _ in range(lines)]
+    commands = [f"memory {nodes} {lines}\n"]
+    length, calls, turns = len(commands[0]), 0, 0
+    while True:
+        node, line, word = pick.randrange(nodes), pick.randrange(lines), pick.randrange(8)
+        value = pick.randrange(1 << 32)
+        kind = pick.choices(["load", "store", "add", "evict"], [5, 2, 2, 1])[0]
+        sharers = lists[line]
+        if kind == "load":
+            begin, taken = f"load {node} {line} {word}\n", sharers.load
+        elif kind == "evict":
+            begin, taken = f"evict {node} {line}\n", sharers.evict
+        else:
+            begin, taken = f"{kind} {node} {line} {word} {value}\n", sharers.write
+        count = taken(node)
+        end = f"turn {node}\n" * count if each_turn else f"done {node}\n"
+        length += len(begin) + len(end)
+        if length > size:
+            return "".join(commands), calls, turns
+        commands += [begin, end]
+        calls += 1
+        turns += count
+
+
+def check(program, script, calls):
+    """The text that a program prints: one answer a call, and no wait."""
+    printed = subprocess.run([program, "script", script], stdout=subprocess.PIPE, check=True).stdout
+    if printed.count(b"\n") != calls or b" waits" in printed:
+        sys.exit(f"{program}: {calls} calls were to end, without a wait")
+    return printed
+
+
+def seconds(program, script, output):
+    """The seconds that a whole run was on a processor."""
+    process = subprocess.Popen([program, "script", script], stdout=OUTPUTS[output])
+    if process.stdout:
+        with process.stdout as pipe:
+            while os.read(pipe.fileno(), 1 << 16):
+                pass
+    _, process.returncode, used = os.wait4(process.pid, 0)
+    return used.ru_utime + used.ru_stime
+
+
+def measure(programs, setting, runs, each_turn):
+    """Programs by name, the first beside the others, in turn."""
+    nodes, lines, size = setting
+    text, calls, turns = script_of(nodes, lines, size, each_turn)
+    with tempfile.NamedTemporaryFile("w", suffix=".txt") as script:
+        script.write(text)
+        script.flush()
+        printed = {check(program, script.name, calls) for program in programs.values()}
+        if len(printed) != 1:
+            sys.exit(f"{nodes} nodes, {lines} lines: the programs print different texts")
+        for output in OUTPUTS:
+            best = dict.fromkeys(programs, float("inf"))
+            for _ in range(runs):
+                for name, program in programs.items():
+                    best[name] = min(best[name], seconds(program, script.name, output))
+            first = next(iter(best.values()))
+            cells = [f"{turns / taken / 1e6:8.2f} M/s {first / taken:6.2f}" for taken in best.values()]
+            print(f"{nodes:5} {lines:5} {len(text):9} {turns:8} {output:>5}", *cells, flush=True)
+
+
+def measure_all(programs, runs, each_turn):
+    head = "".join(f"{name:>13} ratio" for name in programs)
+    print(f"nodes lines     bytes    turns    to{head}", flush=True)
+    for setting in SETTINGS:
+        measure(programs, setting, runs, each_turn)
