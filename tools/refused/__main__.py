@@ -1,6 +1,6 @@
 """Tries the edits of crates/NAME/refused/, many in one check: the prover must refuse each by a goal of its own function.
 
-    python3 tools/refused [--size N] [NAME ..]
+    python3 tools/refused [--warm] [--built] [--size N] [NAME ..]
 
 README.md beside this file says how. The last line is `N passed, M failed`; the status is 0 where none failed.
 """
@@ -39,44 +39,62 @@ def copy_of(root, room, is_warm):
             shutil.copytree(f"{root}/crates/{name}/out/incremental", f"{room}/kept/{name}")
 
 
-def prove(trial, is_used, given, jobs):
-    """Proves a crate once, for all its edits and for the crates above it."""
-    lacking = [it.name for it in trial.crate.below() if not given[it.name, "proof"]]
+def take_libraries(root, crates):
+    """Takes over the libraries below these crates, as they were built; returns whether all are there. The stamp of one tells whether
+    it is as its sources are; `rt ci` leaves none, and has built all just before."""
+    below = {it.name: it for crate in crates for it in crate.below()}
+    for name, it in below.items():
+        made = f"{root}/crates/{name}/out/rlib"
+        stamp = RT.rtlib.text_of(f"{made}/stamp") if os.path.isfile(f"{made}/stamp") else it.stamp()
+        if not os.path.isdir(f"{made}/{name}.rlib") or stamp != it.stamp():
+            return False
+    for name, it in below.items():
+        shutil.copytree(f"{root}/crates/{name}/out/rlib/{name}.rlib", it.rlib)
+    return True
+
+
+def build(trial, given, jobs):
+    """Builds a crate's library for the crates above it."""
+    lacking = [it.name for it in trial.crate.below() if not given[it.name, "library"]]
     if lacking:
-        say(f"{trial.crate.name} NOT PROVED: its library {lacking[0]} failed")
+        say(f"{trial.crate.name} NOT BUILT: its library {lacking[0]} failed")
         return False
-    status, said, used, seconds = trial.prove(jobs, is_used)
-    well = status == 0 and "\nlogic=proved " in said
-    if not well:
+    is_well, said, used, seconds = trial.build(jobs)
+    if not is_well:
         say(said[-3000:])
-    say(f"{trial.crate.name}: {'proved' if well else 'NOT PROVED'} ({used:.0f} CPU s, {seconds:.0f} s)")
-    return well
+    say(f"{trial.crate.name}: {'built' if is_well else 'NOT BUILT'} ({used:.0f} CPU s, {seconds:.0f} s)")
+    return is_well
 
 
-def tried(trial, size, given):
-    """Tries a crate's edits, once it is proved."""
-    if given[trial.crate.name, "proof"]:
+def tried(trial, size, given, jobs):
+    """Proves the functions that a crate's edits change, and tries the edits."""
+    lacking = [it.name for it in trial.crate.below() if not given.get((it.name, "library"), True)]
+    is_well, said, used, seconds = (False, f"its library {lacking[0]} failed", 0, 0) if lacking else trial.prove(jobs)
+    say(f"{trial.crate.name}: {'proved' if is_well else 'NOT PROVED'}, what its edits change ({used:.0f} CPU s, {seconds:.0f} s)")
+    if is_well:
         trial.try_all(size)
     else:
-        trial.failed = {it: "its crate isn't proved" for it in trial.edits}
+        say(said[-3000:])
+        trial.failed = {it: "its function isn't proved as it stands" for it in trial.edits}
 
 
-def tasks_of(crates, room, size):
+def tasks_of(crates, root, room, size, is_built):
     """Returns the trials of the crates that have edits, and the tasks for them and for the libraries below them."""
     edits = {it.name: edits_of(it) for it in crates}
     wanted = [it for it in crates if edits[it.name][0]]
     used = {below.name for it in wanted for below in it.below()}
+    has_libraries = is_built and take_libraries(root, wanted)
     trials, tasks = [], {}
     for crate in crates:
-        if crate not in wanted and crate.name not in used:
-            continue
         trial = Trial(crate, *edits[crate.name], f"{room}/kept/{crate.name}", say)
-        trials.append(trial)
-        waits, lines, needs = [(it.name, "proof") for it in crate.below()], crate.count(rb"\n"), RT.need(crate)
-        is_used = crate.name in used
-        tasks[crate.name, "proof"] = waits, lines, needs, lambda given, jobs, it=trial, use=is_used: prove(it, use, given, jobs)
+        lines, needs = crate.count(rb"\n"), RT.need(crate)
+        waits = [] if has_libraries else [(it.name, "library") for it in crate.below()]
+        if crate.name in used and not has_libraries:
+            tasks[crate.name, "library"] = waits, lines, needs, lambda given, jobs, it=trial: build(it, given, jobs)
+            waits = [(crate.name, "library")]
         if trial.edits:
-            tasks[crate.name, "edits"] = [(crate.name, "proof")], lines, needs, lambda given, jobs, it=trial: tried(it, size, given)
+            trials.append(trial)
+            tasks[crate.name, "edits"] = waits, lines, needs, lambda given, jobs, it=trial: tried(it, size, given, jobs)
     return trials, tasks
 
 
@@ -102,6 +120,7 @@ def main():
     parser = argparse.ArgumentParser(prog="refused", description=__doc__.split("\n")[0])
     parser.add_argument("--size", type=int, default=40, help="how many edits at most in one check")
     parser.add_argument("--warm", action="store_true", help="begin over what rt check kept in out/, and not from nothing")
+    parser.add_argument("--built", action="store_true", help="take the libraries below as rt ci has just built them")
     parser.add_argument("--root", default=str(ROOT), help="the repository, if another than this one")
     parser.add_argument("names", nargs="*", metavar="NAME", help="the crates; all, if none is named")
     given = parser.parse_args()
@@ -115,7 +134,7 @@ def main():
             for it in crates:
                 if it.name not in given.names:
                     shutil.rmtree(f"{it.folder}/refused", ignore_errors=True)
-        trials, tasks = tasks_of(crates, room, max(given.size, 1))
+        trials, tasks = tasks_of(crates, os.path.realpath(given.root), room, max(given.size, 1), given.built)
         RT.in_lanes(tasks)
         return 1 if report(trials) else 0
 

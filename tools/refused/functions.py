@@ -122,18 +122,31 @@ def changed(was, now, path):
     return [it for it in was.bodies if was.bodies[it] != now.bodies.get(it)], None
 
 
+def places_of(function, types):
+    """Returns the modules that a method may stand in: that of its type, wherever its impl is written."""
+    places = {tuple(modules) for name, modules in types if name == function.type} or {function.modules}
+    return {function.modules} & places or places
+
+
+def names_of(function, types, crate):
+    """Returns what the prover may call this function; of a method of a trait, more names may stand behind the trait's."""
+    if not function.type:
+        return ["::".join([crate, *function.modules, function.name])]
+    owner = function.type + function.trait
+    return ["::".join([crate, *modules, owner, function.name]) for modules in sorted(places_of(function, types))]
+
+
+def modules_of(function, types, crate):
+    """Returns the modules that the function may stand in, as the prover is asked for all that is in them."""
+    return ["::".join([crate, *modules]) for modules in (places_of(function, types) if function.type else [function.modules])]
+
+
 def named(function, types, crate, known):
     """Returns what the prover calls this function: the one of the known names that fits it, or None."""
-    if not function.type:
-        name = "::".join([crate, *function.modules, function.name])
-        return name if name in known else None
-    # a method stands in the module of its type, wherever its impl is written
-    places = {tuple(modules) for name, modules in types if name == function.type} or {function.modules}
-    places = {function.modules} & places or places
     found = set()
-    for modules in places:
-        start, end = "::".join([crate, *modules, function.type + function.trait]), f"::{function.name}"
-        found |= {start + end} & known or {it for it in known if function.trait and is_of(it, start, end)}
+    for name in names_of(function, types, crate):
+        start, end = name[: -len(function.name) - 2], f"::{function.name}"
+        found |= {name} & known or {it for it in known if function.trait and is_of(it, start, end)}
     return found.pop() if len(found) == 1 else None
 
 

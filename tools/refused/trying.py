@@ -9,10 +9,12 @@ import tempfile
 import time
 
 from edits import in_batches
-from functions import named
+from functions import modules_of, named, names_of
 from kit import RATTLE, RT
 
 LINE = re.compile(r"^fn (\S+): (.*)$", re.M)
+# the last line of a check of some functions: how many were asked for, and how many of them are proved
+ASKED = re.compile(r"^only=(\d+) proved=(\d+)$", re.M)
 # what the prover says of a function whose own goals it could not show
 GOALS = re.compile(r"`search` did not prove (`[^`]+`(?:, `[^`]+`)*)")
 # a proof file that names what the edit took away says nothing of the contract
@@ -33,6 +35,11 @@ def run(words, folder):
     return started.returncode, said, used.ru_utime + used.ru_stime, time.monotonic() - before
 
 
+def only(paths):
+    """Returns the words that have the prover check these functions, and those that they call."""
+    return [word for path in sorted({*paths}) for word in ("--only", path)]
+
+
 def ended(status):
     return -os.WTERMSIG(status) if os.WIFSIGNALED(status) else os.WEXITSTATUS(status)
 
@@ -43,24 +50,36 @@ class Trial:
     def __init__(self, crate, edits, types, kept, say):
         self.crate, self.edits, self.types, self.kept, self.say = crate, edits, types, kept, say
         self.refused, self.failed = {}, {}
+        self.asks = self.asked(names_of)
+
+    def asked(self, by):
+        """Returns the names, by functions or by their modules, of what the edits change."""
+        return {path for it in self.edits if it.change for path in by(it.change, self.types, self.crate.name)}
 
     def words(self, jobs):
         return [*self.crate.words(["--jobs", str(jobs)], keeps=False), "--incremental", self.kept]
 
-    def prove(self, jobs, is_used):
-        """Proves the crate as it stands, into the folder of kept work; builds its library where crates above use it."""
+    def build(self, jobs):
+        """Builds the crate's library for the crates above it."""
         os.makedirs(self.kept, exist_ok=True)
-        words = ["check", *self.words(jobs)]
-        if is_used:
-            os.makedirs(os.path.dirname(self.crate.rlib), exist_ok=True)
-            words = ["build", *self.words(jobs), "-o", self.crate.rlib]
-        status, said, used, seconds = run(words, self.crate.folder)
+        os.makedirs(os.path.dirname(self.crate.rlib), exist_ok=True)
+        status, said, used, seconds = run(["build", *self.words(jobs), "-o", self.crate.rlib], self.crate.folder)
+        return not status and "\nlogic=proved " in said, said, used, seconds
+
+    def prove(self, jobs):
+        """Proves the edited functions as they stand, and what they call, into the folder of kept work; returns whether all are proved."""
+        os.makedirs(self.kept, exist_ok=True)
+        status, said, used, seconds = run(["check", *self.words(jobs), *only(self.asks)], self.crate.folder)
+        if status == 2 and "has no function" in said and self.asks != self.asked(modules_of):
+            self.asks = self.asked(modules_of)
+            return self.prove(jobs)
         known = {name for name, _ in LINE.findall(said)}
         for it in self.edits:
             it.function = None if it.why else named(it.change, self.types, self.crate.name, known)
             if not it.why and not it.function:
                 it.why = f"which of the prover's functions is {it.change.name}, which it changes, isn't told"
-        return status, said, used, seconds
+        told = ASKED.search(said)
+        return not status and bool(told) and told[1] == told[2], said, used, seconds
 
     def check(self, edits):
         """Checks a copy of the crate with these edits, and returns what the prover said, or why they can't stand together."""
@@ -77,7 +96,7 @@ class Trial:
                     with open(f"{room}/{path}", "w", encoding="utf-8") as it:
                         it.write(text)
                 changed |= {*texts}
-            status, said, used, _ = run(["check", *self.words(1)], room)
+            status, said, used, _ = run(["check", *self.words(1), *only(it.function for it in edits)], room)
         return status, changed, said, used
 
     def reaches_the_prover(self, status, changed, said):
@@ -88,7 +107,7 @@ class Trial:
             return f"the prover can't read the edited text: {unread[:200]}"
         if RT.rtlib.STALE.search(said):
             return "the kept work of a library could not be used"
-        if status == 0 or status == 1 and lines[-1].startswith("logic=not-proved"):
+        if status in (0, 1) and ASKED.match(lines[-1]):
             return None
         return "it doesn't reach the prover: " + " | ".join(it for it in lines[:3])[:300]
 
@@ -122,12 +141,12 @@ class Trial:
         batches = in_batches([it for it in self.edits if not it.why], size)
         for at, batch in enumerate(batches):
             self.try_batch(batch, f"batch {at + 1} of {len(batches)}")
-        status, said, used, _ = run(["check", *self.words(1)], self.crate.folder)
-        if status or "\nlogic=proved " not in said:
+        is_well, _, used, _ = self.prove(1)
+        if not is_well:
             for it in self.refused:
-                self.failed[it] = "the crate isn't proved any more over the folder that the edits were tried in"
+                self.failed[it] = "its function isn't proved any more over the folder that the edits were tried in"
             self.refused = {}
-        self.say(f"{self.crate.name}: {'proved' if not status else 'NOT PROVED'} again after its edits ({used:.0f} CPU s)")
+        self.say(f"{self.crate.name}: {'proved' if is_well else 'NOT PROVED'} again after its edits ({used:.0f} CPU s)")
 
     def try_batch(self, batch, label):
         """Tries these edits in one check; in halves, where they don't compile together."""
