@@ -3,8 +3,11 @@ ghost use Rattle.std.specs.Prelude.{◌≡◌, ◌<◌};
 
 mod desks;
 mod growths;
+mod long_texts;
+mod memory;
 mod rows;
 mod sizes;
+mod widths;
 mod writers;
 
 use super::*;

@@ -1,6 +1,6 @@
-//! Steps and readers take no memory, as a walk by chance through all rows shows. The gate runs this test with allocation 32
-//! refused, and wants it to fail in its last line, and there alone.
-use super::{LINE, step};
+//! Steps and readers take no memory, as a walk by chance through all rows shows, nor do runs, nor does closing in room that was
+//! taken before. The gate runs these tests with allocation 32 refused, and wants each to fail in its last line, and there alone.
+use super::{LINE, fresh, run, step};
 use crate::events::Event;
 use crate::keeps::AnyWords;
 use crate::lines::Line;
@@ -70,7 +70,7 @@ fn read(whole: &Whole<AnyWords>, number: u16) -> Option<Tag> {
     let allowed = whole
         .pending(node)
         .allows(node, whole.nodes(), &Event::Settle);
-    let _ = (lines, allowed, whole.number());
+    let _ = (lines, allowed, whole.number(), whole.keep());
     Some(whole.tag(node))
 }
 
@@ -110,5 +110,44 @@ fn steps_take_no_memory(rt: HostRuntime) {
         panic!(rt; "`open` takes more than three allocations")
     };
     assert!(rt; walk(&mut whole) == Some([true; EVENTS]));
+    assert!(rt; spend(rt.alloc(), 1).is_ok(), "allocation 32 is refused");
+}
+
+/// A first reader, until a second one prepends itself; a missed exchange; and an event that isn't in turn.
+fn events() -> Option<[(NodeId, Event); 9]> {
+    let (zero, one) = (NodeId::new(0)?, NodeId::new(1)?);
+    Some([
+        (zero, Event::Queue(None)),
+        (zero, Event::PrependValid),
+        (zero, Event::ReturnMemory),
+        (zero, Event::Settle),
+        (zero, Event::Convert(fresh(None))),
+        (one, Event::Queue(Some(zero))),
+        (one, Event::PrependValid),
+        (zero, Event::FreshToGone),
+        (one, Event::Settle),
+    ])
+}
+
+#[test]
+fn runs_and_closing_take_no_memory(rt: HostRuntime) {
+    // `open` takes three, and the room two.
+    assert!(rt; spend(rt.alloc(), 26).is_ok());
+    let Ok(mut whole) = Whole::open(rt.alloc(), NODES, 7, LINE, AnyWords) else {
+        panic!(rt; "`open` takes more than three allocations")
+    };
+    let (Ok(tags), Ok(lines)) = (
+        Vec::with_capacity(rt.alloc(), usize::from(NODES)),
+        Vec::with_capacity(rt.alloc(), usize::from(NODES)),
+    ) else {
+        panic!(rt; "no room")
+    };
+    let closed = whole.closed_in(tags, lines);
+    assert_eq!(rt; closed.tags.len(), 3);
+    assert_eq!(rt; closed.lines.as_slice(), [LINE; 3].as_slice());
+    let Some(events) = events() else {
+        panic!(rt; "no such nodes")
+    };
+    assert_eq!(rt; run(&mut whole, &events), Some(Err(8)));
     assert!(rt; spend(rt.alloc(), 1).is_ok(), "allocation 32 is refused");
 }

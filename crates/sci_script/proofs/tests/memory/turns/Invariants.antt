@@ -1,0 +1,5 @@
+use Rattle.std.proofs.Common.{◌≡◌}
+use Rattle.sci_script.proofs.tests.memory.turns.Given as goal
+
+abbrev pub invariant-loop : goal.invariant-loop
+invariant-loop l = l.desk.size ≡ l.script.size
