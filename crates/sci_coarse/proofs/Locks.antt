@@ -9,7 +9,7 @@ use Rattle.atomic_table.specs.Table.{Act, keeps, takes, gives, rest, homes_after
 use Rattle.atomic_table.proofs.Lists.{at_set, set_here, set_else, exchanged}
 use Rattle.sci_core.specs.Whole.{WholeLine, state_of}
 use Rattle.sci_port.specs.declared.calls.Call.{Call}
-use Rattle.sci_port.specs.Runs.{Leads, done_by, log_of}
+use Rattle.sci_port.specs.Runs.{done_by, log_of}
 use Rattle.sci_port.proofs.Running.{leads_on, done_else, logs_on}
 use Rattle.sci_coarse.specs.declared.views.Terms.{Terms}
 use Rattle.sci_coarse.specs.declared.views.View.{View}

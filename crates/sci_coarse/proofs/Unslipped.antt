@@ -1,5 +1,5 @@
 -- No step of the table can tell what did not happen, whatever kind of step it is.
-use Rattle.std.proofs.Common.{◌≡◌, ◌≢◌, ℕ, zero, suc, ◌<◌, ◌≤◌, Option, Some, None, List, [], ◌∷◌, ◌++◌, length, get_or, set, refl, sym, ap, ◌∙◌, subst, ⊎_elim, arith, length-set}
+use Rattle.std.proofs.Common.{◌≡◌, ◌≢◌, ℕ, ◌<◌, Option, Some, None, List, [], ◌∷◌, ◌++◌, length, refl, sym, ap, ◌∙◌, subst, ⊎_elim, arith, length-set}
 use mathlib.Core.Logic.{dite}
 use mathlib.Core.Option.{some}
 use native.Mathlib.Decide.{ℕ_discrete}
@@ -13,7 +13,7 @@ use Rattle.sci_coarse.specs.declared.views.Entry.{Entry}
 use Rattle.sci_coarse.specs.declared.views.Entry.TheVariants.{Took, Missed, Gave}
 use Rattle.sci_coarse.specs.Runs.{Point, Moves}
 use Rattle.sci_coarse.specs.Rule.{Shared, IsAtHome, IsOut, Locked, opened_on}
-use Rattle.sci_coarse.specs.Laws.{AreApart, IsOneStep, HasOneRun, AppendsSteps, TakesTruly, MissesTruly}
+use Rattle.sci_coarse.specs.Laws.{AreApart, Adds, IsOneStep, HasOneRun, AppendsSteps, HidesNothing, TakesTruly, MissesTruly}
 use Rattle.sci_coarse.proofs.Listed.{inside, not_none, seat_or}
 
 -- who has the lock word after a run
@@ -22,6 +22,10 @@ holder_of h [] = h
 holder_of h ((node, Took) ∷ es) = holder_of (Some node) es
 holder_of h ((node, Missed) ∷ es) = holder_of h es
 holder_of h ((node, Gave call) ∷ es) = holder_of None es
+
+no_more : {A : Type 0} (l : List A) → l ++ [] ≡ l
+no_more [] = refl
+no_more {A} (x ∷ xs) = ap (λ (l : List A). x ∷ l) (no_more xs)
 
 module _ {K : Type 0} (fits : K → ℕ → List ℕ → Type 0) where
   held : (p : Point K) (run : List (ℕ × Entry)) (q : Point K) → Leads (Moves fits) p run q → q.0 ≡ holder_of p.0 run
@@ -38,26 +42,36 @@ module _ {K : Type 0} (fits : K → ℕ → List ℕ → Type 0) where
         (λ v e. sym ((a.seated i v e).log t (apart i v e)) ∙ (b.seated i v e).log t (apart i v e))
         (λ far. (a.unseated i far).1 ∙ sym (b.unseated i far).1)
 
-    module _ (s2 : Shared K) (b : Locked fits t s2) (id place : ℕ) (e : Entry) (one : IsOneStep s s2 id place e) where
+    module _ (s2 : Shared K) (b : Locked fits t s2) (id : ℕ) (entries : List (ℕ × Entry)) (added : Adds s s2 id entries) where
       others : (i : ℕ) → i ≢ id → done_by i b.run ≡ done_by i a.run
       others i ne =
-          let long : length s2.views ≡ length s.views = ap (λ (l : List (View K)). length l) one.views ∙ length-set s.views id one.after in
+          let long : length s2.views ≡ length s.views = ap (λ (l : List (View K)). length l) added.views ∙ length-set s.views id added.after in
           seat_or s.views i
-          (λ v is. let same : get_elem? s2.views i ≡ some v = ap (λ (l : List (View K)). get_elem? l i) one.views ∙ (set_else s.views id i one.after ne ∙ is) in sym ((b.seated i v same).log t (apart i v is)) ∙ (a.seated i v is).log t (apart i v is))
+          (λ v is. let same : get_elem? s2.views i ≡ some v = ap (λ (l : List (View K)). get_elem? l i) added.views ∙ (set_else s.views id i added.after ne ∙ is) in sym ((b.seated i v same).log t (apart i v is)) ∙ (a.seated i v is).log t (apart i v is))
           (λ far. (b.unseated i (omega arith)).1 ∙ sym (a.unseated i far).1)
 
-      mine : done_by id b.run ≡ done_by id a.run ++ (place, e) ∷ []
+      mine : done_by id b.run ≡ done_by id a.run ++ entries
       mine =
-          let v : View K = one.before in let u : View K = one.after in
-          let near : id < length s.views = inside s.views v id one.at in
-          let here : get_elem? s2.views id ≡ some u = ap (λ (l : List (View K)). get_elem? l id) one.views ∙ set_here s.views id u near in
-          let live : v.of ≡ Some t = apart id v one.at in
-          let node : v.node ≡ id = ((a.seated id v one.at).seat t live).1 in
-          sym ((b.seated id u here).log t (one.of ∙ live)) ∙ (own_log id u.node u.log u.others (one.node ∙ node) ∙ (one.log
-          ∙ ap (λ (l : List (ℕ × Entry)). l ++ (place, e) ∷ []) (sym (own_log id v.node v.log v.others node) ∙ (a.seated id v one.at).log t live)))
+          let v : View K = added.before in let u : View K = added.after in
+          let near : id < length s.views = inside s.views v id added.at in
+          let here : get_elem? s2.views id ≡ some u = ap (λ (l : List (View K)). get_elem? l id) added.views ∙ set_here s.views id u near in
+          let live : v.of ≡ Some t = apart id v added.at in
+          let node : v.node ≡ id = ((a.seated id v added.at).seat t live).1 in
+          sym ((b.seated id u here).log t (added.of ∙ live)) ∙ (own_log id u.node u.log u.others (added.node ∙ node) ∙ (added.log
+          ∙ ap (λ (l : List (ℕ × Entry)). l ++ entries) (sym (own_log id v.node v.log v.others node) ∙ (a.seated id v added.at).log t live)))
 
+    module _ (s2 : Shared K) (b : Locked fits t s2) (id : ℕ) (added : Adds s s2 id []) where
+      no_step : b.run ≡ a.run
+      no_step = same_run a.run b.run (λ i. dite (ℕ_discrete i id)
+          (λ is. ap (λ (z : ℕ). done_by z b.run) is ∙ (mine s2 b id [] added ∙ (no_more (done_by id a.run) ∙ ap (λ (z : ℕ). done_by z a.run) (sym is))))
+          (λ ne. others s2 b id [] added i ne))
+
+      same_holder : b.holder ≡ a.holder
+      same_holder = held (None, opened_on t) b.run (b.holder, b.whole) b.ran ∙ (ap (λ (r : List (ℕ × Entry)). holder_of None r) no_step ∙ sym (held (None, opened_on t) a.run (a.holder, a.whole) a.ran))
+
+    module _ (s2 : Shared K) (b : Locked fits t s2) (id place : ℕ) (e : Entry) (one : IsOneStep s s2 id place e) where
       appended : b.run ≡ a.run ++ (id, e) ∷ []
-      appended = grown id a.run b.run place e others mine
+      appended = grown id a.run b.run place e (others s2 b id ((place, e) ∷ []) one) (mine s2 b id ((place, e) ∷ []) one)
 
       -- the point where the step was made, and who had the lock word there
       made_at : (mid : Point K) × (a.holder ≡ mid.0) × Moves fits mid id e (b.holder, b.whole)
@@ -70,6 +84,9 @@ module _ {K : Type 0} (fits : K → ℕ → List ℕ → Type 0) where
 
   pub appends : AppendsSteps fits
   appends t s s2 a b id place e apart one = appended t s a apart s2 b id place e one
+
+  pub hides_nothing : HidesNothing fits
+  hides_nothing t s s2 a b id apart added = (no_step t s a apart s2 b id added, same_holder t s a apart s2 b id added)
 
   pub takes_truly : TakesTruly fits
   takes_truly t s s2 a b id place apart one =

@@ -1,4 +1,4 @@
-//! A line under its lock word: how it is opened and closed, and two threads on it.
+//! A line under its lock word: how it is opened and closed, runs that are replayed, and two threads on it.
 ghost use Rattle.std.specs.Prelude.{◌≡◌, ◌<◌, IfSome, IsTrue};
 ghost use Rattle.sci_core.specs.declared.pending.Pending.TheVariants.{Idle};
 ghost use Rattle.sci_coarse.specs.Seats.{IsSeatOf};

@@ -1,5 +1,5 @@
 -- What a step of the table that was told is, as a call of a port.
-use Rattle.std.proofs.Common.{◌≡◌, ◌≢◌, ◌⊎◌, ⊎_elim, ℕ, suc, ◌<◌, ◌≤◌, true, false, Option, Some, None, List, [], append-nil, map, refl, sym, ap, ◌∙◌, subst}
+use Rattle.std.proofs.Common.{◌≡◌, ◌≢◌, ◌⊎◌, ⊎_elim, ℕ, suc, ◌<◌, ◌≤◌, true, false, Option, Some, None, List, map, refl, sym, ap, ◌∙◌, subst}
 use Rattle.sci_words.specs.Codes.{tag_code, mem_code}
 use Rattle.sci_words.specs.Mem.{mem_well_formed, mem_links_below}
 use Rattle.sci_words.specs.Tag.{tag_well_formed, tag_links_below}
@@ -23,7 +23,7 @@ use Rattle.sci_core.proofs.Going.Forms.{made}
 use Rattle.sci_core.proofs.Lawfully.{lawful_line}
 use Rattle.sci_core.proofs.Sound.{memory_links, tag_links, ruled_looked}
 use Rattle.sci_port.specs.declared.calls.Call.{Call}
-use Rattle.sci_port.specs.declared.calls.Call.TheVariants.{Own, MemWas, TagWas, Stepped}
+use Rattle.sci_port.specs.declared.calls.Call.TheVariants.{MemWas, TagWas, Stepped}
 use Rattle.sci_port.specs.Owes.{Owes}
 use Rattle.sci_port.specs.Solo.{Gives}
 use Rattle.sci_port.proofs.Lent.{is_exchange, takes_row, answer_fits}
@@ -36,7 +36,7 @@ use Rattle.sci_fine.specs.Steps.{Seated, slots_in, place_of, before_of, IsHit, I
 use Rattle.sci_fine.specs.Views.{saw}
 use Rattle.sci_fine.proofs.Carried.{hand_then}
 use Rattle.sci_fine.proofs.Elements.{update_here}
-use Rattle.sci_fine.proofs.Giving.{Goes, goes_as, load_gives, look_gives, own_gives, missed_gives, done_gives}
+use Rattle.sci_fine.proofs.Giving.{Goes, goes_as, load_gives, own_gives, missed_gives, done_gives}
 
 look_back_hand : (me : ℕ) (told : _) (seen : _) (f b : Option ℕ) → hand_of me (look_back told seen f b) ≡ hand_of me (Pending.Rolling told seen)
 look_back_hand me told seen f (Some b) = refl

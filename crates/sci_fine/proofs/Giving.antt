@@ -1,5 +1,5 @@
 -- What a call of a node gives on a line under the law, where the node's step goes by a name of its own.
-use Rattle.std.proofs.Common.{◌≡◌, ◌≢◌, ◌⊎◌, ℕ, zero, suc, ◌<◌, true, false, Some, None, List, refl, sym, ap, ◌∙◌, subst, ⊎_elim}
+use Rattle.std.proofs.Common.{◌≡◌, ◌≢◌, ◌⊎◌, ℕ, zero, suc, ◌<◌, true, List, refl, sym, ap, ◌∙◌, subst, ⊎_elim}
 use Rattle.sci_words.specs.Codes.{tag_code, mem_code}
 use Rattle.sci_words.specs.declared.tags.Tag.{Tag}
 use Rattle.sci_core.specs.declared.lines.Line.{Line}
@@ -22,8 +22,8 @@ use Rattle.sci_core.proofs.Going.Forms.{Going, made}
 use Rattle.sci_core.proofs.Lawfully.{lawful_line, done_keeps, missed_keeps, look_keeps, exchange_answers}
 use Rattle.sci_core.proofs.Sound.{value_fits, finds_formed, tags_formed, memory_formed}
 use Rattle.sci_port.specs.declared.calls.Call.{Call}
-use Rattle.sci_port.specs.declared.calls.Call.TheVariants.{Own, MemWas, TagWas, Stepped}
-use Rattle.sci_port.specs.Solo.{Does, Gives}
+use Rattle.sci_port.specs.declared.calls.Call.TheVariants.{Stepped}
+use Rattle.sci_port.specs.Solo.{Gives}
 use Rattle.sci_port.proofs.Lent.{is_exchange}
 use Rattle.sci_fine.specs.Rule.{word_at}
 use Rattle.sci_fine.specs.Steps.{place_of, before_of, load_of, own_load, look_step}

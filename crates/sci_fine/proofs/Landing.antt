@@ -1,5 +1,5 @@
 -- What a seat is after a call, where the parts of the call go by the seat's own names.
-use Rattle.std.proofs.Common.{◌≡◌, ◌≢◌, ℕ, ◌<◌, true, Option, Some, None, List, [], map, refl, sym, ap, ◌∙◌, subst}
+use Rattle.std.proofs.Common.{◌≡◌, ◌≢◌, ℕ, ◌<◌, true, Option, Some, List, [], map, sym, ap, ◌∙◌, subst}
 use Rattle.sci_core.specs.declared.lines.Line.{Line}
 use Rattle.sci_core.specs.declared.pending.Pending.{Pending}
 use Rattle.sci_core.specs.declared.events.Event.{Event}
@@ -10,16 +10,14 @@ use Rattle.sci_core.specs.Row.{Row}
 use Rattle.sci_core.specs.State.{State}
 use Rattle.sci_core.specs.Step.{taken_line}
 use Rattle.sci_core.specs.Table.{has_row, row_of}
-use Rattle.sci_words.specs.declared.tags.Tag.{Tag}
 use Rattle.sci_port.specs.declared.calls.Call.{Call}
-use Rattle.sci_port.specs.declared.calls.Call.TheVariants.{Own, Stepped}
-use Rattle.sci_fine.specs.Calls.{IsStep}
+use Rattle.sci_port.specs.declared.calls.Call.TheVariants.{Stepped}
 use Rattle.sci_port.specs.Owes.{Owes}
 use Rattle.sci_fine.specs.declared.views.Terms.{Terms}
 use Rattle.sci_fine.specs.declared.views.View.{View}
 use Rattle.sci_fine.specs.Rule.{slot_number}
 use Rattle.sci_fine.specs.Standings.{IsStanding}
-use Rattle.sci_fine.specs.Steps.{Seated, slots_in, place_of, before_of, Took, IsHit, exchanged}
+use Rattle.sci_fine.specs.Steps.{Seated, slots_in, before_of, Took, IsHit, exchanged}
 use Rattle.sci_fine.proofs.Carried.{took}
 use Rattle.sci_fine.proofs.Coming.{Comes, comes_missed, comes_done}
 

@@ -1,5 +1,5 @@
 -- Each step of the table keeps the rule.
-use Rattle.std.proofs.Common.{◌≡◌, ◌≢◌, ℕ, zero, suc, ◌+◌, ◌<◌, ◌≤◌, ◌-◌, true, eqb, Some, None, List, [], ◌∷◌, ◌++◌, length, get_or, set, refl, sym, ap, ◌∙◌, subst, ⊎_elim, arith, length-set}
+use Rattle.std.proofs.Common.{◌≡◌, ◌≢◌, ℕ, zero, suc, ◌+◌, ◌<◌, ◌≤◌, ◌-◌, true, eqb, Some, List, [], ◌∷◌, ◌++◌, length, get_or, set, refl, sym, ap, ◌∙◌, subst, ⊎_elim, arith, length-set}
 use mathlib.Core.Option.{some, some-injective}
 use lib.ListN.{get_elem?}
 use lib.Seq.{set-get_or}
@@ -121,6 +121,7 @@ module _ {K : Type 0} (fits : K → ℕ → List ℕ → Type 0) (t : Terms K) w
           wide = length-set s.words (lies_at (place_of r.change)) (after_of r.change) ∙ st.wide;
           roomy = tables.homes_long t.nodes a s.homes st.roomy st.homes r.carry y me.1 ok;
           words = words;
+          between = λ i k near low high. tables.between_after s.words (place_of r.change) (after_of r.change) i k low high ∙ st.between i k near low high;
           homes = homes;
           few = omega arith;
           seated = sits_on a b s.views id me.0 w at live (λ i. done_by i st.run) (λ i. done_by i (more call)) refl refl refl refl refl (log_here call)
@@ -156,6 +157,7 @@ module _ {K : Type 0} (fits : K → ℕ → List ℕ → Type 0) (t : Terms K) w
           wide = st.wide;
           roomy = st.roomy;
           words = words;
+          between = st.between;
           homes = homes;
           few = omega arith;
           seated = sits_on a b s.views id me.0 w at live (λ i. done_by i st.run) (λ i. done_by i (more call)) refl refl refl refl refl (log_here call) mine others (log_else call) st.seated;

@@ -53,8 +53,8 @@ module _ {K : Type 0} (fits : K → ℕ → List ℕ → Type 0) (t : Terms K) w
 
   -- the table at the start
   opens_at : (ws : List ℕ) (xs : List Line) → fits t.keep t.number t.opening.words → 0 < t.nodes → length ws ≡ lies_at (suc t.nodes) → length xs ≡ suc t.nodes → get_or ws 0 0 ≡ mem_code (memory_word MemState.Home None)
-      → ((i : ℕ) → i < t.nodes → get_or ws (lies_at (suc i)) 0 ≡ tag_code invalid) → ((i : ℕ) → i < suc t.nodes → get_elem? xs i ≡ some t.opening) → Stands fits t (opening ws xs (first_view t))
-  opens_at ws xs kept more wide roomy first others lines = record {
+      → ((i : ℕ) → i < t.nodes → get_or ws (lies_at (suc i)) 0 ≡ tag_code invalid) → ((i k : ℕ) → i < suc t.nodes → 0 < k → k < 8 → get_or ws (lies_at i + k) 0 ≡ tag_code invalid) → ((i : ℕ) → i < suc t.nodes → get_elem? xs i ≡ some t.opening) → Stands fits t (opening ws xs (first_view t))
+  opens_at ws xs kept more wide roomy first others between lines = record {
     state = opened t.nodes t.opening;
     lawful = lawful_line t.nodes (fits t.keep t.number) (opened t.nodes t.opening) (opened_ruled t.nodes (fits t.keep t.number) t.opening kept);
     ruled = opened_ruled t.nodes (fits t.keep t.number) t.opening kept;
@@ -65,6 +65,7 @@ module _ {K : Type 0} (fits : K → ℕ → List ℕ → Type 0) (t : Terms K) w
     wide = wide;
     roomy = simp length-map roomy;
     words = words;
+    between = between;
     homes = homes;
     few = omega arith;
     seated = one_view;
@@ -93,6 +94,7 @@ module _ {K : Type 0} (fits : K → ℕ → List ℕ → Type 0) (t : Terms K) w
     wide = st.wide;
     roomy = st.roomy;
     words = st.words;
+    between = st.between;
     homes = st.homes;
     few = few;
     seated = seated;
@@ -192,7 +194,8 @@ opens {K} fits t m g ws xs kept more is₀ is₁ words slots =
     let one : get_or (set (replicate (lies_at (suc t.nodes)) g) 0 m) 0 0 ≡ m = get_or-set_same (replicate (lies_at (suc t.nodes)) g) 0 m 0 (omega (arith, long)) in
     subst (λ (z : List ℕ × List Line). Stands fits t (opening z.0 z.1 (first_view t))) (λ i. (sym (words ∙ ap rep k) i, sym (slots ∙ ap (λ (z : ℕ). replicate z t.opening) k) i))
     (opens_at fits t (set (replicate (lies_at (suc t.nodes)) g) 0 m) (replicate (suc t.nodes) t.opening) kept more (length-set (replicate (lies_at (suc t.nodes)) g) 0 m ∙ long) long' (one ∙ is₀)
-    (λ i near. get_or-set_other (replicate (lies_at (suc t.nodes)) g) 0 (lies_at (suc i)) m 0 (λ e. absurd (omega arith)) ∙ (all_same (lies_at (suc t.nodes)) g (lies_at (suc i)) (omega arith) ∙ is₁)) (λ i near. all_at (suc t.nodes) t.opening i near))
+    (λ i near. get_or-set_other (replicate (lies_at (suc t.nodes)) g) 0 (lies_at (suc i)) m 0 (λ e. absurd (omega arith)) ∙ (all_same (lies_at (suc t.nodes)) g (lies_at (suc i)) (omega arith) ∙ is₁))
+    (λ i k near low high. get_or-set_other (replicate (lies_at (suc t.nodes)) g) 0 (lies_at i + k) m 0 (λ e. absurd (omega arith)) ∙ (all_same (lies_at (suc t.nodes)) g (lies_at i + k) (omega arith) ∙ is₁)) (λ i near. all_at (suc t.nodes) t.opening i near))
 
 pub splits_as : {K : Type 0} (fits : K → ℕ → List ℕ → Type 0) (t key : Terms K) (id : ℕ) (v : View K) → key ≡ t → v.of ≡ Some t → v.joined ≡ t.nodes → 0 < v.next → v.next < t.nodes → Splits (Stands fits key) id v (split_view v) (new_view v)
 splits_as {K} fits t key id v is live whole some_next below = subst (λ (k : Terms K). Splits (Stands fits k) id v (split_view v) (new_view v)) (sym is) (splits fits t id v live whole some_next below)

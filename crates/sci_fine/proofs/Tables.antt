@@ -1,5 +1,5 @@
 -- The words and slots of a table after an exchange are those of the state after it.
-use Rattle.std.proofs.Common.{◌≡◌, ℕ, zero, suc, ◌<◌, ◌≤◌, Option, Some, None, List, length, get_or, set, refl, sym, ap, ◌∙◌, subst, arith, length-set, get_or-set_other, get_or-set_same}
+use Rattle.std.proofs.Common.{◌≡◌, ℕ, zero, suc, ◌+◌, ◌<◌, ◌≤◌, Option, Some, None, List, length, get_or, set, refl, sym, ap, ◌∙◌, subst, arith, length-set, get_or-set_other, get_or-set_same}
 use mathlib.Core.Logic.{dite}
 use mathlib.Core.Option as maybe
 use mathlib.Core.Option.{some, none}
@@ -46,6 +46,10 @@ pub carried_is : (c : Carry) (y : Line) (xs : List (ℕ × Line)) → carried_af
 carried_is Stays y xs = refl
 carried_is (Takes x) y xs = refl
 carried_is (Gives x l) y xs = refl
+
+-- a word that lies between those of two nodes stays
+pub between_after : (ws : List ℕ) (p z i k : ℕ) → 0 < k → k < 8 → get_or (set ws (lies_at p) z) (lies_at i + k) 0 ≡ get_or ws (lies_at i + k) 0
+between_after ws p z i k low high = get_or-set_other ws (lies_at p) (lies_at i + k) z 0 (λ e. absurd (omega arith))
 
 module _ (n : ℕ) (a : State) where
   pub place_below : (c : Change) → ChangesBelow n c → place_of c < suc n

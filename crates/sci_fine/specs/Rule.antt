@@ -1,5 +1,5 @@
 -- The rule of the line's table, which holds between any two steps of it. This project's profile.
-use Rattle.std.specs.Prelude.{◌≡◌, ℕ, zero, suc, ◌*◌, ◌<◌, ◌≤◌, ◌-◌, Option, Some, None, List, [], length, slice_index}
+use Rattle.std.specs.Prelude.{◌≡◌, ℕ, zero, suc, ◌+◌, ◌*◌, ◌<◌, ◌≤◌, ◌-◌, Option, Some, None, List, [], length, slice_index}
 use mathlib.Core.Option as maybe
 use mathlib.Core.Option.{some, none}
 use lib.ListN.{get_elem?}
@@ -63,7 +63,8 @@ pub record Sits {K : Type 0} (t : Terms K) (a : State) (done : ℕ → List (ℕ
   pub joins : (u : Terms K) → v.of ≡ Some u → (i : ℕ) → v.joined ≤ i → i < t.nodes → IsSpent views i × (get_elem? v.logs (i - v.joined) ≡ some (done i))
 
 -- There is a state that is lawful and coherent (the headline), and under the law by which that is shown. Its words' codes are
--- the table's words, its slots those of the table, and its pending steps those of the views; a node without a view is Idle.
+-- the table's words, its slots those of the table, and its pending steps those of the views; a node without a view is Idle. The
+-- seven words behind each of these stay as they were opened.
 -- One run, of all calls that were made, leads to it from the line as it was opened; each view has its node's, with their places
 pub record Stands {K : Type 0} (fits : K → ℕ → List ℕ → Type 0) (t : Terms K) (s : Shared K) : Type 0 where
   pub state : State
@@ -76,6 +77,7 @@ pub record Stands {K : Type 0} (fits : K → ℕ → List ℕ → Type 0) (t : T
   pub wide : length s.words ≡ lies_at (suc t.nodes)
   pub roomy : length s.homes ≡ suc t.nodes
   pub words : (i : ℕ) → i < suc t.nodes → slice_index s.words (lies_at i) ≡ word_at state i
+  pub between : (i k : ℕ) → i < suc t.nodes → 0 < k → k < 8 → slice_index s.words (lies_at i + k) ≡ tag_code invalid
   pub homes : (i : ℕ) → i < suc t.nodes → get_elem? s.homes i ≡ some (home_of (slot_in state i))
   pub few : length s.views ≤ t.nodes
   pub seated : (j : ℕ) (v : View K) → get_elem? s.views j ≡ some v → Sits t state (λ i. done_by i run) s.views j v

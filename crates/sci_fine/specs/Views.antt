@@ -1,5 +1,5 @@
 -- The views of seats, as they are made, split, joined and stepped with. This project's profile.
-use Rattle.std.specs.Prelude.{◌≡◌, ◌+◌, ℕ, Some, None, List, [], ◌∷◌, ◌++◌}
+use Rattle.std.specs.Prelude.{◌≡◌, ◌+◌, ℕ, Some, None, [], ◌∷◌, ◌++◌}
 use Rattle.sci_core.specs.declared.pending.Pending.{Pending}
 use Rattle.sci_port.specs.declared.calls.Call.{Call}
 use Rattle.sci_fine.specs.declared.views.Terms.{Terms}

@@ -1,4 +1,4 @@
-use Rattle.sci_coarse.proofs.Unslipped.{one_run, appends, takes_truly, misses_truly}
+use Rattle.sci_coarse.proofs.Unslipped.{one_run, appends, hides_nothing, takes_truly, misses_truly}
 use Rattle.sci_coarse.proofs.laws.law_of_one_run.Goals as goal
 
 pub returns-clause-one : goal.returns-clause-one
@@ -6,6 +6,9 @@ returns-clause-one g c = one_run g.K.Keeps.fits
 
 pub returns-clause-appends : goal.returns-clause-appends
 returns-clause-appends g c = appends g.K.Keeps.fits
+
+pub returns-clause-hides : goal.returns-clause-hides
+returns-clause-hides g c = hides_nothing g.K.Keeps.fits
 
 pub returns-clause-takes : goal.returns-clause-takes
 returns-clause-takes g c = takes_truly g.K.Keeps.fits

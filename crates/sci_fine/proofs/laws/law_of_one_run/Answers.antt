@@ -1,8 +1,14 @@
-use Rattle.sci_fine.proofs.Telling.{is_true, is_miss}
+use Rattle.sci_fine.proofs.Telling.{one_run, appends, hides_nothing, misses_truly}
 use Rattle.sci_fine.proofs.laws.law_of_one_run.Goals as goal
 
+pub returns-clause-one : goal.returns-clause-one
+returns-clause-one g c = one_run g.K.Keeps.fits
+
 pub returns-clause-appends : goal.returns-clause-appends
-returns-clause-appends g c = λ t s u before after id v call told. is_true g.K.Keeps.fits t s u before after id v call told
+returns-clause-appends g c = appends g.K.Keeps.fits
+
+pub returns-clause-hides : goal.returns-clause-hides
+returns-clause-hides g c = hides_nothing g.K.Keeps.fits
 
 pub returns-clause-misses : goal.returns-clause-misses
-returns-clause-misses g c = λ t s u before after id v e code told. is_miss g.K.Keeps.fits t s u before after id v e code told
+returns-clause-misses g c = misses_truly g.K.Keeps.fits

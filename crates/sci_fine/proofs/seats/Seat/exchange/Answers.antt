@@ -11,7 +11,6 @@ use Rattle.sci_core.specs.declared.outcomes.Outcome.{Outcome}
 use Rattle.sci_port.specs.declared.calls.Call.TheVariants.{Stepped}
 use Rattle.sci_fine.specs.declared.views.Terms.{Terms}
 use Rattle.sci_fine.specs.Rule.{slot_number}
-use Rattle.sci_fine.specs.Standings.{IsStanding}
 use Rattle.sci_fine.specs.Steps.{Took, before_of}
 use Rattle.sci_fine.proofs.Asking.{words_formed, place_near, asked_as, stands_as}
 use Rattle.sci_fine.proofs.Carried.{hand_fits}

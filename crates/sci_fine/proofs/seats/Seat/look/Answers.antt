@@ -1,9 +1,8 @@
-use Rattle.std.proofs.Common.{◌<◌, ◌≤◌, ◌+◌, ℕ, Some, sym, ap, ◌∙◌, subst, arith, map}
+use Rattle.std.proofs.Common.{◌<◌, ◌≤◌, ℕ, Some, sym, ap, ◌∙◌, subst, arith, map}
 use Rattle.sci_core.specs.Carrying.{hand_of}
 use Rattle.sci_core.specs.declared.pending.Pending.{Pending}
 use Rattle.sci_fine.specs.declared.views.Terms.{Terms}
 use Rattle.sci_fine.specs.Rule.{slot_number}
-use Rattle.sci_fine.specs.Standings.{IsStanding}
 use Rattle.sci_core.specs.Step.{look_of}
 use Rattle.sci_fine.proofs.Landing.{sits}
 use Rattle.sci_fine.proofs.Reading as reading
