@@ -3,6 +3,7 @@ ghost use Rattle.std.specs.Prelude.{◌≡◌, ◌<◌};
 
 mod desks;
 mod growths;
+mod residents;
 mod rows;
 mod sizes;
 mod writers;
