@@ -23,7 +23,7 @@ module _ {U : Type 0} (fits : AnyWords → ℕ → List ℕ → Type 0) (lent : 
       let line = line_by c.victim c.line in
       let op = op_by c.victim c.op in
       let calls : Takes (λ a call b. gives a line call b) (turn_of op (lent u).node (step_at (lent u) line)) u h.turn v =
-          subst (λ (k : ℕ). Takes (λ a call b. gives a line call b) (turn_of op k (step_at (lent u) line)) u h.turn v) id h.calls in
+      subst (λ (k : ℕ). Takes (λ a call b. gives a line call b) (turn_of op k (step_at (lent u) line)) u h.turn v) id h.calls in
       record {
         turn = h.turn;
         made = turned_by (λ a call b. gives a line call b) (λ a. whole_at (lent a) line) (λ a. (lent a).node) (λ a words. fits (lent a).keep line words)

@@ -154,11 +154,7 @@ fn push_lines(text: &mut String, lines: &[LineNo]) -> Result<(), AllocError>
 }
 
 /// What `residents` prints, `node N residents`, each line after a space, and a line feed.
-pub fn residents_text(
-    alloc: Global,
-    node: NodeId,
-    lines: &[LineNo],
-) -> Result<String, AllocError>
+pub fn residents_text(alloc: Global, node: NodeId, lines: &[LineNo]) -> Result<String, AllocError>
     ensures { IfOk result (λ text. string_bytes text ≡ residents_line node lines.now) }
 {
     let node = node.get();

@@ -39,15 +39,13 @@ fn a_victim_is_written_back(rt: HostRuntime) {
     check(
         &rt,
         rt.alloc(),
-        &[
-            (
-                "memory 1 2\ncapacity 1\nstore 0 0 0 7\ndone 0\nload 0 1 0\nresidents 0\nturn 0\nlist 0\nturn 0\n\
+        &[(
+            "memory 1 2\ncapacity 1\nstore 0 0 0 7\ndone 0\nload 0 1 0\nresidents 0\nturn 0\nlist 0\nturn 0\n\
                  list 0\nturn 0\nturn 0\nlist 1\nturn 0\nturn 0\nturn 0\nlist 1\nturn 0\nload 0 0 0\ndone 0\nlist 1\n",
-                None,
-                "node 0 wrote stamp 1\nnode 0 residents 1\nline 0 GONE 0: 0 LEAVING\nline 0 HOME\nline 1 HOME\n\
+            None,
+            "node 0 wrote stamp 1\nnode 0 residents 1\nline 0 GONE 0: 0 LEAVING\nline 0 HOME\nline 1 HOME\n\
                  line 1 FRESH 0: 0 QUEUED\nnode 0 read 0 stamp 0\nnode 0 read 7 stamp 1\nline 1 HOME\n",
-            ),
-        ],
+        )],
     );
 }
 
@@ -133,7 +131,10 @@ fn capacities(rt: HostRuntime) -> Result<(), Fail> {
         ("memory 1 1\n", 1024),
         ("memory 1 1\nlist 0\n", 1024),
         ("memory 1 1\ncapacity 1\n", 1),
-        ("memory 1 1\n\n# of a small cache\n\ncapacity 0007\nlist 0\n", 7),
+        (
+            "memory 1 1\n\n# of a small cache\n\ncapacity 0007\nlist 0\n",
+            7,
+        ),
         ("memory 1 1\ncapacity 1024", 1024),
     ] {
         let script = read_script(rt.alloc(), text.as_bytes())?;

@@ -24,7 +24,7 @@ returns-clause-turned c =
     let at = desk.of c.args.node no_node inside in
     let lines : c.seat.new.self.wholes.items ≡ wholes = ap (λ v. v.items) c.seat.ensures.same_lines in
     let turned = subst (λ (k : NodeState). TurnsOverOf wholes k k.call c.turn_on.result after m) here
-        (subst (λ (l : List (WholeLine AnyWords)). TurnsOverOf l c.index_mut.result.now c.index_mut.result.now.call c.turn_on.result after m) lines c.turn_on.ensures.turns) in
+    (subst (λ (l : List (WholeLine AnyWords)). TurnsOverOf l c.index_mut.result.now c.index_mut.result.now.call c.turn_on.result after m) lines c.turn_on.ensures.turns) in
     let below = subst (λ (k : NodeState). IfSome k.call (λ d. line_by d.victim d.line < k.lines)) here c.turn_on.ensures.below in
     subst (λ (i : ℕ). TakesTurnOf (shared desk.size.nodes wholes nodes) c.args.node n.call c.turn_on.result (shared desk.size.nodes after (set nodes i m))) (sym place)
     (takes_turn desk.size.nodes wholes after nodes c.args.node c.turn_on.result m inside desk.widths n n.call refl at.0 (at.1 ∙ sym desk.lines) below turned)
