@@ -120,6 +120,7 @@ impl Node {
         requires lines { (B.way bank.old).lines ≡ self.old.lines }
         requires fits { IfSome self.old.call (λ c. StoresFitting (B.Keep.fits (B.keep bank.old) c.line) c.op.goal) }
         ensures turns { TurnsBy B.gives B.at_step self.old self.old.call bank.old result bank.new self.new }
+        ensures below { IfSome self.old.call (λ c. line_by c.victim c.line < self.old.lines) }
         ensures same_node { IsSameNode self.old self.new }
         ensures content { IfSome self.old.call (λ c. IfOk result (λ turn. ShowsAnswerTo (B.Keep.fits (B.keep bank.old) c.line) c.op.goal turn)) }
         ensures same_way { B.way bank.new ≡ B.way bank.old }

@@ -5,6 +5,7 @@ pub mod Runs
 pub mod Content
 pub mod Opened
 pub mod Followed
-pub mod Through
+pub mod Seated
 pub mod Desks
+pub mod Through
 pub mod Extended

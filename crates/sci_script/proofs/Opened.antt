@@ -1,14 +1,16 @@
--- Lines that nobody has used, one after the other.
-use Rattle.std.proofs.Common.{◌≡◌, ℕ, ◌+◌, ◌<◌, List, [], ◌∷◌, ◌++◌, length, get_or, All, arith, ap, sym, subst, ◌∙◌, inl, inr}
+-- Lines that nobody has used and nodes that have used none, one after the other.
+use Rattle.std.proofs.Common.{◌≡◌, ℕ, ◌+◌, ◌<◌, ◌≤◌, List, [], ◌∷◌, ◌++◌, length, get_or, All, None, arith, refl, ap, sym, subst, ◌∙◌, inl, inr}
 use Rattle.std.proofs.lemmas.Bool.{cases_lt}
 use Rattle.std.proofs.lemmas.List.{get_or_append_left, get_or_push, length-replicate}
 use Rattle.sci_core.specs.declared.keeps.AnyWords.{AnyWords}
 use Rattle.sci_core.specs.declared.lines.Line.{Line}
 use Rattle.sci_core.specs.State.{invalid}
 use Rattle.sci_core.specs.Whole.{WholeLine, nodes_of, opened_whole}
+use Rattle.sci_port.specs.Banks.{AreLinesOf}
+use Rattle.sci_cache.specs.Nodes.{NodeState, node_state}
 use Rattle.sci_script.specs.declared.commands.Opening.{Opening}
 use Rattle.sci_script.specs.Openings.{zeros, content_of}
-use Rattle.sci_script.specs.Unused.{AreOpened}
+use Rattle.sci_script.specs.Unused.{AreOpened, AreIdle}
 
 its_keep : (w : WholeLine AnyWords) (keep : AnyWords) (k nodes : ℕ) (line : Line) → w ≡ opened_whole keep k nodes line → w ≡ opened_whole w.keep k nodes line
 its_keep w keep k nodes line e = subst (λ (a : AnyWords). w ≡ opened_whole a k nodes line) (sym (ap (λ (x : WholeLine AnyWords). x.keep) e)) e
@@ -33,3 +35,26 @@ pub opened_widths : (nodes : ℕ) (openings : List Opening) (wholes : List (Whol
 opened_widths nodes openings wholes n count opened = λ k d lt.
     let lt-n : k < n = omega (arith, count) in
     ap (λ (w : WholeLine AnyWords). nodes_of w) (opened k d lt-n) ∙ length-replicate nodes invalid
+
+-- and nodes that have used none
+pub idle_push : (lines capacity : ℕ) (nodes : List NodeState) (n : ℕ) (node : NodeState) → length nodes ≡ n → AreIdle lines capacity n nodes → node ≡ node_state n lines capacity [] None
+    → AreIdle lines capacity (n + 1) (nodes ++ node ∷ [])
+idle_push lines capacity nodes n node count before e = λ k d lt.
+    elim (cases_lt k n) [
+      | inl less ↦ get_or_append_left nodes (node ∷ []) d k (omega (arith, count)) ∙ before k d less
+      | inr more ↦
+          let same : k ≡ n = omega arith in
+          subst (λ (j : ℕ). get_or (nodes ++ node ∷ []) j d ≡ node_state j lines capacity [] None) (sym same) (get_or_push nodes node d n count ∙ e)
+    ]
+
+-- the lines of a bank of their node
+pub are_lines : (nodes : ℕ) (openings : List Opening) (wholes : List (WholeLine AnyWords)) (n node : ℕ) → length wholes ≡ n → 0 < n → n ≤ 1024 → node < nodes → AreOpened nodes openings n wholes
+    → AreLinesOf (record {}) node wholes
+are_lines nodes openings wholes n node count some few below opened = record {
+  some = omega (arith, count, some);
+  few = omega (arith, count, few);
+  each = λ line d lt.
+      let here = opened line d (omega (arith, count, lt)) in
+      let wide : nodes_of (get_or wholes line d) ≡ nodes = ap (λ (w : WholeLine AnyWords). nodes_of w) here ∙ length-replicate nodes invalid in
+      record { number = ap (λ (w : WholeLine AnyWords). w.number) here; fact = refl; below = omega (arith, below, wide) };
+}

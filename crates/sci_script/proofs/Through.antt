@@ -3,7 +3,7 @@ use Rattle.std.proofs.Common.{ℕ, zero, suc, Bool, List, [], ◌∷◌, Option,
 use Rattle.sci_words.specs.declared.tags.Tag.{Tag}
 use Rattle.sci_script.specs.declared.commands.Step.{Step}
 use Rattle.sci_script.specs.declared.commands.Command.{Command}
-use Rattle.sci_script.specs.declared.commands.Command.TheVariants.{Begin, Turn, Done, List as ListLine, Tag as ShowTag}
+use Rattle.sci_script.specs.declared.commands.Command.TheVariants.{Begin, Turn, Done, List as ListLine, Tag as ShowTag, Residents}
 use Rattle.sci_script.specs.declared.refusals.ScriptRefusal.{ScriptRefusal}
 use Rattle.sci_script.specs.declared.refusals.ScriptRefusal.TheVariants.{OutOfMemory, BadCommand, BadNumber, NotDone, WriteFailed}
 use Rattle.sci_script.specs.Event.{Event, SawMem, SawTag}
@@ -44,6 +44,7 @@ module _ {S T : Type 0} (f : S → T) (is_open : T → ℕ → Bool) (does : T �
   prints words s (ListLine line) text t h =
       (f h.0, h.1, h.2, loads (SawMem line None) (SawMem line (Some h.1)) s h.0 h.3, walked line h.1.forw h.2 None h.0 t h.4, h.5)
   prints words s (ShowTag line node) text t h = (h.0, loads (SawTag line node None) (SawTag line node (Some h.0)) s t h.1, h.2)
+  prints words s (Residents node) text t h = h
 
   pub prints_all : (words : List ℕ) (s : S) (steps : List Step) (text : List ℕ) (t : S) → PrintsAll open_seen does_seen words s steps text t → PrintsAll is_open does words (f s) steps text (f t)
   prints_all words s [] text t h = (h.0, ap f h.1)
@@ -67,6 +68,7 @@ module _ {S T : Type 0} (f : S → T) (is_open : T → ℕ → Bool) (does : T �
       ⊎_elim (λ a. inl (repeats (SawMem line None) 100000 s t a))
       (λ b. inr (f b.0, b.1, loads (SawMem line None) (SawMem line (Some b.1)) s b.0 b.2, lost nodes line b.1.forw b.0 t b.3)) h
   no_end nodes s (ShowTag line node) t h = repeats (SawTag line node None) 100000 s t h
+  no_end nodes s (Residents node) t h = h
 
   out_of_place : (s : S) (command : Command) → IsOutOfPlace open_seen s command → IsOutOfPlace is_open (f s) command
   out_of_place s (Begin node line request) h = h
@@ -74,14 +76,16 @@ module _ {S T : Type 0} (f : S → T) (is_open : T → ℕ → Bool) (does : T �
   out_of_place s (Done node) h = h
   out_of_place s (ListLine line) h = h
   out_of_place s (ShowTag line node) h = h
+  out_of_place s (Residents node) h = h
 
   wants_memory : (s : S) (command : Command) (t : S) → WantsMemory open_seen does_seen s command t → WantsMemory is_open does (f s) command (f t)
-  wants_memory s (Begin node line request) t h = h
+  wants_memory s (Begin node line request) t h = (h.0, ap f h.1)
   wants_memory s (Turn node) t h = h
   wants_memory s (Done node) t h = (h.0, h.1, h.2, f h.3, unended node h.1 s h.3 h.4, h.5, h.6, h.7)
   wants_memory s (ListLine line) t h =
       (f h.0, h.1, loads (SawMem line None) (SawMem line (Some h.1)) s h.0 h.2, (h.3.0, h.3.1, walked line h.1.forw h.3.0 h.3.1 h.0 t h.3.2))
   wants_memory s (ShowTag line node) t h = (h.0, loads (SawTag line node None) (SawTag line node (Some h.0)) s t h.1)
+  wants_memory s (Residents node) t h = ap f h
 
   pub leaves : (nodes : ℕ) (s : S) (steps : List Step) (refusal : ScriptRefusal) (written : List ℕ) (t : S) → Leaves open_seen does_seen nodes s steps refusal written t → Leaves is_open does nodes (f s) steps refusal written (f t)
   leaves nodes s steps OutOfMemory written t h =

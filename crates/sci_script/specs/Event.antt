@@ -1,16 +1,17 @@
 -- A call of a desk, with its answer; and which turns end a node's call. This project's profile.
-use Rattle.std.specs.Prelude.{ℕ, Option}
+use Rattle.std.specs.Prelude.{ℕ, List, Option}
 use Rattle.sci_words.specs.declared.memory.Mem.{Mem}
 use Rattle.sci_words.specs.declared.tags.Tag.{Tag}
-use Rattle.sci_ops.specs.Operation.{Operation}
 use Rattle.sci_ops.specs.declared.answers.Turn.{Turn}
 use Rattle.sci_ops.specs.declared.answers.Turn.TheVariants.{Moved, Waiting, Done}
+use Rattle.sci_cache.specs.declared.requests.Request.{Request}
 
 pub data Event : Type 0 where
-  Began : (node line : ℕ) → (op : Operation) → Event
+  Began : (node : ℕ) → (request : Request) → Event
   Turned : (node : ℕ) → (turn : Turn) → Event
   SawMem : (line : ℕ) → (mem : Option Mem) → Event
   SawTag : (line node : ℕ) → (tag : Option Tag) → Event
+  SawResidents : (node : ℕ) → (lines : List ℕ) → Event
 
 -- the turn ended the call
 abbrev pub IsEnd : Turn → Type 0

@@ -1,4 +1,4 @@
--- What a script says: its size and its commands, or the first fault. This project's profile.
+-- What a script says: its size, its capacity and its commands, or the first fault. This project's profile.
 use Rattle.std.specs.Prelude.{◌≡◌, ℕ, ◌+◌, ◌-◌, ◌^◌, List, [], ◌∷◌, length, Option, Some, None, Result, Ok, Err, codes, nat_le, ◌==◌, ◌&&◌, if◌then◌else◌}
 use Rattle.std.specs.List.{list_all}
 use Rattle.std.specs.Str.{bytes_eq}
@@ -9,7 +9,7 @@ use Rattle.sci_script.specs.declared.commands.Step.{Step}
 use Rattle.sci_script.specs.declared.commands.Script.{Script}
 use Rattle.sci_script.specs.declared.commands.Command.{Command}
 use Rattle.sci_script.specs.declared.commands.Request.TheVariants.{Load, Store, Add, Evict}
-use Rattle.sci_script.specs.declared.commands.Command.TheVariants.{Begin, Turn, Done, List as ListLine, Tag as ShowTag}
+use Rattle.sci_script.specs.declared.commands.Command.TheVariants.{Begin, Turn, Done, List as ListLine, Tag as ShowTag, Residents}
 use Rattle.sci_script.specs.declared.refusals.ScriptRefusal.{ScriptRefusal}
 use Rattle.sci_script.specs.declared.refusals.ScriptRefusal.TheVariants.{OutOfMemory, BadCommand, BadNumber, NotDone, WriteFailed}
 use Rattle.sci_script.specs.Words.{is_plain, is_skipped, words_of, number_of}
@@ -96,7 +96,8 @@ change_at n word value = do
   value ← value_at n value
   Ok (word, value)
 
--- the words behind the name: `load N L W`, `store N L W V`, `add N L W V`, `evict N L`, `turn N`, `done N`, `list L`, `tag L N`
+-- the words behind the name: `load N L W`, `store N L W V`, `add N L W V`, `evict N L`, `turn N`, `done N`, `list L`, `tag L N`,
+-- `residents N`
 unfoldable pub load_at : ℕ → Size → List (List ℕ) → Result Command ScriptRefusal
 load_at n size (node ∷ line ∷ word ∷ []) = do
   node ← node_at n size node
@@ -151,13 +152,20 @@ tag_at n size (line ∷ node ∷ []) = do
   Ok (ShowTag line node)
 tag_at n size _ = Err (BadCommand n)
 
+unfoldable pub residents_at : ℕ → Size → List (List ℕ) → Result Command ScriptRefusal
+residents_at n size (node ∷ []) = do
+  node ← node_at n size node
+  Ok (Residents node)
+residents_at n size _ = Err (BadCommand n)
+
 -- a command that begins no call
 unfoldable pub other_at : ℕ → Size → List ℕ → List (List ℕ) → Result Command ScriptRefusal
 other_at n size name args =
     if bytes_eq name (codes "turn") then turn_at n size args else
     (if bytes_eq name (codes "done") then done_at n size args else
     (if bytes_eq name (codes "list") then list_at n size args else
-    (if bytes_eq name (codes "tag") then tag_at n size args else Err (BadCommand n))))
+    (if bytes_eq name (codes "tag") then tag_at n size args else
+    (if bytes_eq name (codes "residents") then residents_at n size args else Err (BadCommand n)))))
 
 -- a command
 unfoldable pub command_at : ℕ → Size → List (List ℕ) → Result Command ScriptRefusal
@@ -167,6 +175,21 @@ command_at n size (name ∷ args) =
     (if bytes_eq name (codes "store") then store_at n size args else
     (if bytes_eq name (codes "add") then add_at n size args else
     (if bytes_eq name (codes "evict") then evict_at n size args else other_at n size name args)))
+
+-- the words behind the name: `capacity C`
+unfoldable pub bound_at : ℕ → List (List ℕ) → Result ℕ ScriptRefusal
+bound_at n (capacity ∷ []) = number_at n 1 1024 capacity
+bound_at n _ = Err (BadCommand n)
+
+-- a capacity, where the words are one
+unfoldable pub bound_of : ℕ → List (List ℕ) → Result (Option ℕ) ScriptRefusal
+bound_of n [] = Ok None
+bound_of n (name ∷ args) =
+    if bytes_eq name (codes "capacity")
+    then (do
+      capacity ← bound_at n args
+      Ok (Some capacity))
+    else Ok None
 
 -- an opening, where the words are one
 unfoldable pub opening_of : ℕ → Size → List (List ℕ) → Result (Option Opening) ScriptRefusal
@@ -203,20 +226,32 @@ openings_of size (entry ∷ entries) = do
     | Some opening ↦ openings_of size entries >>= λ more. Ok (opening ∷ more.0, more.1)
   ]
 
+-- the capacity, 1,024 where none stands in front, and the entries behind it
+unfoldable pub capacity_of : List (ℕ × List ℕ) → Result (ℕ × List (ℕ × List ℕ)) ScriptRefusal
+capacity_of [] = Ok (1024, [])
+capacity_of (entry ∷ entries) = do
+  words ← words_at entry.0 entry.1
+  found ← bound_of entry.0 words
+  elim found [
+    | None ↦ Ok (1024, entry ∷ entries)
+    | Some capacity ↦ Ok (capacity, entries)
+  ]
+
 -- the entries of a script, where end is one past the last line
-unfoldable pub meaning_of : ℕ → List (ℕ × List ℕ) → Result (Size × List Opening × List Step) ScriptRefusal
+unfoldable pub meaning_of : ℕ → List (ℕ × List ℕ) → Result (Size × ℕ × List Opening × List Step) ScriptRefusal
 meaning_of end [] = Err (BadCommand end)
 meaning_of end (first ∷ entries) = do
   words ← words_at first.0 first.1
   size ← size_at first.0 words
-  front ← openings_of size entries
+  bound ← capacity_of entries
+  front ← openings_of size bound.1
   steps ← steps_of size front.1
-  Ok (size, front.0, steps)
+  Ok (size, bound.0, front.0, steps)
 
 -- a whole script
-unfoldable pub script_of : List ℕ → Result (Size × List Opening × List Step) ScriptRefusal
+unfoldable pub script_of : List ℕ → Result (Size × ℕ × List Opening × List Step) ScriptRefusal
 script_of text = meaning_of (length (lines text) + 1) (entries_from 1 (lines text))
 
 -- a script without where it lies in memory
-abbrev pub view : Script → Size × List Opening × List Step
-view s = (s.size, s.openings.items, s.steps.items)
+abbrev pub view : Script → Size × ℕ × List Opening × List Step
+view s = (s.size, s.capacity, s.openings.items, s.steps.items)

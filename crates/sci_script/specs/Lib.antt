@@ -8,8 +8,8 @@ pub mod Text
 pub mod Run
 pub mod Turns
 pub mod Shared
-pub mod Calls
 pub mod Unused
+pub mod Nodes
 pub mod Wholes
 pub mod ScriptText
 pub mod Refusals

@@ -1,18 +1,17 @@
 -- What the commands that begin a call ask for. This project's profile.
 use Rattle.std.specs.Prelude.{ℕ, List, slice_set, replicate}
-use Rattle.sci_ops.specs.declared.goals.Goal as a_goal
-use Rattle.sci_ops.specs.declared.goals.Write as a_write
+use Rattle.sci_cache.specs.declared.requests.Request as a_request
 use Rattle.sci_script.specs.declared.commands.Request.{Request}
 use Rattle.sci_script.specs.declared.commands.Request.TheVariants.{Load, Store, Add, Evict}
 use Rattle.sci_script.specs.declared.commands.Command.{Command}
 use Rattle.sci_script.specs.declared.commands.Command.TheVariants.{Begin}
 
--- what its operation is for
-abbrev pub goal_of : Request → a_goal.Goal
-goal_of (Load word) = a_goal.Goal.Load
-goal_of (Store word value) = a_goal.Goal.Write (a_write.Write.Store word value)
-goal_of (Add word delta) = a_goal.Goal.Write (a_write.Write.Add word delta)
-goal_of Evict = a_goal.Goal.Evict
+-- what the node is asked for
+abbrev pub asked : ℕ → Request → a_request.Request
+asked line (Load word) = a_request.Request.Load line
+asked line (Store word value) = a_request.Request.Store line word value
+asked line (Add word delta) = a_request.Request.Add line word delta
+asked line Evict = a_request.Request.Evict line
 
 -- for each node the word that its last load is to show, before any load
 abbrev pub no_words : List ℕ

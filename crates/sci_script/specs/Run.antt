@@ -5,15 +5,14 @@ use Rattle.std.specs.Prelude.{◌≡◌, ◌⊎◌, ℕ, zero, suc, ◌<◌, Boo
 use Rattle.sci_words.specs.declared.memory.Mem.{Mem}
 use Rattle.sci_words.specs.declared.tags.Tag.{Tag}
 use Rattle.sci_ops.specs.declared.answers.Turn.{Turn as Outcome}
-use Rattle.sci_ops.specs.Table.{begun}
 use Rattle.sci_script.specs.declared.commands.Step.{Step}
 use Rattle.sci_script.specs.declared.commands.Command.{Command}
-use Rattle.sci_script.specs.declared.commands.Command.TheVariants.{Begin, Turn, Done, List as ListLine, Tag as ShowTag}
+use Rattle.sci_script.specs.declared.commands.Command.TheVariants.{Begin, Turn, Done, List as ListLine, Tag as ShowTag, Residents}
 use Rattle.sci_script.specs.declared.refusals.ScriptRefusal.{ScriptRefusal}
 use Rattle.sci_script.specs.declared.refusals.ScriptRefusal.TheVariants.{OutOfMemory, BadCommand, BadNumber, NotDone, WriteFailed}
-use Rattle.sci_script.specs.Event.{Event, Began, Turned, SawMem, SawTag, IsEnd, IsNoEnd}
-use Rattle.sci_script.specs.Request.{goal_of, no_words, words_after}
-use Rattle.sci_script.specs.Text.{turn_text, list_line, tag_line}
+use Rattle.sci_script.specs.Event.{Event, Began, Turned, SawMem, SawTag, SawResidents, IsEnd, IsNoEnd}
+use Rattle.sci_script.specs.Request.{asked, no_words, words_after}
+use Rattle.sci_script.specs.Text.{turn_text, list_line, tag_line, residents_line}
 
 -- n turns of the node's call, none of which ends it
 unfoldable pub Unended : {S : Type 0} → (S → Event → S → Type 0) → ℕ → ℕ → S → S → Type 0
@@ -38,13 +37,14 @@ Walked {S} does line (Some node) (entry ∷ entries) next s t = (mid : S) × (ta
 
 -- from s, the command may print this text and go on to t
 abbrev pub Prints : {S : Type 0} → (S → ℕ → Bool) → (S → Event → S → Type 0) → List ℕ → S → Command → List ℕ → S → Type 0
-Prints is_open does words s (Begin node line request) text t = (is_open s node ≡ false) × does s (Began node line (begun (goal_of request))) t × (text ≡ [])
+Prints is_open does words s (Begin node line request) text t = (is_open s node ≡ false) × does s (Began node (asked line request)) t × (text ≡ [])
 Prints is_open does words s (Turn node) text t = (is_open s node ≡ true) × (o : Outcome) × does s (Turned node o) t × (text ≡ turn_text node (slice_index words node) o)
 Prints {S} is_open does words s (Done node) text t = (is_open s node ≡ true) × (n : ℕ) × (n < 100000) × (mid : S) × Unended does node n s mid × (o : Outcome) × IsEnd o × does mid (Turned node o) t
     × (text ≡ turn_text node (slice_index words node) o)
 Prints {S} is_open does words s (ListLine line) text t = (mid : S) × (mem : Mem) × (entries : List (ℕ × Tag)) × Loads does (SawMem line None) (SawMem line (Some mem)) s mid
     × Walked does line mem.forw entries None mid t × (text ≡ list_line line mem entries)
 Prints is_open does words s (ShowTag line node) text t = (tag : Tag) × Loads does (SawTag line node None) (SawTag line node (Some tag)) s t × (text ≡ tag_line line node tag)
+Prints is_open does words s (Residents node) text t = (lines : List ℕ) × does s (SawResidents node lines) t × (text ≡ residents_line node lines)
 
 -- the commands print this text, one after the other
 abbrev pub PrintsAll : {S : Type 0} → (S → ℕ → Bool) → (S → Event → S → Type 0) → List ℕ → S → List Step → List ℕ → S → Type 0
@@ -59,6 +59,7 @@ IsOutOfPlace is_open s (Turn node) = is_open s node ≡ false
 IsOutOfPlace is_open s (Done node) = is_open s node ≡ false
 IsOutOfPlace is_open s (ListLine line) = ⊥
 IsOutOfPlace is_open s (ShowTag line node) = ⊥
+IsOutOfPlace is_open s (Residents node) = ⊥
 
 -- from s to t, a walk along these links comes to an entry whose tag is not to be had, or to more entries than nodes
 abbrev pub IsLost : {S : Type 0} → (S → Event → S → Type 0) → ℕ → ℕ → Option ℕ → S → S → Type 0
@@ -73,18 +74,21 @@ IsUnended is_open does nodes s (Done node) t = (is_open s node ≡ true) × Unen
 IsUnended {S} is_open does nodes s (ListLine line) t = Repeats does (SawMem line None) 100000 s t
     ⊎ ((mid : S) × (mem : Mem) × Loads does (SawMem line None) (SawMem line (Some mem)) s mid × IsLost does nodes line mem.forw mid t)
 IsUnended is_open does nodes s (ShowTag line node) t = Repeats does (SawTag line node None) 100000 s t
+IsUnended is_open does nodes s (Residents node) t = ⊥
 
 -- from s to t, a walk along these links, wherever it came
 abbrev pub Walks : {S : Type 0} → (S → Event → S → Type 0) → ℕ → Option ℕ → S → S → Type 0
 Walks does line from s t = (entries : List (ℕ × Tag)) × (next : Option ℕ) × Walked does line from entries next s t
 
--- what a command did before memory was refused, from s to t: its turns or its loads; how far the walk along a list came is open
+-- what a command did before memory was refused, from s to t: its turns or its loads, and else nothing; how far the walk along a
+-- list came is open
 abbrev pub WantsMemory : {S : Type 0} → (S → ℕ → Bool) → (S → Event → S → Type 0) → S → Command → S → Type 0
-WantsMemory is_open does s (Begin node line request) t = ⊥
+WantsMemory is_open does s (Begin node line request) t = (is_open s node ≡ false) × (t ≡ s)
 WantsMemory is_open does s (Turn node) t = (is_open s node ≡ true) × (o : Outcome) × does s (Turned node o) t
 WantsMemory {S} is_open does s (Done node) t = (is_open s node ≡ true) × (n : ℕ) × (n < 100000) × (mid : S) × Unended does node n s mid × (o : Outcome) × IsEnd o × does mid (Turned node o) t
 WantsMemory {S} is_open does s (ListLine line) t = (mid : S) × (mem : Mem) × Loads does (SawMem line None) (SawMem line (Some mem)) s mid × Walks does line mem.forw mid t
 WantsMemory is_open does s (ShowTag line node) t = (tag : Tag) × Loads does (SawTag line node None) (SawTag line node (Some tag)) s t
+WantsMemory is_open does s (Residents node) t = t ≡ s
 
 -- how one command fails
 abbrev pub StopsAt : {S : Type 0} → (S → ℕ → Bool) → (S → Event → S → Type 0) → ℕ → S → Step → ScriptRefusal → S → Type 0

@@ -1,12 +1,12 @@
 -- What a script's memory has, and which commands fit it. This project's profile.
-use Rattle.std.specs.Prelude.{◌≡◌, ◌≤◌, Bool, true, ◌&&◌, nat_lt, List}
+use Rattle.std.specs.Prelude.{◌≡◌, ◌≤◌, ℕ, Bool, true, ◌&&◌, nat_lt, List}
 use Rattle.std.specs.List.{list_all}
 use Rattle.sci_script.specs.declared.commands.Size.{Size}
 use Rattle.sci_script.specs.declared.commands.Request.{Request}
 use Rattle.sci_script.specs.declared.commands.Request.TheVariants.{Load, Store, Add, Evict}
 use Rattle.sci_script.specs.declared.commands.Step.{Step}
 use Rattle.sci_script.specs.declared.commands.Command.{Command}
-use Rattle.sci_script.specs.declared.commands.Command.TheVariants.{Begin, Turn, Done, List as ListLine, Tag as ShowTag}
+use Rattle.sci_script.specs.declared.commands.Command.TheVariants.{Begin, Turn, Done, List as ListLine, Tag as ShowTag, Residents}
 
 -- 1 to 64 nodes, 1 to 1,024 lines
 pub record IsSize (size : Size) : Type 0 where
@@ -14,6 +14,10 @@ pub record IsSize (size : Size) : Type 0 where
   pub few_nodes : size.nodes ≤ 64
   pub some_lines : 1 ≤ size.lines
   pub few_lines : size.lines ≤ 1024
+
+-- a node may name 1 to 1,024 lines
+abbrev pub IsCapacity : ℕ → Type 0
+IsCapacity capacity = (1 ≤ capacity) × (capacity ≤ 1024)
 
 -- a request of a word that a line has
 abbrev pub is_request : Request → Bool
@@ -29,6 +33,7 @@ is_in size (Turn node) = nat_lt node size.nodes
 is_in size (Done node) = nat_lt node size.nodes
 is_in size (ListLine line) = nat_lt line size.lines
 is_in size (ShowTag line node) = nat_lt line size.lines && nat_lt node size.nodes
+is_in size (Residents node) = nat_lt node size.nodes
 
 abbrev pub IsIn : Size → Command → Type 0
 IsIn size command = is_in size command ≡ true

@@ -76,3 +76,7 @@ abbrev pub tag_line : ℕ → ℕ → Tag → List ℕ
 tag_line line node tag =
     codes "tag " ++ decimal line ++ codes " " ++ entry_text (node, tag)
     ++ codes " forw " ++ link_text tag.forw ++ codes " back " ++ link_text tag.back ++ held_text tag.held ++ codes "\n"
+
+-- `node N residents`, then each line after a space
+abbrev pub residents_line : ℕ → List ℕ → List ℕ
+residents_line node lines = codes "node " ++ decimal node ++ codes " residents" ++ flat_map (λ line. codes " " ++ decimal line) lines ++ codes "\n"

@@ -4,4 +4,4 @@ use Rattle.sci_script.specs.Shared.{Shared}
 use Rattle.sci_script.specs.Unused.{shared}
 
 abbrev pub shared_of : WholeDesk → Shared
-shared_of d = shared d.size.nodes d.wholes.items d.calls.items
+shared_of d = shared d.size.nodes d.bank.wholes.items d.nodes.items

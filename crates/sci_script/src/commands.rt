@@ -1,6 +1,9 @@
 //! What a script says.
 
-ghost use Rattle.sci_script.specs.Size.{IsSize, AreIn};
+ghost use Rattle.std.specs.Prelude.{◌≡◌, true, false};
+ghost use Rattle.sci_cache.specs.Requests.{has_bad_word};
+ghost use Rattle.sci_script.specs.Request.{asked};
+ghost use Rattle.sci_script.specs.Size.{IsSize, IsCapacity, AreIn, is_request};
 
 use sci_core::Line;
 use sci_words::{LineNo, NodeId};
@@ -23,6 +26,22 @@ pub enum Request {
     Add { word: u8, delta: u64 },
     /// To leave the line's sharing list.
     Evict,
+}
+
+impl Request {
+    /// What the node is asked for, on this line.
+    pub fn on(self, line: LineNo) -> sci_cache::Request
+        requires { is_request self ≡ true }
+        ensures value { result ≡ asked line self }
+        ensures word { has_bad_word result ≡ false }
+    {
+        match self {
+            Request::Load { .. } => sci_cache::Request::Load { line },
+            Request::Store { word, value } => sci_cache::Request::Store { line, word, value },
+            Request::Add { word, delta } => sci_cache::Request::Add { line, word, delta },
+            Request::Evict => sci_cache::Request::Evict { line },
+        }
+    }
 }
 
 #[derive(Clone, Copy, Debug, PartialEq, Eq)]
@@ -48,6 +67,10 @@ pub enum Command {
     /// Prints the node's tag on the line.
     Tag {
         line: LineNo,
+        node: NodeId,
+    },
+    /// Prints the lines that the node names.
+    Residents {
         node: NodeId,
     },
 }
@@ -85,9 +108,11 @@ impl Opening {
 #[derive(Debug, Drop)]
 pub struct Script {
     pub(crate) size: Size,
+    pub(crate) capacity: u16,
     pub(crate) openings: Vec<Opening>,
     pub(crate) steps: Vec<Step>,
     ghost is_size: { IsSize size },
+    ghost is_capacity: { IsCapacity capacity },
     ghost fits: { AreIn size steps.items },
 }
 
@@ -109,6 +134,14 @@ impl Script {
         ensures range { (1 ≤ result) × (result ≤ 1024) }
     {
         self.size.lines
+    }
+
+    /// How many lines a node may name, 1 to 1,024: what the script says, or else 1,024.
+    pub fn capacity(&self) -> u16
+        ensures value { result ≡ self.now.capacity }
+        ensures range { (1 ≤ result) × (result ≤ 1024) }
+    {
+        self.capacity
     }
 
     /// What the line opens with: its last opening, or zeros.

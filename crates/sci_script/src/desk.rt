@@ -1,13 +1,16 @@
 //! What a script is run over.
-ghost use Rattle.std.specs.Prelude.{◌≡◌, ◌<◌, ℕ, Bool, true, false, Some, IfSome};
+ghost use Rattle.std.specs.Prelude.{◌≡◌, ◌<◌, ℕ, Bool, true, false, Some, IfSome, IfOk, OnOk, OnErr};
+ghost use Rattle.sci_cache.specs.Requests.{line_of, has_bad_word};
 ghost use Rattle.sci_script.specs.declared.commands.Size.{Size};
-ghost use Rattle.sci_script.specs.Event.{Event, Began, Turned, SawMem, SawTag, IsNoEnd};
+ghost use Rattle.sci_script.specs.Event.{Event, Began, Turned, SawMem, SawTag, SawResidents, IsNoEnd};
 
-use sci_ops::{Op, Turn};
+use sci_cache::Request;
+use sci_ops::Turn;
 use sci_words::{LineNo, Mem, NodeId, Tag};
+use std::alloc::{AllocError, Global};
 
-/// Nodes and lines, and each node's open call, where it has one. What a call answers, and how the desk stands after it, is the
-/// implementation's own to say, by `does`.
+/// Nodes and lines, the lines that each node names, and each node's open call, where it has one. What a call answers, and how the
+/// desk stands after it, is the implementation's own to say, by `does`.
 pub trait Desk {
     /// How many nodes and lines there are. No call changes it.
     ghost size: { Self → Size };
@@ -23,12 +26,14 @@ pub trait Desk {
         requires { node < (size self.now).nodes }
         ensures { result ≡ is_open self.now node };
 
-    /// Begins an operation of the node on the line. None of its calls is open.
-    fn begin(&mut self, node: NodeId, line: LineNo, op: Op)
+    /// Begins a call of the node, which has none open. Where memory ran out, all is as before.
+    fn begin(&mut self, node: NodeId, request: Request) -> Result<(), AllocError>
         requires node { node < (size self.old).nodes }
-        requires line { line < (size self.old).lines }
+        requires line { line_of request < (size self.old).lines }
+        requires word { has_bad_word request ≡ false }
         requires closed { is_open self.old node ≡ false }
-        ensures began { does self.old (Began node line op) self.new }
+        ensures began { OnOk result (does self.old (Began node request) self.new) }
+        ensures same { OnErr result (self.new ≡ self.old) }
         ensures size { size self.new ≡ size self.old };
 
     /// Takes one turn of the node's open call. A call that a turn doesn't end stays open.
@@ -38,6 +43,11 @@ pub trait Desk {
         ensures turned { does self.old (Turned node result) self.new }
         ensures open { IsNoEnd result → is_open self.new node ≡ true }
         ensures size { size self.new ≡ size self.old };
+
+    /// The lines that the node names, most recent first.
+    fn resident(&self, alloc: Global, node: NodeId) -> Result<Vec<LineNo>, AllocError>
+        requires { node < (size self.now).nodes }
+        ensures { IfOk result (λ lines. does self.now (SawResidents node lines.items) self.now) };
 
     /// The line's memory word. None: it was not to be had.
     fn mem(&mut self, line: LineNo) -> Option<Mem>

@@ -1,8 +1,8 @@
 //! The commands, each of one line.
 
-ghost use Rattle.std.specs.Prelude.{◌≡◌, ◌<◌, ◌≤◌, map, length, IfOk};
-ghost use Rattle.sci_script.specs.Size.{IsSize, IsIn};
-ghost use Rattle.sci_script.specs.Format.{Gives, node_at, line_at, value_at, values_at, place_at, change_at, size_at, opening_at, opening_of, load_at, store_at, add_at, evict_at, turn_at, done_at, list_at, tag_at, other_at, command_at};
+ghost use Rattle.std.specs.Prelude.{◌≡◌, ◌<◌, ◌≤◌, map, length, IfOk, IfSome};
+ghost use Rattle.sci_script.specs.Size.{IsSize, IsCapacity, IsIn};
+ghost use Rattle.sci_script.specs.Format.{Gives, node_at, line_at, value_at, values_at, place_at, change_at, size_at, opening_at, opening_of, load_at, store_at, add_at, evict_at, turn_at, done_at, list_at, tag_at, residents_at, other_at, command_at, bound_at, bound_of};
 
 use crate::commands::{Command, Opening, Request, Size};
 use crate::numbers::number_within;
@@ -79,6 +79,30 @@ fn opened(number: u64, size: Size, args: &[&[u8]]) -> Result<Opening, ScriptRefu
             })
         }
         _ => Err(ScriptRefusal::BadCommand(number)),
+    }
+}
+
+/// `capacity C`
+#[tactic(auto, unfolding(crate::specs::Format::bound_at))]
+fn bounded(number: u64, args: &[&[u8]]) -> Result<u16, ScriptRefusal>
+    ensures exact { Gives (λ c. c) result (bound_at number (map (λ w. w.now) args.now)) }
+    ensures range { IfOk result IsCapacity }
+{
+    match args {
+        [capacity] => Ok(number_within(number, 1, 1024, capacity)? as u16),
+        _ => Err(ScriptRefusal::BadCommand(number)),
+    }
+}
+
+/// A capacity, where the words are one.
+#[tactic(auto, unfolding(crate::specs::Format::bound_of))]
+pub fn bound(number: u64, words: &[&[u8]]) -> Result<Option<u16>, ScriptRefusal>
+    ensures exact { Gives (λ c. c) result (bound_of number (map (λ w. w.now) words.now)) }
+    ensures range { IfOk result (λ found. IfSome found IsCapacity) }
+{
+    match words {
+        [name, args @ ..] if *name == b"capacity".as_slice() => Ok(Some(bounded(number, args)?)),
+        _ => Ok(None),
     }
 }
 
@@ -271,6 +295,22 @@ fn tag(number: u64, size: Size, args: &[&[u8]]) -> Result<Command, ScriptRefusal
     }
 }
 
+/// `residents N`
+#[tactic(auto, unfolding(crate::specs::Format::residents_at))]
+fn residents(number: u64, size: Size, args: &[&[u8]]) -> Result<Command, ScriptRefusal>
+    requires { IsSize size }
+    ensures exact { Gives (λ c. c) result (residents_at number size (map (λ w. w.now) args.now)) }
+    ensures fits { IfOk result (IsIn size) }
+{
+    match args {
+        [n] => {
+            let node = node(number, size, n)?;
+            Ok(Command::Residents { node })
+        }
+        _ => Err(ScriptRefusal::BadCommand(number)),
+    }
+}
+
 /// A command that begins no call.
 #[tactic(auto, unfolding(crate::specs::Format::other_at))]
 fn other(number: u64, size: Size, name: &[u8], args: &[&[u8]]) -> Result<Command, ScriptRefusal>
@@ -286,6 +326,8 @@ fn other(number: u64, size: Size, name: &[u8], args: &[&[u8]]) -> Result<Command
         list(number, size, args)
     } else if name == b"tag".as_slice() {
         tag(number, size, args)
+    } else if name == b"residents".as_slice() {
+        residents(number, size, args)
     } else {
         Err(ScriptRefusal::BadCommand(number))
     }

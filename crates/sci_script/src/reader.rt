@@ -3,11 +3,11 @@
 ghost use Rattle.std.specs.Prelude.{◌≡◌, ◌<◌, ◌≤◌, ◌+◌, ◌^◌, ◌∷◌, [], ◌==◌, length, IfOk, IfErr};
 ghost use Rattle.std.specs.List.{position};
 ghost use Rattle.std.specs.Str.Lines.{lines, strip_carriage_return};
-ghost use Rattle.sci_script.specs.Size.{IsSize, AreIn};
-ghost use Rattle.sci_script.specs.Format.{Gives, entries_from, openings_of, steps_of, meaning_of, script_of, view};
+ghost use Rattle.sci_script.specs.Size.{IsSize, IsCapacity, AreIn};
+ghost use Rattle.sci_script.specs.Format.{Gives, entries_from, capacity_of, openings_of, steps_of, meaning_of, script_of, view};
 
 use crate::commands::{Opening, Script, Size, Step};
-use crate::line_commands::{command, opening, size};
+use crate::line_commands::{bound, command, opening, size};
 use crate::line_words::{is_skipped, split_line};
 use crate::refusals::ScriptRefusal;
 use std::alloc::Global;
@@ -71,6 +71,48 @@ fn first_entry(number: u64, text: &[u8]) -> Result<Entry<'_>, u64>
         at += 1;
     }
     Err(at)
+}
+
+/// How many lines a node may name where a script doesn't say.
+const UNBOUNDED: u16 = 1024;
+
+/// The capacity, and where the reading goes on.
+#[derive(Drop)]
+struct Bound<'a> {
+    capacity: u16,
+    number: u64,
+    rest: &'a [u8],
+}
+
+/// The capacity from line `number` on, in the list of words that was used for the lines before.
+#[tactic(auto, unfolding(crate::specs::Format::capacity_of))]
+fn capacity<'a>(
+    words: &mut Vec<&'a [u8]>,
+    number: u64,
+    text: &'a [u8],
+) -> Result<Bound<'a>, ScriptRefusal>
+    requires { number + length text.now < 2 ^ 64 }
+    ensures exact { Gives (λ b. (b.capacity, entries_from b.number (lines b.rest.now))) result (capacity_of (entries_from number (lines text.now))) }
+    ensures range { IfOk result (λ b. IsCapacity b.capacity) }
+    ensures few { IfOk result (λ b. b.number + length b.rest.now < 2 ^ 64) }
+{
+    let unbounded = Bound {
+        capacity: UNBOUNDED,
+        number,
+        rest: text,
+    };
+    let Ok(entry) = first_entry(number, text) else {
+        return Ok(unbounded);
+    };
+    split_line(words, entry.number, entry.line)?;
+    let Some(capacity) = bound(entry.number, words)? else {
+        return Ok(unbounded);
+    };
+    Ok(Bound {
+        capacity,
+        number: entry.number + 1,
+        rest: entry.rest,
+    })
 }
 
 /// The openings in front, and where the reading goes on.
@@ -144,11 +186,14 @@ pub fn read_script(alloc: Global, text: &[u8]) -> Result<Script, ScriptRefusal>
     let mut words = Vec::new(alloc);
     split_line(&mut words, first.number, first.line)?;
     let size = size(first.number, &words)?;
-    let front = openings(alloc, size, first.number + 1, first.rest)?;
+    let bound = capacity(&mut words, first.number + 1, first.rest)?;
+    let front = openings(alloc, size, bound.number, bound.rest)?;
     let steps = steps(alloc, size, front.number, front.rest)?;
+    let capacity = bound.capacity;
     let openings = front.openings;
     Ok(Script {
         size,
+        capacity,
         openings,
         steps,
     })

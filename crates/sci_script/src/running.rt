@@ -1,38 +1,24 @@
 //! Runs a script.
 ghost use Rattle.std.specs.Prelude.{◌≡◌, ◌<◌, ◌≤◌, ℕ, [], true, Some, string_bytes, IfOk, IfErr, OnOk, All, MatchBool, MatchOption};
-ghost use Rattle.sci_ops.specs.Table.{begun};
 ghost use Rattle.sci_script.specs.declared.commands.Command.TheVariants.{Done, List as ListLine};
-ghost use Rattle.sci_script.specs.Size.{is_request, IsIn};
+ghost use Rattle.sci_script.specs.Size.{IsIn};
 ghost use Rattle.sci_script.specs.Event.{Turned, IsEnd, IsNoEnd};
-ghost use Rattle.sci_script.specs.Request.{goal_of, words_after};
+ghost use Rattle.sci_script.specs.Request.{words_after};
 ghost use Rattle.sci_script.specs.Run.{Unended, Prints, StopsAt};
 
 use crate::commands::{Command, Request, Script, Size, Step};
 use crate::desk::Desk;
 use crate::loading::{load_mem, load_tag, walk};
 use crate::refusals::ScriptRefusal;
-use crate::texts::{list_text, tag_text, turn_text};
+use crate::texts::{list_text, residents_text, tag_text, turn_text};
 use crate::writing::put;
-use sci_ops::{Op, Turn};
+use sci_ops::Turn;
 use sci_words::{LineNo, NodeId};
 use std::alloc::Global;
 use std::io::Write;
 
 /// How many turns a call may take under `done`.
 const TURNS: u32 = 100_000;
-
-/// The operation that is asked for, begun.
-fn op(request: Request) -> Op
-    requires { is_request request ≡ true }
-    ensures { result ≡ begun (goal_of request) }
-{
-    match request {
-        Request::Load { .. } => Op::load(),
-        Request::Store { word, value } => Op::store(word, value).unwrap(),
-        Request::Add { word, delta } => Op::add(word, delta).unwrap(),
-        Request::Evict => Op::evict(),
-    }
-}
 
 /// Whether the turn ended the call.
 pub fn is_end(turn: Turn) -> bool
@@ -131,7 +117,7 @@ fn perform<D: Desk>(
             if desk.open(node) {
                 return Err(ScriptRefusal::BadCommand(number));
             }
-            desk.begin(node, line, op(request));
+            desk.begin(node, request.on(line))?;
             Ok(())
         }
         Command::Turn { node } => {
@@ -156,6 +142,11 @@ fn perform<D: Desk>(
                 return Err(ScriptRefusal::NotDone(number));
             };
             *text = tag_text(alloc, line, node, tag)?;
+            Ok(())
+        }
+        Command::Residents { node } => {
+            let lines = desk.resident(alloc, node)?;
+            *text = residents_text(alloc, node, &lines)?;
             Ok(())
         }
     }

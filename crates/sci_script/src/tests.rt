@@ -5,6 +5,7 @@ mod desks;
 mod growths;
 mod long_texts;
 mod memory;
+mod residents;
 mod rows;
 mod sizes;
 mod widths;

@@ -1,7 +1,9 @@
 //! The printed lines.
 
-ghost use Rattle.std.specs.Prelude.{◌≡◌, ◌<◌, ◌++◌, IfOk, OnOk, string_bytes};
-ghost use Rattle.sci_script.specs.Text.{read_line, wrote_line, out_line, spent_line, answer_line, wait_line, turn_text, entry_text, entries_text, chain_text, list_line, link_text, held_text, tag_line};
+ghost use Rattle.std.specs.Prelude.{◌≡◌, ◌<◌, ◌++◌, IfOk, OnOk, string_bytes, codes};
+ghost use Rattle.std.specs.Fmt.{decimal};
+ghost use Rattle.std.specs.List.{flat_map};
+ghost use Rattle.sci_script.specs.Text.{read_line, wrote_line, out_line, spent_line, answer_line, wait_line, turn_text, entry_text, entries_text, chain_text, list_line, link_text, held_text, tag_line, residents_line};
 
 use sci_ops::{Answer, Turn};
 use sci_words::{LineNo, Mem, NodeId, Tag, mem_name, name};
@@ -138,6 +140,26 @@ pub fn tag_text(alloc: Global, line: LineNo, node: NodeId, tag: Tag) -> Result<S
     if held {
         text.push_str(" held")?;
     }
+    text.push_str("\n")?;
+    Ok(text)
+}
+
+fn push_lines(text: &mut String, lines: &[LineNo]) -> Result<(), AllocError>
+    ensures { OnOk result (string_bytes text.new ≡ string_bytes text.old ++ flat_map (λ line. codes " " ++ decimal line) lines.now) }
+{
+    for line in lines {
+        write!(text, " {line}")?;
+    }
+    Ok(())
+}
+
+/// What `residents` prints, `node N residents`, each line after a space, and a line feed.
+pub fn residents_text(alloc: Global, node: NodeId, lines: &[LineNo]) -> Result<String, AllocError>
+    ensures { IfOk result (λ text. string_bytes text ≡ residents_line node lines.now) }
+{
+    let node = node.get();
+    let mut text = format!(in alloc; "node {node} residents")?;
+    push_lines(&mut text, lines)?;
     text.push_str("\n")?;
     Ok(text)
 }

@@ -1,36 +1,29 @@
 //! A desk of whole lines.
-ghost use Rattle.std.specs.Prelude.{◌≡◌, ◌<◌, true, length, vec_len, All, IfOk};
-ghost use Rattle.sci_core.specs.Whole.{IsSameLine, nodes_of, state_of};
-ghost use Rattle.sci_script.specs.Calls.{is_call};
-ghost use Rattle.sci_script.specs.Turns.{TurnsOn};
-ghost use Rattle.sci_script.specs.Unused.{AreOpened};
+ghost use Rattle.std.specs.Prelude.{◌≡◌, ◌<◌, ℕ, true, length, is_some, vec_len, All, IfOk, IfSome};
+ghost use Rattle.sci_core.specs.Whole.{nodes_of};
+ghost use Rattle.sci_cache.specs.Nodes.{IsSameNode, line_by};
+ghost use Rattle.sci_script.specs.Nodes.{AreNodesOf, TurnsOverOf, whole_of};
+ghost use Rattle.sci_script.specs.Unused.{AreOpened, AreIdle};
 
 use crate::commands::{Script, Size};
 use crate::desk::Desk;
-use crate::running::is_end;
+use sci_cache::{Node, Request};
 use sci_core::{AnyWords, Whole};
-use sci_ops::{Op, Turn};
-use sci_port::Solo;
+use sci_ops::Turn;
+use sci_port::{Bank, SoloBank};
 use sci_words::{LineNo, Mem, NodeId, Tag};
 use std::alloc::{AllocError, Global};
 
-/// An open call of a node: its line, and its operation.
-#[derive(Clone, Copy, Debug, PartialEq, Eq)]
-pub struct Call {
-    pub line: LineNo,
-    pub op: Op,
-}
-
-/// A `Whole` for each line, and each node's call where one is open. A word of it is always to be had.
+/// A `Whole` for each line, in a bank that each turn's node is seated at, and the nodes. A word of it is always to be had.
 #[derive(Drop)]
 pub struct WholeDesk {
     size: Size,
-    wholes: Vec<Whole<AnyWords>>,
-    calls: Vec<Option<Call>>,
-    ghost lines: { vec_len wholes ≡ size.lines },
-    ghost nodes: { vec_len calls ≡ size.nodes },
-    ghost widths: { All (λ w. nodes_of w ≡ size.nodes) wholes.items },
-    ghost fits: { All (λ call. is_call size call ≡ true) calls.items },
+    bank: SoloBank<AnyWords>,
+    nodes: Vec<Node>,
+    ghost lines: { length bank.wholes.items ≡ size.lines },
+    ghost widths: { All (λ w. nodes_of w ≡ size.nodes) bank.wholes.items },
+    ghost count: { vec_len nodes ≡ size.nodes },
+    ghost of: { AreNodesOf size.lines nodes.items },
 }
 
 /// The lines of a script with what they open with, which nobody has used.
@@ -50,35 +43,57 @@ fn unused(alloc: Global, script: &Script) -> Result<Vec<Whole<AnyWords>>, AllocE
     Ok(wholes)
 }
 
-/// One turn of the node's operation on the line.
-#[tactic(auto, using(sci_ops::proofs::Storing::any_store_fits))]
-fn turn_on(whole: &mut Whole<AnyWords>, node: NodeId, op: &Op) -> Turn
-    requires { node < nodes_of whole.old }
-    ensures turns { TurnsOn (nodes_of whole.old) node op.now (state_of whole.old) result (state_of whole.new) }
-    ensures same { IsSameLine whole.old whole.new }
+/// The nodes of a script, none of which has used a line.
+fn idle(alloc: Global, script: &Script) -> Result<Vec<Node>, AllocError>
+    ensures count { IfOk result (λ nodes. length nodes.items ≡ script.now.size.nodes) }
+    ensures idle { IfOk result (λ nodes. AreIdle script.now.size.lines script.now.capacity script.now.size.nodes nodes.items) }
 {
-    let mut op = *op;
-    let mut port = Solo::new(whole, node);
-    op.turn(&mut port)
+    let size = script.size;
+    let mut nodes = Vec::new(alloc);
+    for number in 0..size.nodes {
+        let Some(id) = NodeId::new(number) else {
+            unreachable!()
+        };
+        match Node::new(alloc, id, size.lines, script.capacity) {
+            Ok(node) => nodes.push(node)?,
+            Err(_) => return Err(AllocError),
+        }
+    }
+    Ok(nodes)
+}
+
+/// One turn of the node's call, over the bank that it is seated at.
+#[tactic(auto, using(sci_ops::proofs::Storing::any_store_fits))]
+fn turn_on(bank: &mut SoloBank<AnyWords>, node: &mut Node) -> Turn
+    requires seat { bank.old.node ≡ node.old.id }
+    requires lines { length bank.old.wholes.items ≡ node.old.lines }
+    requires open { is_some node.old.call ≡ true }
+    ensures turns { TurnsOverOf bank.old.wholes.items node.old node.old.call result bank.new.wholes.items node.new }
+    ensures below { IfSome node.old.call (λ c. line_by c.victim c.line < node.old.lines) }
+    ensures same_node { IsSameNode node.old node.new }
+    ensures same_lines { length bank.new.wholes.items ≡ length bank.old.wholes.items }
+    ensures same_widths { (line : ℕ) → nodes_of (whole_of bank.new.wholes.items line) ≡ nodes_of (whole_of bank.old.wholes.items line) }
+{
+    match node.turn(bank) {
+        Ok(turn) => turn,
+        Err(_) => unreachable!(),
+    }
 }
 
 impl WholeDesk {
     ghost use Rattle.sci_script.specs.ScriptText.{Opens};
     ghost use Rattle.sci_script.specs.Wholes.{shared_of};
 
-    /// The lines of a script with what they open with, which nobody has used, and no call. Refusal 7 alone.
+    /// The lines of a script with what they open with, which nobody has used, and its nodes. Refusal 7 alone.
     pub fn open(alloc: Global, script: &Script) -> Result<WholeDesk, AllocError>
         ensures size { IfOk result (λ desk. desk.size ≡ script.now.size) }
-        ensures opened { IfOk result (λ desk. Opens script.now.size script.now.openings.items (shared_of desk)) }
+        ensures opened { IfOk result (λ desk. Opens script.now.size script.now.capacity script.now.openings.items (shared_of desk)) }
     {
         let size = script.size;
-        let calls = vec![in alloc; None; usize::from(size.nodes)]?;
+        let nodes = idle(alloc, script)?;
         let wholes = unused(alloc, script)?;
-        Ok(WholeDesk {
-            size,
-            wholes,
-            calls,
-        })
+        let bank = SoloBank::new(wholes, nodes[0].id());
+        Ok(WholeDesk { size, bank, nodes })
     }
 }
 
@@ -93,30 +108,30 @@ impl Desk for WholeDesk {
     ghost does = { λ s event t. shared_does (shared_of s) event (shared_of t) };
 
     fn open(&self, node: NodeId) -> bool {
-        self.calls[usize::from(node.get())].is_some()
+        self.nodes[usize::from(node.get())].open()
     }
 
-    fn begin(&mut self, node: NodeId, line: LineNo, op: Op) {
-        self.calls[usize::from(node.get())] = Some(Call { line, op });
+    fn begin(&mut self, node: NodeId, request: Request) -> Result<(), AllocError> {
+        match self.nodes[usize::from(node.get())].begin(request) {
+            Ok(()) => Ok(()),
+            Err(_) => Err(AllocError),
+        }
     }
 
     fn turn(&mut self, node: NodeId) -> Turn {
-        let place = usize::from(node.get());
-        let Some(call) = &self.calls[place] else {
-            unreachable!()
-        };
-        let turn = turn_on(&mut self.wholes[usize::from(call.line)], node, &call.op);
-        if is_end(turn) {
-            self.calls[place] = None;
-        }
-        turn
+        self.bank.seat(node);
+        turn_on(&mut self.bank, &mut self.nodes[usize::from(node.get())])
+    }
+
+    fn resident(&self, alloc: Global, node: NodeId) -> Result<Vec<LineNo>, AllocError> {
+        self.nodes[usize::from(node.get())].resident(alloc)
     }
 
     fn mem(&mut self, line: LineNo) -> Option<Mem> {
-        Some(self.wholes[usize::from(line)].mem())
+        self.bank.mem(line)
     }
 
     fn tag(&mut self, line: LineNo, node: NodeId) -> Option<Tag> {
-        Some(self.wholes[usize::from(line)].tag(node))
+        self.bank.tag(line, node)
     }
 }

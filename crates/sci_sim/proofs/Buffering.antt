@@ -33,13 +33,13 @@ front_left is_open does nodes s steps WriteFailed written t n less (k, text, m, 
     (t, (k, text, n, printed, inside, ap (take n) is ∙ take-take n m text (omega (arith, below))))
 
 pub front_of_run : (e : ScriptRefusal) (input written : List ℕ) (n : ℕ) → n < length written → StopsRunning e input written → StopsRunning WriteFailed input (take n written)
-front_of_run e input written n less (short, size, openings, steps, is, (s, t, opens, left)) =
+front_of_run e input written n less (short, size, capacity, openings, steps, is, (s, t, opens, left)) =
     let (u, front) = front_left shared_is_open shared_does size.nodes s steps e written t n less left in
-    (short, size, openings, steps, is, (s, u, opens, front))
+    (short, size, capacity, openings, steps, is, (s, u, opens, front))
 
 pub front_of_text : (input text : List ℕ) (n : ℕ) → n < length text → Serves input text → StopsRunning WriteFailed input (take n text)
-front_of_text input text n less (short, size, openings, steps, is, (s, t, opens, printed)) =
-    (short, size, openings, steps, is, (s, t, opens, (length steps, text, n, subst (λ (l : List Step). PrintsAll shared_is_open shared_does no_words s l text t) (sym (take_all (length steps) steps (omega arith))) printed, less, refl)))
+front_of_text input text n less (short, size, capacity, openings, steps, is, (s, t, opens, printed)) =
+    (short, size, capacity, openings, steps, is, (s, t, opens, (length steps, text, n, subst (λ (l : List Step). PrintsAll shared_is_open shared_does no_words s l text t) (sym (take_all (length steps) steps (omega arith))) printed, less, refl)))
 
 front_of_nothing : (input written : List ℕ) (n : ℕ) → n < length written → written ≡ [] → ⊥
 front_of_nothing input written n less none = let e : length written ≡ 0 = ap (length {A = ℕ}) none in omega arith

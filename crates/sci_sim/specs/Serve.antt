@@ -14,14 +14,14 @@ use Rattle.sci_script.specs.ScriptText.{IsTextOf, IsLeftOf}
 -- the input is a script, and this is its text
 abbrev pub Serves : List ℕ → List ℕ → Type 0
 Serves input text =
-    (length input ≤ 1048576) × (size : Size) × (openings : List Opening) × (steps : List Step) × (script_of input ≡ Ok (size, openings, steps))
-    × IsTextOf size openings steps text
+    (length input ≤ 1048576) × (size : Size) × (capacity : ℕ) × (openings : List Opening) × (steps : List Step) × (script_of input ≡ Ok (size, capacity, openings, steps))
+    × IsTextOf size capacity openings steps text
 
 -- the input is a script, whose run fails and leaves this text
 abbrev pub StopsRunning : ScriptRefusal → List ℕ → List ℕ → Type 0
 StopsRunning e input written =
-    (length input ≤ 1048576) × (size : Size) × (openings : List Opening) × (steps : List Step) × (script_of input ≡ Ok (size, openings, steps))
-    × IsLeftOf size openings steps e written
+    (length input ≤ 1048576) × (size : Size) × (capacity : ℕ) × (openings : List Opening) × (steps : List Step) × (script_of input ≡ Ok (size, capacity, openings, steps))
+    × IsLeftOf size capacity openings steps e written
 
 -- the reader of scripts refuses the input, or memory ran out before the run
 abbrev pub IsRefused : ScriptRefusal → List ℕ → Type 0

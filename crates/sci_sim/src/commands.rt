@@ -19,6 +19,7 @@ const SCRIPTS: &str = "\
 One command a line. N is a node, L a line, W a word of it (0 to 7), V a number below 2^64. A line that begins with # is a comment.
 
   memory NODES LINES        first, once: 1 to 64 nodes, 1 to 1024 lines of zeros
+  capacity C                directly behind it, or not at all: a node names 1 to 1024 lines, else 1024; a line too many is left
   open L S V V V V V V V V  before all below: line L opens with stamp S and these eight words
   load N L W                node N begins a load
   store N L W V             node N begins a store of V
@@ -28,6 +29,7 @@ One command a line. N is a node, L a line, W a word of it (0 to 7), V a number b
   done N                    turns to the call's end, at most 100000: prints the answer
   list L                    prints the sharing list
   tag L N                   prints node N's tag on line L
+  residents N               prints the lines that node N names, the one used last in front
 
 Answers: node N read V stamp S; node N wrote stamp S; node N out; node N refused 11 (the line's stamp, which counts its writes, is
 2^64 - 1: open it with a lower one).

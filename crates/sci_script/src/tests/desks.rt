@@ -1,8 +1,10 @@
 //! A desk whose words are not to be had, or whose lists or calls don't end.
 use crate::commands::Size;
 use crate::{Desk, ScriptRefusal, read_script};
-use sci_ops::{Op, Turn};
+use sci_cache::Request;
+use sci_ops::Turn;
 use sci_words::{Kind, LineNo, Mem, MemState, NodeId, Tag};
+use std::alloc::{AllocError, Global};
 use std::test::Fail;
 
 /// Each tag that it gives names its own node behind it.
@@ -25,12 +27,17 @@ impl Desk for Odd {
         self.has_call
     }
 
-    fn begin(&mut self, _node: NodeId, _line: LineNo, _op: Op) {
+    fn begin(&mut self, _node: NodeId, _request: Request) -> Result<(), AllocError> {
         self.has_call = true;
+        Ok(())
     }
 
     fn turn(&mut self, _node: NodeId) -> Turn {
         Turn::Waiting
+    }
+
+    fn resident(&self, alloc: Global, _node: NodeId) -> Result<Vec<LineNo>, AllocError> {
+        Ok(Vec::new(alloc))
     }
 
     fn mem(&mut self, _line: LineNo) -> Option<Mem> {

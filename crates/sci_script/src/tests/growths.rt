@@ -13,16 +13,16 @@ use std::io::Write;
 use std::process::Abort;
 use std::test::Fail;
 
-const LAST: u16 = 23;
+const LAST: u16 = 34;
 
-const SCRIPT: &str = "memory 1 1\nload 0 0 0\ndone 0\nlist 0\n";
+const SCRIPT: &str = "memory 1 1\nload 0 0 0\ndone 0\nlist 0\nresidents 0\n";
 
-const TEXT: &str = "node 0 read 0 stamp 0\nline 0 FRESH 0: 0 ONLY_FRESH\n";
+const TEXT: &str = "node 0 read 0 stamp 0\nline 0 FRESH 0: 0 ONLY_FRESH\nnode 0 residents 0\n";
 
 /// A writer that takes no memory.
 #[derive(Drop)]
 struct Fixed {
-    bytes: [u8; 64],
+    bytes: [u8; 96],
     length: usize,
 }
 
@@ -31,7 +31,7 @@ impl Write for Fixed {
 
     fn write(&mut self, buf: &[u8]) -> io::Result<usize> {
         match buf {
-            [first, ..] if self.length < 64 => {
+            [first, ..] if self.length < 96 => {
                 self.bytes[self.length] = *first;
                 self.length += 1;
                 Ok(1)
@@ -83,7 +83,7 @@ fn runs(rt: &impl Abort, alloc: Global, script: &Script) -> Result<(), Fail> {
         return Err(Fail::new("open answered 7"));
     };
     let mut out = Fixed {
-        bytes: [0; 64],
+        bytes: [0; 96],
         length: 0,
     };
     match script.run(alloc, &mut desk, &mut out) {
@@ -145,6 +145,7 @@ fn refuses(rt: &impl Abort, alloc: Global, spent: u16) -> Result<(), Fail> {
     }
     let script = reads(rt, alloc)?;
     assert_eq!(rt; (script.nodes(), script.lines()), (1, 1));
+    assert_eq!(rt; script.capacity(), 1024);
     runs(rt, alloc, &script)?;
     lists(rt, alloc)?;
     shows(rt, alloc)?;
@@ -205,32 +206,32 @@ fn growth_9_of_open(rt: HostRuntime) -> Result<(), Fail> {
 }
 
 #[test]
-fn growth_10_of_run(rt: HostRuntime) -> Result<(), Fail> {
+fn growth_10_of_open(rt: HostRuntime) -> Result<(), Fail> {
     refuses(&rt, rt.alloc(), LAST - 10)
 }
 
 #[test]
-fn growth_11_of_run(rt: HostRuntime) -> Result<(), Fail> {
+fn growth_11_of_open(rt: HostRuntime) -> Result<(), Fail> {
     refuses(&rt, rt.alloc(), LAST - 11)
 }
 
 #[test]
-fn growth_12_of_run(rt: HostRuntime) -> Result<(), Fail> {
+fn growth_12_of_open(rt: HostRuntime) -> Result<(), Fail> {
     refuses(&rt, rt.alloc(), LAST - 12)
 }
 
 #[test]
-fn growth_13_of_run(rt: HostRuntime) -> Result<(), Fail> {
+fn growth_13_of_open(rt: HostRuntime) -> Result<(), Fail> {
     refuses(&rt, rt.alloc(), LAST - 13)
 }
 
 #[test]
-fn growth_14_of_run(rt: HostRuntime) -> Result<(), Fail> {
+fn growth_14_of_open(rt: HostRuntime) -> Result<(), Fail> {
     refuses(&rt, rt.alloc(), LAST - 14)
 }
 
 #[test]
-fn growth_15_of_run(rt: HostRuntime) -> Result<(), Fail> {
+fn growth_15_of_open(rt: HostRuntime) -> Result<(), Fail> {
     refuses(&rt, rt.alloc(), LAST - 15)
 }
 
@@ -240,36 +241,91 @@ fn growth_16_of_run(rt: HostRuntime) -> Result<(), Fail> {
 }
 
 #[test]
-fn growth_17_of_list_text(rt: HostRuntime) -> Result<(), Fail> {
+fn growth_17_of_run(rt: HostRuntime) -> Result<(), Fail> {
     refuses(&rt, rt.alloc(), LAST - 17)
 }
 
 #[test]
-fn growth_18_of_list_text(rt: HostRuntime) -> Result<(), Fail> {
+fn growth_18_of_run(rt: HostRuntime) -> Result<(), Fail> {
     refuses(&rt, rt.alloc(), LAST - 18)
 }
 
 #[test]
-fn growth_19_of_list_text(rt: HostRuntime) -> Result<(), Fail> {
+fn growth_19_of_run(rt: HostRuntime) -> Result<(), Fail> {
     refuses(&rt, rt.alloc(), LAST - 19)
 }
 
 #[test]
-fn growth_20_of_tag_text(rt: HostRuntime) -> Result<(), Fail> {
+fn growth_20_of_run(rt: HostRuntime) -> Result<(), Fail> {
     refuses(&rt, rt.alloc(), LAST - 20)
 }
 
 #[test]
-fn growth_21_of_tag_text(rt: HostRuntime) -> Result<(), Fail> {
+fn growth_21_of_run(rt: HostRuntime) -> Result<(), Fail> {
     refuses(&rt, rt.alloc(), LAST - 21)
 }
 
 #[test]
-fn growth_22_of_tag_text(rt: HostRuntime) -> Result<(), Fail> {
+fn growth_22_of_run(rt: HostRuntime) -> Result<(), Fail> {
     refuses(&rt, rt.alloc(), LAST - 22)
 }
 
 #[test]
-fn growth_23_of_nothing(rt: HostRuntime) -> Result<(), Fail> {
+fn growth_23_of_run(rt: HostRuntime) -> Result<(), Fail> {
+    refuses(&rt, rt.alloc(), LAST - 23)
+}
+
+#[test]
+fn growth_24_of_run(rt: HostRuntime) -> Result<(), Fail> {
+    refuses(&rt, rt.alloc(), LAST - 24)
+}
+
+#[test]
+fn growth_25_of_run(rt: HostRuntime) -> Result<(), Fail> {
+    refuses(&rt, rt.alloc(), LAST - 25)
+}
+
+#[test]
+fn growth_26_of_run(rt: HostRuntime) -> Result<(), Fail> {
+    refuses(&rt, rt.alloc(), LAST - 26)
+}
+
+#[test]
+fn growth_27_of_run(rt: HostRuntime) -> Result<(), Fail> {
+    refuses(&rt, rt.alloc(), LAST - 27)
+}
+
+#[test]
+fn growth_28_of_list_text(rt: HostRuntime) -> Result<(), Fail> {
+    refuses(&rt, rt.alloc(), LAST - 28)
+}
+
+#[test]
+fn growth_29_of_list_text(rt: HostRuntime) -> Result<(), Fail> {
+    refuses(&rt, rt.alloc(), LAST - 29)
+}
+
+#[test]
+fn growth_30_of_list_text(rt: HostRuntime) -> Result<(), Fail> {
+    refuses(&rt, rt.alloc(), LAST - 30)
+}
+
+#[test]
+fn growth_31_of_tag_text(rt: HostRuntime) -> Result<(), Fail> {
+    refuses(&rt, rt.alloc(), LAST - 31)
+}
+
+#[test]
+fn growth_32_of_tag_text(rt: HostRuntime) -> Result<(), Fail> {
+    refuses(&rt, rt.alloc(), LAST - 32)
+}
+
+#[test]
+fn growth_33_of_tag_text(rt: HostRuntime) -> Result<(), Fail> {
+    refuses(&rt, rt.alloc(), LAST - 33)
+}
+
+#[test]
+fn growth_34_of_nothing(rt: HostRuntime) -> Result<(), Fail> {
     refuses(&rt, rt.alloc(), 0)
 }

@@ -24,6 +24,7 @@ returns-clause-ok g c =
       (
         c.requires,
         script.size,
+        script.capacity,
         script.openings.items,
         script.steps.items,
         c.in_ok-script.ensures,
@@ -43,6 +44,7 @@ returns-clause-err g c =
       stops_running e c.args.input.now written (
         c.requires,
         script.size,
+        script.capacity,
         script.openings.items,
         script.steps.items,
         c.in_ok-script.ensures,

@@ -1,0 +1,28 @@
+-- Nodes over whole lines. This project's profile.
+use Rattle.std.specs.Prelude.{◌≡◌, ◌≢◌, ℕ, ◌<◌, List, length, Option, Some, None, slice_index_or}
+use Rattle.sci_core.specs.declared.keeps.AnyWords.{AnyWords}
+use Rattle.sci_core.specs.Whole.{WholeLine, nodes_of, state_of}
+use Rattle.sci_ops.specs.declared.answers.Turn.{Turn}
+use Rattle.sci_cache.specs.declared.calls.OpenCall.{OpenCall}
+use Rattle.sci_cache.specs.Nodes.{NodeState, node_after, line_by, op_by, shown_by}
+use Rattle.sci_script.specs.Turns.{TurnsOn}
+use Rattle.sci_script.specs.Unused.{no_line}
+
+-- each node stands at its number, and has so many lines
+abbrev pub AreNodesOf : ℕ → List NodeState → Type 0
+AreNodesOf lines nodes = (k : ℕ) (d : NodeState) → k < length nodes → ((slice_index_or nodes k d).id ≡ k) × ((slice_index_or nodes k d).lines ≡ lines)
+
+abbrev pub whole_of : List (WholeLine AnyWords) → ℕ → WholeLine AnyWords
+whole_of wholes line = slice_index_or wholes line no_line
+
+-- a turn of the node's call over these lines: of the operation at work on the line at work; the other lines stay
+pub record TurnsOver (wholes : List (WholeLine AnyWords)) (n : NodeState) (c : OpenCall) (shown : Turn) (after : List (WholeLine AnyWords)) (m : NodeState) : Type 0 where
+  pub turn : Turn
+  pub made : TurnsOn (nodes_of (whole_of wholes (line_by c.victim c.line))) n.id (op_by c.victim c.op) (state_of (whole_of wholes (line_by c.victim c.line))) turn (state_of (whole_of after (line_by c.victim c.line)))
+  pub others : (line : ℕ) → line ≢ line_by c.victim c.line → whole_of after line ≡ whole_of wholes line
+  pub shows : shown ≡ shown_by c.victim turn
+  pub node : m ≡ node_after n c turn
+
+abbrev pub TurnsOverOf : List (WholeLine AnyWords) → NodeState → Option OpenCall → Turn → List (WholeLine AnyWords) → NodeState → Type 0
+TurnsOverOf wholes n None shown after m = ⊥
+TurnsOverOf wholes n (Some c) shown after m = TurnsOver wholes n c shown after m
