@@ -12,9 +12,12 @@ use Rattle.sci_dump.specs.Text.{hexadecimal}
 use Rattle.std.proofs.lemmas.Int.Digits.{digits_value_more, digits_value-lt}
 use Rattle.sci_dump.specs.Reading.{is_hexadecimal}
 
-cases_or : (a b : Bool) → (a || b) ≡ true → (a ≡ true) ⊎ (b ≡ true)
+pub cases_or : (a b : Bool) → (a || b) ≡ true → (a ≡ true) ⊎ (b ≡ true)
 cases_or true b h = inl refl
 cases_or false b h = inr h
+
+pub letter_value : (b : ℕ) → 97 ≤ b → b ≤ 102 → digit_value b ≡ b - 87
+letter_value b low high = rw (le-ltb b 48 (omega arith), le-ltb b 58 (omega arith), le-ltb b 65 (omega arith), le-ltb b 91 (omega arith), le-ltb b 97 (omega arith), lt-ltb b 123 (omega arith)) refl
 
 pub digit_small : (b : ℕ) → is_hexadecimal b ≡ true → digit_value b < 16
 digit_small b h =
@@ -24,8 +27,8 @@ digit_small b h =
           let p = and_parts _ _ letter in
           let low : 97 ≤ b = leb-true _ _ p.0 in
           let high : b ≤ 102 = leb-true _ _ p.1 in
-          let e : digit_value b ≡ b - 87 = rw (le-ltb b 48 (omega arith), le-ltb b 58 (omega arith), le-ltb b 65 (omega arith), le-ltb b 91 (omega arith), le-ltb b 97 (omega arith), lt-ltb b 123 (omega arith)) refl in
-          omega arith
+          let e = letter_value b low high in
+          omega (arith, e)
     ]
 
 all_digits : (n : ℕ) (bs : List ℕ) → list_all is_hexadecimal bs ≡ true → AllDigits 16 (take n bs)

@@ -6,3 +6,8 @@ pub mod Writing
 pub mod Looping
 pub mod Walks
 pub mod Deciding
+pub mod Inverting
+pub mod FieldTexts
+pub mod Words
+pub mod RowTexts
+pub mod DumpTexts

@@ -15,7 +15,7 @@ abbrev pub IsWalk : Option ℕ → (ℕ → Option ℕ) → List ℕ → Option 
 IsWalk from forw [] next = from ≡ next
 IsWalk from forw (x ∷ xs) next = (from ≡ Some x) × IsWalk (forw x) forw xs next
 
-walk_push : (forw : ℕ → Option ℕ) (front : List ℕ) (from : Option ℕ) (x : ℕ) → IsWalk from forw front (Some x) → IsWalk from forw (front ++ x ∷ []) (forw x)
+pub walk_push : (forw : ℕ → Option ℕ) (front : List ℕ) (from : Option ℕ) (x : ℕ) → IsWalk from forw front (Some x) → IsWalk from forw (front ++ x ∷ []) (forw x)
 walk_push forw [] from x w = (w, refl)
 walk_push forw (y ∷ ys) from x w = (w.0, walk_push forw ys (forw y) x w.1)
 
@@ -110,6 +110,21 @@ walked_long n mem tags k x le w nodes e =
     let len = ap length (r.whole ∙ ap (λ (l : List ℕ). w.front ++ l) g.1) in
     omega (arith, le, len, length-append w.front (x ∷ g.0), w.long, few_nodes nodes n e.distinct e.below)
 
+no_more : (rest : List ℕ) → length rest ≤ 0 → rest ≡ []
+no_more [] h = refl
+no_more (x ∷ xs) h = absurd (omega arith)
+
+-- a walk that ends, and one along as many nodes as there are, has the whole chain
+pub walk_ended : (forw : ℕ → Option ℕ) (front : List ℕ) (from : Option ℕ) (nodes : List ℕ) → IsWalk from forw front None → IsPath from forw nodes → nodes ≡ front
+walk_ended forw front from nodes w p = path_unique forw nodes front from p (walk_path forw front from w)
+
+pub walk_full : (n : ℕ) (mem : Mem) (tags : ℕ → Tag) (front : List ℕ) (next : Option ℕ) (nodes : List ℕ) → n ≤ length front → IsWalk mem.forw (λ i. (tags i).forw) front next → IsEnding n mem tags nodes → nodes ≡ front
+walk_full n mem tags front next nodes le w e =
+    let r = walk_rest (λ i. (tags i).forw) front mem.forw next nodes w e.path in
+    let len = ap length r.whole in
+    let none : r.rest ≡ [] = no_more r.rest (omega (arith, le, len, length-append front r.rest, few_nodes nodes n e.distinct e.below)) in
+    r.whole ∙ (ap (λ (l : List ℕ). front ++ l) none ∙ append-nil front)
+
 -- where the walk has come after k nodes, none of which is the one that is looked for
 pub record Sought (forw : ℕ → Option ℕ) (from : Option ℕ) (wanted k : ℕ) (next : Option ℕ) : Type 0 where
   pub front : List ℕ
@@ -133,17 +148,10 @@ sought_found forw from wanted k x nodes w e p = subst (λ (q : ℕ). Contains no
 
 pub sought_end : (forw : ℕ → Option ℕ) (from : Option ℕ) (wanted k : ℕ) (nodes : List ℕ) → Sought forw from wanted k None → IsPath from forw nodes → Contains nodes wanted → ⊥
 sought_end forw from wanted k nodes w p c =
-    let same : nodes ≡ w.front = path_unique forw nodes w.front from p (walk_path forw w.front from w.walk) in
+    let same : nodes ≡ w.front = walk_ended forw w.front from nodes w.walk p in
     w.without (subst (λ (l : List ℕ). Contains l wanted) same c)
-
-no_more : (rest : List ℕ) → length rest ≤ 0 → rest ≡ []
-no_more [] h = refl
-no_more (x ∷ xs) h = absurd (omega arith)
 
 pub sought_long : (n : ℕ) (mem : Mem) (tags : ℕ → Tag) (wanted k : ℕ) (next : Option ℕ) (nodes : List ℕ) → n ≤ k → Sought (λ i. (tags i).forw) mem.forw wanted k next → IsEnding n mem tags nodes → Contains nodes wanted → ⊥
 sought_long n mem tags wanted k next nodes le w e c =
-    let r = walk_rest (λ i. (tags i).forw) w.front mem.forw next nodes w.walk e.path in
-    let len = ap length r.whole in
-    let none : r.rest ≡ [] = no_more r.rest (omega (arith, le, len, length-append w.front r.rest, w.long, few_nodes nodes n e.distinct e.below)) in
-    let same : nodes ≡ w.front = r.whole ∙ (ap (λ (l : List ℕ). w.front ++ l) none ∙ append-nil w.front) in
+    let same : nodes ≡ w.front = walk_full n mem tags w.front next nodes (omega (arith, le, w.long)) w.walk e in
     w.without (subst (λ (l : List ℕ). Contains l wanted) same c)

@@ -48,6 +48,15 @@ KeepsSuited c nodes = SuitsMemory c.mem (tag c) nodes
 abbrev pub KeepsEqual : ClosedLine → List ℕ → Type 0
 KeepsEqual c nodes = HasEqualLines c.mem c.memory (line c) nodes
 
+-- the number of a rule: C1 to C6
+abbrev pub rule_number : Rule → ℕ
+rule_number Settled = 1
+rule_number Ending = 2
+rule_number Listed = 3
+rule_number Linked = 4
+rule_number Suited = 5
+rule_number Equal = 6
+
 -- the line breaks this rule, and none before it
 abbrev pub BreaksFirst : Rule → ClosedLine → Type 0
 BreaksFirst Settled c = KeepsSettled c → ⊥

@@ -29,6 +29,25 @@ pub enum Rule {
     Equal,
 }
 
+impl Rule {
+    ghost use Rattle.std.specs.Prelude.{◌≡◌};
+    ghost use Rattle.sci_dump.specs.Rules.{rule_number};
+
+    /// The rule's number, 1 to 6.
+    pub fn number(self) -> u8
+        ensures { result ≡ rule_number self }
+    {
+        match self {
+            Rule::Settled => 1,
+            Rule::Ending => 2,
+            Rule::Listed => 3,
+            Rule::Linked => 4,
+            Rule::Suited => 5,
+            Rule::Equal => 6,
+        }
+    }
+}
+
 /// What the check of a dump says.
 #[derive(Clone, Copy, Debug, PartialEq, Eq)]
 pub enum Verdict {

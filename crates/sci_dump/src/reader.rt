@@ -2,6 +2,7 @@
 
 ghost use Rattle.std.specs.Prelude.{◌≡◌, ◌≤◌, ◌<◌, ◌+◌, true, length, All, IfOk, IfSome};
 ghost use Rattle.sci_words.specs.Tag.{tag_well_formed};
+ghost use Rattle.sci_dump.specs.Text.{dump_text};
 ghost use Rattle.sci_dump.specs.Reading.{Gives, Reads, entry_at, entries_at, closed_at, lines_at, end_at, dump_of};
 
 use crate::dumps::{Dump, INVALID};
@@ -163,11 +164,10 @@ fn end(number: u64, text: &[u8]) -> Result<(), DumpRefusal>
     }
 }
 
-/// Reads a dump: Ok with the value that the definition of reading (`specs/Reading.antt`) reads, else refusal 21 at the line of
-/// text that it names, counted from 1. Refusal 7: a growth of memory was refused.
+/// The dump that a text is.
 #[tactic(auto, unfolding(crate::specs::Reading::dump_of))]
-pub fn read_dump(alloc: Global, text: &[u8]) -> Result<Dump, DumpRefusal>
-    ensures exact { Gives (λ d. d) result (dump_of text.now) }
+fn parse(alloc: Global, text: &[u8]) -> Result<Dump, DumpRefusal>
+    ensures { Gives (λ d. d) result (dump_of text.now) }
 {
     let Some((nodes, count, rest)) = head_row(text) else {
         return Err(DumpRefusal::DumpFault(1));
@@ -176,4 +176,14 @@ pub fn read_dump(alloc: Global, text: &[u8]) -> Result<Dump, DumpRefusal>
     end(front.number, front.rest)?;
     let lines = front.lines;
     Ok(Dump { nodes, lines })
+}
+
+/// Reads a dump: Ok with the value that the definition of reading (`specs/Reading.antt`) reads, whose dump is this very text; else
+/// refusal 21 at the line of text that it names, counted from 1. Refusal 7: a growth of memory was refused.
+pub fn read_dump(alloc: Global, text: &[u8]) -> Result<Dump, DumpRefusal>
+    ensures exact { Gives (λ d. d) result (dump_of text.now) }
+    // What was read is written as the text that was read.
+    ensures dumped { IfOk result (λ d. text.now ≡ dump_text d.nodes d.lines) }
+{
+    parse(alloc, text)
 }

@@ -1,4 +1,6 @@
 //! Dumps that are read, checked and written again, and texts that are none.
+mod growths;
+
 use super::*;
 use std::alloc::{AllocError, Global};
 use std::test::Fail;
@@ -211,17 +213,4 @@ fn changed_in_each_byte(rt: HostRuntime) -> Result<(), Fail> {
 fn numbers_of_refusals(rt: HostRuntime) {
     assert_eq!(rt; DumpRefusal::OutOfMemory.number(), 7);
     assert_eq!(rt; DumpRefusal::DumpFault(1).number(), 21);
-}
-
-// A growth may be refused: the answer is then 7 or an `AllocError`. With ample memory it is the dump.
-#[test]
-fn growths_refused_in_turn(rt: HostRuntime) {
-    match read_dump(rt.alloc(), SHARED.as_bytes()) {
-        Ok(read) => {
-            if let Ok(text) = text_of(rt.alloc(), &read) {
-                assert!(rt; text.as_str() == SHARED);
-            }
-        }
-        Err(refusal) => assert_eq!(rt; refusal.number(), 7),
-    }
 }

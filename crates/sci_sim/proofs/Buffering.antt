@@ -12,7 +12,7 @@ use Rattle.sci_script.specs.Request.{no_words}
 use Rattle.sci_script.specs.Run.{Leaves, PrintsAll}
 use Rattle.sci_script.specs.Shared.{shared_is_open, shared_does}
 use Rattle.sci_sim.specs.declared.faults.SimFault.{SimFault}
-use Rattle.sci_sim.specs.declared.faults.SimFault.TheVariants.{CannotRead, CannotWrite, InputTooLong, Refused}
+use Rattle.sci_sim.specs.declared.faults.SimFault.TheVariants.{CannotRead, CannotWrite, InputTooLong, Refused, NoDump, Unlawful}
 use Rattle.sci_sim.specs.Serve.{Serves, Stops, StopsRunning, LosesNothing, LeavesBehind}
 
 -- a list that is cut before its end was cut before
@@ -51,6 +51,8 @@ front_of_stop CannotWrite input written n less h = front_of_run WriteFailed inpu
 front_of_stop InputTooLong input written n less h = absurd (front_of_nothing input written n less h.1)
 front_of_stop (Refused e) input written n less (inl h) = absurd (front_of_nothing input written n less h.1)
 front_of_stop (Refused e) input written n less (inr h) = front_of_run e input written n less h
+front_of_stop (NoDump l) input written n less h = absurd h
+front_of_stop Unlawful input written n less h = absurd h
 
 -- a front of the buffer goes out, and not all: so a front of the text has gone out, and not all, if what was held before is still there
 pub gone_out_front : (old mid new : Option (List ℕ)) (rest text : List ℕ) (n : ℕ) → Appends old (append_known mid rest) text → n < length rest → Appends mid new (take n rest)

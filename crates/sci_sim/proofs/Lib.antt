@@ -1,2 +1,4 @@
 pub mod Serving
 pub mod Buffering
+pub mod Listing
+pub mod Stopping

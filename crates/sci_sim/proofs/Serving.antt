@@ -3,7 +3,7 @@ use Rattle.std.proofs.Common.{◌≤◌, ℕ, List, [], length, Result, Ok, Err,
 use Rattle.sci_script.specs.declared.refusals.ScriptRefusal.{ScriptRefusal}
 use Rattle.sci_script.specs.declared.refusals.ScriptRefusal.TheVariants.{OutOfMemory, BadCommand, BadNumber, NotDone, WriteFailed}
 use Rattle.sci_sim.specs.declared.faults.SimFault.{SimFault}
-use Rattle.sci_sim.specs.declared.faults.SimFault.TheVariants.{CannotRead, CannotWrite, InputTooLong, Refused}
+use Rattle.sci_sim.specs.declared.faults.SimFault.TheVariants.{CannotRead, CannotWrite, InputTooLong, Refused, NoDump, Unlawful}
 use Rattle.sci_sim.specs.Fault.{fault_of}
 use Rattle.sci_script.specs.Format.{Fails, script_of}
 use Rattle.sci_sim.specs.Input.{IsReadFault}
@@ -32,6 +32,8 @@ stops_input (Refused (BadCommand n)) input h = absurd h
 stops_input (Refused (BadNumber n)) input h = absurd h
 stops_input (Refused (NotDone n)) input h = absurd h
 stops_input (Refused WriteFailed) input h = absurd h
+stops_input (NoDump n) input h = absurd h
+stops_input Unlawful input h = absurd h
 
 pub ok_then : {X E : Type 0} (r : Result X E) (P Q : Type 0) → OnOk r P → (P → Q) → OnOk r Q
 ok_then (Ok x) P Q h f = f h

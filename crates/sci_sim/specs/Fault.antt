@@ -1,9 +1,11 @@
--- A script's refusal as a fault of the program, and the status of a fault. This project's profile.
+-- A refusal as a fault of the program, and the status of a fault. This project's profile.
 use Rattle.std.specs.Prelude.{ℕ}
 use Rattle.sci_script.specs.declared.refusals.ScriptRefusal.{ScriptRefusal}
 use Rattle.sci_script.specs.declared.refusals.ScriptRefusal.TheVariants.{OutOfMemory, BadCommand, BadNumber, NotDone, WriteFailed}
+use Rattle.sci_dump.specs.declared.refusals.DumpRefusal.{DumpRefusal}
+use Rattle.sci_dump.specs.declared.refusals.DumpRefusal.TheVariants.{OutOfMemory as NoMemory, DumpFault}
 use Rattle.sci_sim.specs.declared.faults.SimFault.{SimFault}
-use Rattle.sci_sim.specs.declared.faults.SimFault.TheVariants.{CannotRead, CannotWrite, InputTooLong, Refused}
+use Rattle.sci_sim.specs.declared.faults.SimFault.TheVariants.{CannotRead, CannotWrite, InputTooLong, Refused, NoDump, Unlawful}
 
 abbrev pub fault_of : ScriptRefusal → SimFault
 fault_of OutOfMemory = Refused OutOfMemory
@@ -12,9 +14,15 @@ fault_of (BadNumber n) = Refused (BadNumber n)
 fault_of (NotDone n) = Refused (NotDone n)
 fault_of WriteFailed = CannotWrite
 
--- every fault is status 1
+abbrev pub dump_fault_of : DumpRefusal → SimFault
+dump_fault_of NoMemory = Refused OutOfMemory
+dump_fault_of (DumpFault n) = NoDump n
+
+-- status 3 where the check says no, 1 for any other fault
 abbrev pub status_of : SimFault → ℕ
 status_of CannotRead = 1
 status_of CannotWrite = 1
 status_of InputTooLong = 1
 status_of (Refused e) = 1
+status_of (NoDump n) = 1
+status_of Unlawful = 3

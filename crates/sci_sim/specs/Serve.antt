@@ -7,7 +7,7 @@ use Rattle.sci_script.specs.declared.commands.Step.{Step}
 use Rattle.sci_script.specs.declared.refusals.ScriptRefusal.{ScriptRefusal}
 use Rattle.sci_script.specs.declared.refusals.ScriptRefusal.TheVariants.{OutOfMemory, BadCommand, BadNumber, NotDone, WriteFailed}
 use Rattle.sci_sim.specs.declared.faults.SimFault.{SimFault}
-use Rattle.sci_sim.specs.declared.faults.SimFault.TheVariants.{CannotRead, CannotWrite, InputTooLong, Refused}
+use Rattle.sci_sim.specs.declared.faults.SimFault.TheVariants.{CannotRead, CannotWrite, InputTooLong, Refused, NoDump, Unlawful}
 use Rattle.sci_script.specs.Format.{script_of}
 use Rattle.sci_script.specs.ScriptText.{IsTextOf, IsLeftOf}
 
@@ -37,6 +37,8 @@ Stops CannotRead input written = written ≡ []
 Stops CannotWrite input written = StopsRunning WriteFailed input written
 Stops InputTooLong input written = (1048576 < length input) × (written ≡ [])
 Stops (Refused e) input written = (IsRefused e input × (written ≡ [])) ⊎ StopsRunning e input written
+Stops (NoDump n) input written = ⊥
+Stops Unlawful input written = ⊥
 
 -- a writer that is known to hold no fewer bytes than at first
 abbrev pub LosesNothing : Option (List ℕ) → Option (List ℕ) → Type 0
@@ -50,3 +52,5 @@ LeavesBehind CannotRead input old new = (written : List ℕ) × Stops CannotRead
 LeavesBehind CannotWrite input old new = LosesNothing old new → (written : List ℕ) × Stops CannotWrite input written × Appends old new written
 LeavesBehind InputTooLong input old new = (written : List ℕ) × Stops InputTooLong input written × Appends old new written
 LeavesBehind (Refused e) input old new = (written : List ℕ) × Stops (Refused e) input written × Appends old new written
+LeavesBehind (NoDump n) input old new = ⊥
+LeavesBehind Unlawful input old new = ⊥

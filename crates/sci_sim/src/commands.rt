@@ -4,16 +4,17 @@ use clap::{Arg, Command};
 use std::alloc::AllocError;
 
 const ABOUT: &str =
-    "A model of cache coherence by sharing lists: runs a script of loads, stores and exits, turn by turn.";
+    "A model of cache coherence by sharing lists: runs a script of loads, stores and exits, turn by turn, and checks dumps.";
 
 const STATUSES: &str = "\
 Statuses: 0 all went well; 1 a refusal, `scisim: refused R` or `scisim: refused R at line N`, or a fault of reading or writing; \
-2 a fault of usage.
+2 a fault of usage; 3 a check that says no.
 
 Example:
   printf 'memory 2 1\\nstore 0 0 0 5\\ndone 0\\nload 1 0 0\\ndone 1\\nlist 0\\n' | scisim script
 
-`scisim script --help` lists the commands of scripts, and what each refusal means.";
+`scisim script --help` lists the commands of scripts, and `scisim check --help` has the format of dumps; both say what each refusal
+means.";
 
 const SCRIPTS: &str = "\
 One command a line. N is a node, L a line, W a word of it (0 to 7), V a number below 2^64. A line that begins with # is a comment.
@@ -53,8 +54,40 @@ Example: three readers, and their list.
   done 2
   list 0";
 
-fn file<'a>(rt: &impl AllocGlobal) -> Arg<'a> {
-    Arg::new(rt.alloc(), "FILE").help("the script; without it standard input is read")
+const DUMPS: &str = "\
+A dump is the text of a memory at rest. For each line, from 0 on, it has the memory word and memory's content, and then, for each
+node in order whose tag isn't Invalid, its tag and content. A word is 16 hexadecimal digits, a content a stamp and eight words.
+
+  scidump 1 NODES LINES
+  line L WORD STAMP V V V V V V V V
+  tag L N WORD STAMP V V V V V V V V
+  end
+
+Prints each line's sharing list and `lawful`, or `line L breaks CN` and status 3: the first line that is no exact sharing list, and
+the first rule that it breaks.
+  C1  memory isn't lent, no tag is held, and every kind is Invalid, Fresh, Dirty or Valid
+  C2  the forward links from memory name distinct nodes that there are, and end
+  C3  a node is on that chain exactly if it isn't Invalid
+  C4  the first entry is Fresh or Dirty, each later one is Valid with the entry before it as back link
+  C5  Fresh stands under FRESH, Dirty under GONE
+  C6  all contents on the chain are equal, and equal to memory's unless the line is GONE
+
+Refusals, on standard error; nothing is printed:
+   7  memory ran out: free some
+  21  the input is no dump, from this line on: mend the line
+  23  the input has more than 1048576 bytes
+`cannot read` and `cannot write` are faults of FILE, of the input, or of the output.
+
+Example: a line that three nodes share.
+  scidump 1 3 1
+  line 0 0000000000000201 0 0 0 0 0 0 0 0 0
+  tag 0 0 000000000001ff07 0 0 0 0 0 0 0 0 0
+  tag 0 1 0000000000020007 0 0 0 0 0 0 0 0 0
+  tag 0 2 0000000000ff0102 0 0 0 0 0 0 0 0 0
+  end";
+
+fn file<'a>(rt: &impl AllocGlobal, help: &'a str) -> Arg<'a> {
+    Arg::new(rt.alloc(), "FILE").help(help)
 }
 
 /// The program's commands.
@@ -62,12 +95,17 @@ pub fn commands<'a>(rt: &impl AllocGlobal) -> Result<Command<'a>, AllocError> {
     let script = Command::new(rt.alloc(), "script")
         .about("Runs a script and prints its text")
         .after_help(SCRIPTS)
-        .arg(file(rt))?;
+        .arg(file(rt, "the script; without it standard input is read"))?;
+    let check = Command::new(rt.alloc(), "check")
+        .about("Checks that each line of a dump is an exact sharing list")
+        .after_help(DUMPS)
+        .arg(file(rt, "the dump; without it standard input is read"))?;
     Command::new(rt.alloc(), "scisim")
         .bin_name("scisim")?
         .version("0.1.0")
         .about(ABOUT)
         .after_help(STATUSES)
         .subcommand_required(true)
-        .subcommand(script)
+        .subcommand(script)?
+        .subcommand(check)
 }

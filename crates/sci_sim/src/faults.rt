@@ -1,15 +1,17 @@
 //! Why a command of the program fails.
 
 ghost use Rattle.std.specs.Prelude.{◌≡◌};
-ghost use Rattle.sci_sim.specs.Fault.{fault_of, status_of};
+ghost use Rattle.sci_sim.specs.Fault.{fault_of, dump_fault_of, status_of};
 ghost use Rattle.sci_sim.specs.declared.faults.SimFault.TheVariants.{Refused};
 ghost use Rattle.sci_script.specs.declared.refusals.ScriptRefusal.TheVariants.{OutOfMemory};
 
+use sci_dump::DumpRefusal;
 use sci_script::ScriptRefusal;
 use std::alloc::AllocError;
 use thiserror::Error;
 
-/// Why a command of the program fails. Its text stands on standard error behind `scisim: `.
+/// Why a command of the program fails. Its text stands on standard error behind `scisim: `, but for a check that says no: there
+/// the verdict stands on standard output.
 #[derive(Clone, Copy, Debug, PartialEq, Eq, Drop, Error)]
 pub enum SimFault {
     /// FILE or the input can't be opened or read, or the input doesn't end.
@@ -24,6 +26,12 @@ pub enum SimFault {
     /// What was read is refused.
     #[error(transparent)]
     Refused(ScriptRefusal),
+    /// Refusal 21: the input is no dump, and this is the line of text at fault.
+    #[error("refused 21 at line {0}")]
+    NoDump(u64),
+    /// A line of the dump is no exact sharing list.
+    #[error("the check says no")]
+    Unlawful,
 }
 
 impl SimFault {
@@ -35,7 +43,9 @@ impl SimFault {
             SimFault::CannotRead
             | SimFault::CannotWrite
             | SimFault::InputTooLong
-            | SimFault::Refused(_) => 1,
+            | SimFault::Refused(_)
+            | SimFault::NoDump(_) => 1,
+            SimFault::Unlawful => 3,
         }
     }
 }
@@ -47,6 +57,17 @@ impl From<ScriptRefusal> for SimFault {
         match refusal {
             ScriptRefusal::WriteFailed => SimFault::CannotWrite,
             _ => SimFault::Refused(refusal),
+        }
+    }
+}
+
+impl From<DumpRefusal> for SimFault {
+    ghost from_gives = { λ r e. e ≡ dump_fault_of r };
+
+    fn from(refusal: DumpRefusal) -> SimFault {
+        match refusal {
+            DumpRefusal::OutOfMemory => SimFault::Refused(ScriptRefusal::OutOfMemory),
+            DumpRefusal::DumpFault(line) => SimFault::NoDump(line),
         }
     }
 }

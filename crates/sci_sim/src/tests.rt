@@ -1,5 +1,7 @@
 ghost use Rattle.std.specs.Prelude.{Some};
 
+mod checks;
+
 use crate::faults::SimFault;
 use crate::serve::{serve_buffered, serve_script};
 use sci_script::ScriptRefusal;
@@ -302,11 +304,13 @@ fn texts_and_statuses_of_faults(rt: HostRuntime) -> Result<(), Fail> {
             SimFault::Refused(ScriptRefusal::NotDone(300)),
             "refused 18 at line 300",
         ),
+        (SimFault::NoDump(1), "refused 21 at line 1"),
     ];
     for (fault, text) in cases {
         let shown = format!(in rt.alloc(); "{fault}")?;
         assert!(rt; shown.as_str() == text, "of {text}");
         assert_eq!(rt; fault.status(), 1, "of {text}");
     }
+    assert_eq!(rt; SimFault::Unlawful.status(), 3);
     Ok(())
 }
