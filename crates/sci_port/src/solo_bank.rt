@@ -43,7 +43,12 @@ impl<K: Keeps> SoloBank<K> {
     pub fn into_wholes(self) -> Vec<Whole<K>>
         ensures { result ≡ self.wholes }
     {
-        self.wholes
+        let SoloBank {
+            wholes,
+            node: _,
+            keep: _,
+        } = self;
+        wholes
     }
 }
 
