@@ -4,7 +4,7 @@ ghost use Rattle.std.specs.Prelude.{◌≡◌, None};
 
 use crate::running::is_end;
 use crate::{Desk, Script, WholeDesk, put, read_script};
-use sci_ops::Op;
+use sci_cache::Request;
 use sci_words::{LineNo, NodeId};
 use std::alloc::{AllocError, Global};
 use std::io;
@@ -12,9 +12,9 @@ use std::io::{ErrorKind, Write};
 
 const TURNS: u32 = 100_000;
 
-const LINE: LineNo = 1;
+const LINE: LineNo = 0;
 
-const SCRIPT: &[u8] = b"memory 3 2\nopen 0 9 1 1 1 1 1 1 1 1\nopen 1 4 1 2 3 4 5 6 7 8\nlist 0\n";
+const SCRIPT: &[u8] = b"memory 2 1\nopen 0 9 1 1 1 1 1 1 1 1\nlist 0\n";
 
 /// Counts bytes: it takes three a write, and each other write is interrupted.
 #[derive(Drop)]
@@ -46,13 +46,21 @@ fn next(chance: u32) -> u32 {
     chance.wrapping_mul(1_664_525).wrapping_add(1_013_904_223)
 }
 
-/// An operation by this number.
-fn op(kind: u32) -> Op {
-    match kind % 4 {
-        0 => Op::load(),
-        1 => Op::evict(),
-        2 => Op::store(2, 3).unwrap_or(Op::load()),
-        _ => Op::add(7, 1).unwrap_or(Op::load()),
+/// A request for the line by this number.
+fn request(kind: u32) -> Request {
+    let line = LINE;
+    match kind % 3 {
+        0 => Request::Load { line },
+        1 => Request::Store {
+            line,
+            word: 2,
+            value: 3,
+        },
+        _ => Request::Add {
+            line,
+            word: 7,
+            delta: 1,
+        },
     }
 }
 
@@ -62,7 +70,7 @@ fn reads(script: &Script) -> (u16, u16, [u64; 3]) {
     (script.nodes(), script.lines(), stamps)
 }
 
-/// Turns by chance of three nodes, each with one call after the other, with loads behind each: how many calls ended.
+/// Turns by chance of two nodes, each with one call after the other, with loads behind each: how many calls ended.
 fn turns(script: &Script, desk: &mut WholeDesk) -> Option<u32>
     requires { desk.old.size ≡ script.now.size }
 {
@@ -70,12 +78,12 @@ fn turns(script: &Script, desk: &mut WholeDesk) -> Option<u32>
     let mut chance = 1;
     for _ in 0..TURNS {
         chance = next(chance);
-        let node = NodeId::new((chance >> 16) as u16 % 3)?;
+        let node = NodeId::new((chance >> 16) as u16 % 2)?;
         if node.get() >= script.nodes() || LINE >= script.lines() {
             return None;
         }
         if !desk.open(node) {
-            desk.begin(node, LINE, op(chance >> 20));
+            desk.begin(node, request(chance >> 20)).ok()?;
         } else if is_end(desk.turn(node)) {
             ended = ended.saturating_add(1);
         }
@@ -95,15 +103,15 @@ fn spend(alloc: Global, count: u16) -> Result<(), AllocError> {
 
 #[test]
 fn readers_and_turns_take_no_memory(rt: HostRuntime) {
-    // The script takes seven, and a desk of two lines eight.
-    assert!(rt; spend(rt.alloc(), 16).is_ok());
+    // The script, its desk, and the first call of each node take twenty-eight.
+    assert!(rt; spend(rt.alloc(), 3).is_ok());
     let Ok(script) = read_script(rt.alloc(), SCRIPT) else {
         panic!(rt; "no script")
     };
     let Ok(mut desk) = WholeDesk::open(rt.alloc(), &script) else {
         panic!(rt; "no desk")
     };
-    assert_eq!(rt; reads(&script), (3, 2, [9, 4, 0]));
+    assert_eq!(rt; reads(&script), (2, 1, [9, 0, 0]));
     assert!(rt; matches!(turns(&script, &mut desk), Some(1_000..)));
     let mut out = Counter {
         bytes: 0,
