@@ -145,7 +145,7 @@ fn replay_all(
 }
 
 // A line of so many nodes with this opening, and its seats.
-fn opened(
+pub fn opened(
     alloc: Global,
     nodes: u16,
     opening: Line,
