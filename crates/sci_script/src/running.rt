@@ -117,8 +117,7 @@ fn perform<D: Desk>(
             if desk.open(node) {
                 return Err(ScriptRefusal::BadCommand(number));
             }
-            desk.begin(node, request.on(line))?;
-            Ok(())
+            Ok(desk.begin(node, request.on(line))?)
         }
         Command::Turn { node } => {
             if !desk.open(node) {
@@ -138,9 +137,7 @@ fn perform<D: Desk>(
             Ok(())
         }
         Command::Tag { line, node } => {
-            let Some(tag) = load_tag(desk, line, node) else {
-                return Err(ScriptRefusal::NotDone(number));
-            };
+            let tag = load_tag(desk, line, node).ok_or(ScriptRefusal::NotDone(number))?;
             *text = tag_text(alloc, line, node, tag)?;
             Ok(())
         }

@@ -20,7 +20,7 @@ const SCRIPTS: &str = "\
 One command a line. N is a node, L a line, W a word of it (0 to 7), V a number below 2^64. A line that begins with # is a comment.
 
   memory NODES LINES        first, once: 1 to 64 nodes, 1 to 1024 lines of zeros
-  capacity C                directly behind it, or not at all: a node names 1 to 1024 lines, else 1024; a line too many is left
+  capacity C                directly behind it, at most once: a node names up to C lines, 1 to 1024; else 1024
   open L S V V V V V V V V  before all below: line L opens with stamp S and these eight words
   load N L W                node N begins a load
   store N L W V             node N begins a store of V
