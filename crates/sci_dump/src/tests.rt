@@ -1,5 +1,6 @@
 //! Dumps that are read, checked and written again, and texts that are none.
 mod growths;
+mod memory;
 
 use super::*;
 use sci_core::{AnyWords, Closed, Event, Line, Pending, Whole};
