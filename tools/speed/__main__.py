@@ -1,6 +1,6 @@
-"""How fast it is, beside what plain Rust makes of the same: turns of scripts, and operations of threads.
+"""How fast it is, beside what plain Rust makes of the same: turns of scripts, dumps, and operations of threads.
 
-    python3 tools/speed [--runs N] [--check] [--only scripts|threads] [--keep FOLDER]
+    python3 tools/speed [--runs N] [--check] [--only scripts|dumps|threads] [--keep FOLDER]
 
 The peers stand in tools/peers, and are built here by rustc; without it the project's programs are measured alone. All programs of
 a table run in turn, so that whatever else the machine does meets all of them; ratios hold from run to run, rates don't.
@@ -12,6 +12,9 @@ reads the script, checks it, runs it and writes the answers; the best of N runs 
 the peer is. What is printed must be the same of both, and hold no `waits` and one answer a call. With --check the scripts take
 each turn by a command of its own, so the number of turns that is counted here is the program's.
 
+Next, how long a processor takes to read and check a dump of 1,024 lines that 64 nodes share, by `read_dump` and `check`, beside a
+plain Rust program that reads it, looks at the same rules and makes the lists; the best of N runs counts, in turn.
+
 Then, how many operations a second threads make, each by a seat of its own, and by the same operation again while it waits:
 additions of 1 to word 0 of a line, and loads of a line. The project's program (tools/speed/operations) is built beside copies of
 the crates, once on lines under a lock word (sci_coarse) and once on lines of separate words (sci_fine); its peers are std's Mutex
@@ -20,7 +23,7 @@ word that each call takes (lock). A ratio is to the Mutex for additions, and to 
 Threads work in bursts that all begin together, each on a processor of its own; a burst counts where its threads were on a
 processor for 80 % of it, so that they truly met, and `n` bursts did. A rate is the median over rounds of the median of a round's
 bursts, a ratio the median of the ratios within a round. Where no burst counts, a star stands, and all are taken, of the other too.
-The programs of threads are proved before they are built, in some minutes; with --keep they stay in the folder, and those that
+The programs of threads, and that of dumps, are proved before they are built, in some minutes; with --keep they stay in the folder, and those that
 stand there are taken as they are.
 """
 
@@ -30,6 +33,7 @@ import shutil
 import subprocess
 import tempfile
 
+import dumps
 import scripts
 import threads
 
@@ -42,7 +46,7 @@ def build_peers(folder):
         print("no rustc: the peers are left out", flush=True)
         return {}
     built = {}
-    for name in ["sim", "threads"]:
+    for name in ["sim", "dumps", "threads"]:
         built[name] = folder / name
         source = ROOT / "tools/peers" / name / "main.rs"
         subprocess.run(["rustc", "--edition", "2021", "-C", "opt-level=3", "-o", built[name], source], check=True)
@@ -53,18 +57,20 @@ def main():
     parser = argparse.ArgumentParser(prog="speed")
     parser.add_argument("--runs", type=int, default=5)
     parser.add_argument("--check", action="store_true")
-    parser.add_argument("--only", choices=["scripts", "threads"])
+    parser.add_argument("--only", choices=["scripts", "dumps", "threads"])
     parser.add_argument("--keep", type=pathlib.Path)
     chosen = parser.parse_args()
     with tempfile.TemporaryDirectory() as name:
         folder = pathlib.Path(name)
         peers = build_peers(folder)
-        if chosen.only != "threads":
+        if chosen.only in (None, "scripts"):
             # the script scisim starts the program that this builds
             subprocess.run([ROOT / "scisim", "--help"], stdout=subprocess.DEVNULL, check=True)
             programs = {"scisim": ROOT / "crates/sci_sim/out/sci_sim"} | ({"plain": peers["sim"]} if peers else {})
             scripts.measure_all(programs, chosen.runs, chosen.check)
-        if chosen.only != "scripts" and not chosen.check:
+        if chosen.only in (None, "dumps") and not chosen.check:
+            dumps.measure_all(folder, (chosen.keep or folder).resolve(), peers.get("dumps"), chosen.runs)
+        if chosen.only in (None, "threads") and not chosen.check:
             threads.measure_all(folder, (chosen.keep or folder).resolve(), peers.get("threads"), chosen.runs)
 
 

@@ -11,3 +11,7 @@ pub mod FieldTexts
 pub mod Words
 pub mod RowTexts
 pub mod DumpTexts
+pub mod FieldsBack
+pub mod WordsBack
+pub mod RowsBack
+pub mod DumpsBack

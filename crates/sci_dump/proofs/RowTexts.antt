@@ -64,12 +64,10 @@ tag_read text rest t line h =
     let e = some_of (tag, content.0, content.1) (t, line, rest) k3 in
     let same : tag ≡ t = ap (λ (p : Tag × Line × List ℕ). p.0) e in
     let over : (content.0, content.1) ≡ (line, rest) = ap (λ (p : Tag × Line × List ℕ). (p.1, p.2)) e in
-    let (other, code) = tag_code_read word.0 tag h2 in
-    (
+    let (other, code) = tag_code_read word.0 tag h2 in (
       subst (λ (x : Tag). is_invalid x.kind ≡ false) same other,
       subst (λ (w : ℕ). text ≡ content_text w line ++ rest) (sym code ∙ ap tag_code same) (word_content text word.1 rest word.0 line h1 (h3 ∙ ap (λ (p : Line × List ℕ). Some p) over)),
     )
-
 
 tag_on_some : (n : ℕ) (r : Option (Tag × Line × List ℕ)) (x : Tag × Line × ℕ × List ℕ) → tag_on n r ≡ Some x → (r ≡ Some (x.0, x.1, x.3)) × (x.2 ≡ n + 1)
 tag_on_some n None x h = absurd (not_none x h)

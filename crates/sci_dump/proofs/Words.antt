@@ -102,8 +102,7 @@ tag_code_read word t h =
     let (none, other, is) = tag_found (tag_refusal word) (tag_in layout1 word) t h in
     let (known, spare, _, _, _) = found_none (tag_refused layout1 word) none in
     let (gap, end) = spare_parts word 24 spare in
-    let k = kind_number_of (kind_field word) (let le : kind_field word ≤ 9 = ltb-false 9 (kind_field word) known in omega (arith, le)) in
-    (
+    let k = kind_number_of (kind_field word) (let le : kind_field word ≤ 9 = ltb-false 9 (kind_field word) known in omega (arith, le)) in (
       subst (λ (u : Tag). is_invalid u.kind ≡ false) is other,
       ap tag_code (sym is) ∙ tag_fields word _ _ _ _ k (bit_of (held_field word) (below_2 word)) (link_code_of (forward_field layout1 word)) (link_code_of (back_field layout1 word)) gap end,
     )

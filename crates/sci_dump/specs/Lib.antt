@@ -3,3 +3,4 @@ pub mod Refusals
 pub mod Text
 pub mod Reading
 pub mod Rules
+pub mod ReadBack

@@ -1,7 +1,9 @@
 //! The reader of a whole dump.
 
-ghost use Rattle.std.specs.Prelude.{◌≡◌, ◌≤◌, ◌<◌, ◌+◌, true, length, All, IfOk, IfSome};
+ghost use Rattle.std.specs.Prelude.{◌≡◌, ◌≤◌, ◌<◌, ◌+◌, ℕ, List, Ok, true, length, All, IfOk, IfSome};
 ghost use Rattle.sci_words.specs.Tag.{tag_well_formed};
+ghost use Rattle.sci_core.specs.Closed.{ClosedLine};
+ghost use Rattle.sci_dump.specs.ReadBack.{CanBeDumped, dump_read};
 ghost use Rattle.sci_dump.specs.Text.{dump_text};
 ghost use Rattle.sci_dump.specs.Reading.{Gives, Reads, entry_at, entries_at, closed_at, lines_at, end_at, dump_of};
 
@@ -184,6 +186,9 @@ pub fn read_dump(alloc: Global, text: &[u8]) -> Result<Dump, DumpRefusal>
     ensures exact { Gives (λ d. d) result (dump_of text.now) }
     // What was read is written as the text that was read.
     ensures dumped { IfOk result (λ d. text.now ≡ dump_text d.nodes d.lines) }
+    // Lines whose dump this is are read back, with zeros as the content of nodes that are Invalid.
+    ensures read_back { (nodes : ℕ) (lines : List ClosedLine) → CanBeDumped nodes lines → text.now ≡ dump_text nodes lines
+        → Gives (λ d. d) result (Ok (dump_read nodes lines)) }
 {
     parse(alloc, text)
 }

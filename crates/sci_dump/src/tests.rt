@@ -1,7 +1,10 @@
 //! Dumps that are read, checked and written again, and texts that are none.
 mod growths;
+mod memory;
 
 use super::*;
+use sci_core::{AnyWords, Closed, Event, Line, Pending, Whole};
+use sci_words::{Kind, NodeId, Tag};
 use std::alloc::{AllocError, Global};
 use std::test::Fail;
 
@@ -205,6 +208,83 @@ fn changed_in_each_byte(rt: HostRuntime) -> Result<(), Fail> {
             }
         }
         line = line_behind(line, *old);
+    }
+    Ok(())
+}
+
+fn fresh(forw: Option<NodeId>) -> Tag {
+    Tag {
+        kind: Kind::Fresh,
+        held: false,
+        forw,
+        back: None,
+    }
+}
+
+// The line at rest.
+fn closed_of(alloc: Global, whole: &Whole<AnyWords>) -> Result<Closed, Fail> {
+    for number in 0..whole.nodes() {
+        let node = NodeId::new(number).ok_or("a node")?;
+        let Pending::Idle = whole.pending(node) else {
+            return Err(Fail::new("a node is at work"));
+        };
+    }
+    Ok(whole.closed(alloc)?)
+}
+
+// Makes these steps of a node.
+#[tactic(auto, using(sci_core::proofs::Fitting::any_event_fits))]
+fn take(whole: &mut Whole<AnyWords>, node: NodeId, events: &[Event]) -> Result<(), Fail> {
+    for event in events {
+        if node.get() >= whole.nodes() || whole.step(node, *event).is_err() {
+            return Err(Fail::new("the event is not in turn"));
+        }
+    }
+    Ok(())
+}
+
+// The line that nodes 0, 1 and 2 have loaded, in this order.
+fn shared(alloc: Global) -> Result<Closed, Fail> {
+    let zero = NodeId::new(0).ok_or("node 0")?;
+    let one = NodeId::new(1).ok_or("node 1")?;
+    let two = NodeId::new(2).ok_or("node 2")?;
+    let mut whole = Whole::open(alloc, 3, 0, Line::ZERO, AnyWords)?;
+    let enter = [Event::PrependValid, Event::ReturnMemory];
+    take(&mut whole, zero, &[Event::Queue(None)])?;
+    take(&mut whole, zero, &enter)?;
+    take(&mut whole, zero, &[Event::Settle])?;
+    take(&mut whole, one, &[Event::Queue(Some(zero))])?;
+    take(&mut whole, one, &enter)?;
+    take(
+        &mut whole,
+        one,
+        &[Event::AttachFresh(fresh(None)), Event::Settle],
+    )?;
+    take(&mut whole, two, &[Event::Queue(Some(one))])?;
+    take(&mut whole, two, &enter)?;
+    take(
+        &mut whole,
+        two,
+        &[Event::AttachFresh(fresh(Some(zero))), Event::Settle],
+    )?;
+    closed_of(alloc, &whole)
+}
+
+#[test]
+fn a_closed_line_is_dumped_and_read_back(rt: HostRuntime) -> Result<(), Fail> {
+    let closed = shared(rt.alloc())?;
+    assert_eq!(rt; closed.tags.len(), 3);
+    let lines = vec![in rt.alloc(); closed]?;
+    let text = dump(rt.alloc(), &lines)?;
+    assert!(rt; text.as_str() == SHARED);
+    let read = read_dump(rt.alloc(), text.as_bytes())?;
+    assert_eq!(rt; read.nodes, 3);
+    assert_eq!(rt; read.lines.len(), 1);
+    for (line, back) in lines.iter().zip(read.lines.iter()) {
+        assert_eq!(rt; line.mem, back.mem);
+        assert_eq!(rt; line.memory, back.memory);
+        assert_eq!(rt; line.tags.as_slice(), back.tags.as_slice());
+        assert_eq!(rt; line.lines.as_slice(), back.lines.as_slice());
     }
     Ok(())
 }

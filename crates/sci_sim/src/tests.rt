@@ -1,6 +1,7 @@
 ghost use Rattle.std.specs.Prelude.{Some};
 
 mod checks;
+mod growths;
 
 use crate::faults::SimFault;
 use crate::serve::{serve_buffered, serve_script};

@@ -8,7 +8,7 @@ use std::alloc::{AllocError, Global};
 use std::process::Abort;
 use std::test::Fail;
 
-const LAST: u16 = 20;
+const LAST: u16 = 10;
 
 // Makes so many allocations.
 fn spend(alloc: Global, count: u16) -> Result<(), AllocError> {
@@ -56,4 +56,54 @@ fn refuses(rt: &impl Abort, alloc: Global, spent: u16) -> Result<(), Fail> {
 #[test]
 fn growth_0_of_spending(rt: HostRuntime) -> Result<(), Fail> {
     refuses(&rt, rt.alloc(), LAST)
+}
+
+#[test]
+fn growth_1_of_read_dump(rt: HostRuntime) -> Result<(), Fail> {
+    refuses(&rt, rt.alloc(), LAST - 1)
+}
+
+#[test]
+fn growth_2_of_read_dump(rt: HostRuntime) -> Result<(), Fail> {
+    refuses(&rt, rt.alloc(), LAST - 2)
+}
+
+#[test]
+fn growth_3_of_read_dump(rt: HostRuntime) -> Result<(), Fail> {
+    refuses(&rt, rt.alloc(), LAST - 3)
+}
+
+#[test]
+fn growth_4_of_dump(rt: HostRuntime) -> Result<(), Fail> {
+    refuses(&rt, rt.alloc(), LAST - 4)
+}
+
+#[test]
+fn growth_5_of_dump(rt: HostRuntime) -> Result<(), Fail> {
+    refuses(&rt, rt.alloc(), LAST - 5)
+}
+
+#[test]
+fn growth_6_of_dump(rt: HostRuntime) -> Result<(), Fail> {
+    refuses(&rt, rt.alloc(), LAST - 6)
+}
+
+#[test]
+fn growth_7_of_dump(rt: HostRuntime) -> Result<(), Fail> {
+    refuses(&rt, rt.alloc(), LAST - 7)
+}
+
+#[test]
+fn growth_8_of_dump(rt: HostRuntime) -> Result<(), Fail> {
+    refuses(&rt, rt.alloc(), LAST - 8)
+}
+
+#[test]
+fn growth_9_of_dump(rt: HostRuntime) -> Result<(), Fail> {
+    refuses(&rt, rt.alloc(), LAST - 9)
+}
+
+#[test]
+fn growth_10_of_nothing(rt: HostRuntime) -> Result<(), Fail> {
+    refuses(&rt, rt.alloc(), 0)
 }

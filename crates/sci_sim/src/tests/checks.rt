@@ -7,14 +7,14 @@ use std::alloc::Global;
 use std::test::Fail;
 
 /// The dump of one line that nodes 0, 1 and 2 have loaded, in this order.
-const SHARED: &str = "scidump 1 3 1\n\
+pub const SHARED: &str = "scidump 1 3 1\n\
     line 0 0000000000000201 0 0 0 0 0 0 0 0 0\n\
     tag 0 0 000000000001ff07 0 0 0 0 0 0 0 0 0\n\
     tag 0 1 0000000000020007 0 0 0 0 0 0 0 0 0\n\
     tag 0 2 0000000000ff0102 0 0 0 0 0 0 0 0 0\n\
     end\n";
 
-const LAWFUL: &str = "line 0 FRESH 2: 2 HEAD_FRESH, 1 MID_VALID, 0 TAIL_VALID\nlawful\n";
+pub const LAWFUL: &str = "line 0 FRESH 2: 2 HEAD_FRESH, 1 MID_VALID, 0 TAIL_VALID\nlawful\n";
 
 /// SHARED with one change, the fault, and what is written.
 const CHANGED: [(&str, &str, Option<SimFault>, &str); 15] = [
