@@ -9,3 +9,5 @@ pub mod Ending
 pub mod Histories
 pub mod Unslipped
 pub mod Staying
+pub mod Banked
+pub mod TwoLines

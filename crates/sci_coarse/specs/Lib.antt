@@ -7,3 +7,4 @@ pub mod Regions
 pub mod Seats
 pub mod Ports
 pub mod Ends
+pub mod Banks

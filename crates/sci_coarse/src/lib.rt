@@ -1,6 +1,7 @@
 //! A line that threads share, under one lock word: its seats, one per node, and their ports.
 #![tactic(auto)]
 
+mod bank;
 mod calls;
 mod closing;
 mod laws;
@@ -15,6 +16,7 @@ mod stepping;
 mod tests;
 mod views;
 
+pub use bank::{CoarseBank, SeatOfAnother};
 pub use closing::FinishRefusal;
 pub use laws::law_of_one_run;
 pub use line::CoarseLine;

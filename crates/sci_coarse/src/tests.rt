@@ -3,6 +3,7 @@ ghost use Rattle.std.specs.Prelude.{◌≡◌, ◌<◌, IfSome, IsTrue};
 ghost use Rattle.sci_core.specs.declared.pending.Pending.TheVariants.{Idle};
 ghost use Rattle.sci_coarse.specs.Seats.{IsSeatOf};
 
+mod banks;
 mod growths;
 mod memory;
 mod recorded;

@@ -2,6 +2,7 @@
 //! node, and their ports.
 #![tactic(auto)]
 
+mod bank;
 mod closing;
 mod codes;
 mod laws;
@@ -16,6 +17,7 @@ mod stepping;
 mod tests;
 mod views;
 
+pub use bank::{FineBank, SeatOfAnother};
 pub use closing::FinishRefusal;
 pub use laws::law_of_one_run;
 pub use line::FineLine;

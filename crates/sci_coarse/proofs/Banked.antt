@@ -1,0 +1,138 @@
+-- A node's seats at lines of a memory, and a call on one of them.
+use Rattle.std.proofs.Common.{◌≡◌, ◌≢◌, ◌⊎◌, ⊎_elim, ℕ, ◌<◌, List, map, length, get_or, set, true, refl, sym, ap, subst, ◌∙◌}
+use Rattle.std.proofs.lemmas.List.{get_or_default, length-set, length-map}
+use mathlib.Core.Option.{some}
+use lib.ListN.{get_elem?}
+use Rattle.atomic_table.proofs.Lists.{at_index, at_set}
+use Rattle.sci_core.specs.declared.keeps.Keeps as keeps
+use Rattle.sci_core.specs.declared.events.Event.{Event}
+use Rattle.sci_core.specs.Answers.{is_allowed}
+use Rattle.sci_core.specs.declared.pending.Pending.{Pending}
+use Rattle.sci_port.specs.declared.calls.Call.{Call}
+use Rattle.sci_port.specs.Owes.{Owes}
+use Rattle.sci_port.specs.Seated.{Seated, CallsOn}
+use Rattle.sci_port.proofs.Seated.{at_place, read_at, calls_on}
+use Rattle.sci_coarse.specs.declared.line.CoarseLine.{CoarseLine}
+use Rattle.sci_coarse.specs.declared.seats.Seat.{Seat}
+use Rattle.sci_coarse.specs.declared.views.Terms.{Terms}
+use Rattle.sci_coarse.specs.Banks.{AreLines, AreSeatsAt, AreSeatsOf, IsOnePerLine, IsSeatAt, MakesCall, seated}
+use Rattle.sci_coarse.specs.Seats.{IsSeatOf, HasMade}
+
+module _ {K : Type 0} {g : keeps.Ghosts K} (lines : List (CoarseLine K)) (seats : List (Seat K g)) (are : AreLines lines) (one : IsOnePerLine lines seats) where
+  pub first_fact : (d l : CoarseLine K) → l ≡ get_or lines 0 d → l.terms.keep ≡ are.keep
+  first_fact d l is = (are.each 0 l (at_index lines 0 l are.some_are (is ∙ get_or_default lines 0 d l are.some_are))).fact
+
+  pub first_node : (d s : Seat K g) → s ≡ get_or seats 0 d → s.node ≡ one.node
+  first_node d s is = let near : 0 < length seats = subst (λ (n : ℕ). 0 < n) (sym one.count) are.some_are in (one.each 0 s (at_index seats 0 s near (is ∙ get_or_default seats 0 d s near))).0
+
+  -- such seats, each of the very line in its place, are a node's seats at the lines
+  pub sit_at : AreSeatsOf lines seats → (keep : K) (node : ℕ) → keep ≡ are.keep → node ≡ one.node → AreSeatsAt keep node lines seats
+  sit_at of keep node fact mine = record {
+    some_are = are.some_are;
+    few = are.few;
+    count = one.count;
+    each = λ k l s atl ats. record { of = of k l s atl ats; number = (are.each k l atl).number; fact = (are.each k l atl).fact ∙ sym fact; node_is = (one.each k s ats).0 ∙ sym mine };
+  }
+
+module _ {K : Type 0} {g : keeps.Ghosts K} (fits : K → ℕ → List ℕ → Type 0) (keep : K) (node : ℕ) (lines : List (CoarseLine K)) (seats : List (Seat K g)) (are : AreSeatsAt keep node lines seats) (line : ℕ) (within : line < length (map (λ (l : CoarseLine K). l.terms.nodes) lines)) where
+  inside : line < length lines
+  inside = subst (λ (n : ℕ). line < n) (length-map lines (λ (l : CoarseLine K). l.terms.nodes)) within
+
+  pub near : line < length seats
+  near = subst (λ (n : ℕ). line < n) (sym are.count) inside
+
+  -- the node is one of each line's
+  pub node_below : node < get_or (map (λ (l : CoarseLine K). l.terms.nodes) lines) line 0
+  node_below =
+      let l = at_place lines line inside in
+      let s = at_place seats line near in
+      let sits = are.each line l.0 s.0 l.1 s.1 in
+      subst (λ (n : ℕ). node < n) (ap (λ (t : Terms K). t.nodes) sits.of.1 ∙ sym (read_at (λ (x : CoarseLine K). x.terms.nodes) lines line l.0 0 l.1))
+      (subst (λ (n : ℕ). n < s.0.standing.terms.nodes) sits.node_is s.0.below)
+
+  module _ (i : ℕ) (d l : CoarseLine K) (il : i ≡ line) (atl : l ≡ get_or lines i d) where
+    line_at : get_elem? lines line ≡ some l
+    line_at = at_index lines line l inside (subst (λ (k : ℕ). l ≡ get_or lines k d) il atl ∙ get_or_default lines line d l inside)
+
+    pub nodes_is : l.terms.nodes ≡ get_or (map (λ (x : CoarseLine K). x.terms.nodes) lines) line 0
+    nodes_is = sym (read_at (λ (x : CoarseLine K). x.terms.nodes) lines line l 0 line_at)
+
+    pub number_is : l.terms.number ≡ line
+    number_is = let s = at_place seats line near in (are.each line l s.0 line_at s.1).number
+
+  module _ (j : ℕ) (d x : Seat K g) (jl : j ≡ line) (atx : x ≡ get_or seats j d) where
+    seat_at : get_elem? seats line ≡ some x
+    seat_at = at_index seats line x near (subst (λ (k : ℕ). x ≡ get_or seats k d) jl atx ∙ get_or_default seats line d x near)
+
+    a_line : (l : CoarseLine K) × (get_elem? lines line ≡ some l)
+    a_line = at_place lines line inside
+
+    sits : IsSeatAt keep node line a_line.0 x
+    sits = are.each line a_line.0 x a_line.1 seat_at
+
+    nodes_here : x.standing.terms.nodes ≡ get_or (map (λ (l : CoarseLine K). l.terms.nodes) lines) line 0
+    nodes_here = ap (λ (t : Terms K). t.nodes) sits.of.1 ∙ sym (read_at (λ (l : CoarseLine K). l.terms.nodes) lines line a_line.0 0 a_line.1)
+
+    fact_here : x.standing.terms.keep ≡ keep
+    fact_here = ap (λ (t : Terms K). t.keep) sits.of.1 ∙ sits.fact
+
+    number_here : x.standing.terms.number ≡ line
+    number_here = ap (λ (t : Terms K). t.number) sits.of.1 ∙ sits.number
+
+    -- what is so of the seat's line, node and fact is so of the bank's
+    pub here : (P : ℕ → K → ℕ → ℕ → Type 0) → P x.standing.terms.nodes x.standing.terms.keep x.standing.terms.number x.node → P (get_or (map (λ (l : CoarseLine K). l.terms.nodes) lines) line 0) keep line node
+    here P p =
+        subst (λ (m : ℕ). P (get_or (map (λ (l : CoarseLine K). l.terms.nodes) lines) line 0) keep line m) sits.node_is
+        (subst (λ (k : ℕ). P (get_or (map (λ (l : CoarseLine K). l.terms.nodes) lines) line 0) keep k x.node) number_here
+        (subst (λ (k : K). P (get_or (map (λ (l : CoarseLine K). l.terms.nodes) lines) line 0) k x.standing.terms.number x.node) fact_here
+        (subst (λ (n : ℕ). P n x.standing.terms.keep x.standing.terms.number x.node) nodes_here p)))
+
+    -- and the other way round
+    pub there : (P : ℕ → K → ℕ → ℕ → Type 0) → P (get_or (map (λ (l : CoarseLine K). l.terms.nodes) lines) line 0) keep line node → P x.standing.terms.nodes x.standing.terms.keep x.standing.terms.number x.node
+    there P p =
+        subst (λ (n : ℕ). P n x.standing.terms.keep x.standing.terms.number x.node) (sym nodes_here)
+        (subst (λ (k : K). P (get_or (map (λ (l : CoarseLine K). l.terms.nodes) lines) line 0) k x.standing.terms.number x.node) (sym fact_here)
+        (subst (λ (k : ℕ). P (get_or (map (λ (l : CoarseLine K). l.terms.nodes) lines) line 0) keep k x.node) (sym number_here)
+        (subst (λ (m : ℕ). P (get_or (map (λ (l : CoarseLine K). l.terms.nodes) lines) line 0) keep line m) (sym sits.node_is) p)))
+
+    pub step_here : x.standing.pending ≡ get_or (map (λ (s : Seat K g). s.standing.pending) seats) line Pending.Idle
+    step_here = sym (read_at (λ (s : Seat K g). s.standing.pending) seats line x Pending.Idle seat_at)
+
+    module _ (i : ℕ) (e l : CoarseLine K) (il : i ≡ line) (atl : l ≡ get_or lines i e) where
+      pub of_line : IsSeatOf l x
+      of_line = (are.each line l x (line_at i e l il atl) seat_at).of
+
+    -- what the node's pending step allows, the seat's does
+    pub allowed_there : (e : Event) → is_allowed (get_or (map (λ (l : CoarseLine K). l.terms.nodes) lines) line 0) node (get_or (map (λ (s : Seat K g). s.standing.pending) seats) line Pending.Idle) e ≡ true
+        → is_allowed x.standing.terms.nodes x.node x.standing.pending e ≡ true
+    allowed_there e h = there (λ n k m me. is_allowed n me x.standing.pending e ≡ true) (subst (λ (p : Pending). is_allowed (get_or (map (λ (l : CoarseLine K). l.terms.nodes) lines) line 0) node p e ≡ true) (sym step_here) h)
+
+    module _ (call : Call) (y : Seat K g) (made : HasMade fits x call y) (after : List (Seat K g)) (back : after ≡ set seats j y) where
+      back_here : after ≡ set seats line y
+      back_here = back ∙ ap (λ (k : ℕ). set seats k y) jl
+
+      pub makes_call : MakesCall fits seats line call after
+      makes_call = record { seat = x; later = y; at = seat_at; made = made; seats = back_here }
+
+      pub calls : CallsOn fits (seated keep node lines seats) line call (seated keep node lines after)
+      calls = calls_on fits (λ (s : Seat K g). s.standing.pending) keep node (map (λ (l : CoarseLine K). l.terms.nodes) lines) seats line call x y near seat_at (here (λ n k m me. Owes n (fits k m) me x.standing.pending call y.standing.pending) made.owes) after back_here
+
+      -- the seat that made the call is the node's seat there as before
+      still : (l : CoarseLine K) → IsSeatAt keep node line l x → IsSeatAt keep node line l y
+      still l s = record { of = (made.same.0 ∙ s.of.0, made.same.3 ∙ s.of.1); number = s.number; fact = s.fact; node_is = made.same.2 ∙ s.node_is }
+
+      each_after : (k : ℕ) (l : CoarseLine K) (s : Seat K g) → get_elem? lines k ≡ some l → get_elem? (set seats line y) k ≡ some s → IsSeatAt keep node k l s
+      each_after k l s kl ks = ⊎_elim
+          (λ (h : (k ≡ line) × (y ≡ s)).
+          let l_here : get_elem? lines line ≡ some l = subst (λ (n : ℕ). get_elem? lines n ≡ some l) h.0 kl in
+          subst (λ (n : ℕ). IsSeatAt keep node n l s) (sym h.0) (subst (λ (z : Seat K g). IsSeatAt keep node line l z) h.1 (still l (are.each line l x l_here seat_at))))
+          (λ (h : (k ≢ line) × (get_elem? seats k ≡ some s)). are.each k l s kl h.1)
+          (at_set seats line k y s ks)
+
+      pub sit_after : AreSeatsAt keep node lines after
+      sit_after = record {
+        some_are = are.some_are;
+        few = are.few;
+        count = ap (λ (l : List (Seat K g)). length l) back_here ∙ length-set seats line y ∙ are.count;
+        each = λ k l s kl ks. each_after k l s kl (subst (λ (m : List (Seat K g)). get_elem? m k ≡ some s) back_here ks);
+      }

@@ -1,0 +1,28 @@
+use Rattle.std.proofs.Common.{rules, Some, refl, ap, get_or}
+use Rattle.sci_port.proofs.Banked.{written_back}
+use Rattle.sci_port.proofs.Seated.{own_form}
+use Rattle.sci_port.specs.declared.calls.Call.TheVariants.{Own}
+use Rattle.sci_fine.proofs.Banked.{calls, makes_call, of_line, sit_after}
+use Rattle.sci_fine.proofs.bank.FineBankBank.own.Goals as goal
+
+pub own-requires : goal.own-requires
+own-requires g c = record { of = of_line g.K.Keeps.fits c.args.self.now.keep c.args.self.now.node c.args.self.now.lines.now c.args.self.now.seats.items c.args.self.now.of c.args.line c.requires c.from-2.result c.index-seats-from.result (get_or c.as_mut_slice-seats.result.now c.from-2.result c.index-seats-from.result) (search rules) (ap (λ l. get_or l c.from-2.result c.index-seats-from.result) c.as_mut_slice-seats.ensures.value) c.from.result c.index-self-from.result (get_or c.args.self.now.lines.now c.from.result c.index-self-from.result) (search rules) refl }
+
+pub invariant_of-self : goal.invariant_of-self
+invariant_of-self g c = record { of = sit_after g.K.Keeps.fits c.args.self.now.keep c.args.self.now.node c.args.self.now.lines.now c.args.self.now.seats.items c.args.self.now.of c.args.line c.requires c.from-2.result c.index-seats-from.result (get_or c.as_mut_slice-seats.result.now c.from-2.result c.index-seats-from.result) (search rules) (ap (λ l. get_or l c.from-2.result c.index-seats-from.result) c.as_mut_slice-seats.ensures.value) (Own (Some c.own.result)) c.own.new.self c.own.ensures.made _ (written_back c.args.self.now.seats.items c.as_mut_slice-seats.result.now c.args.self.now.seats.len c.from-2.result c.own.new.self c.as_mut_slice-seats.ensures.value c.as_mut_slice-seats.ensures.len) }
+
+pub returns-clause-gives : goal.returns-clause-gives
+returns-clause-gives g c = (
+  refl,
+  makes_call g.K.Keeps.fits c.args.self.now.keep c.args.self.now.node c.args.self.now.lines.now c.args.self.now.seats.items c.args.self.now.of c.args.line c.requires c.from-2.result c.index-seats-from.result (get_or c.as_mut_slice-seats.result.now c.from-2.result c.index-seats-from.result) (search rules) (ap (λ l. get_or l c.from-2.result c.index-seats-from.result) c.as_mut_slice-seats.ensures.value) (Own (Some c.own.result)) c.own.new.self c.own.ensures.made _ (written_back c.args.self.now.seats.items c.as_mut_slice-seats.result.now c.args.self.now.seats.len c.from-2.result c.own.new.self c.as_mut_slice-seats.ensures.value c.as_mut_slice-seats.ensures.len),
+  calls g.K.Keeps.fits c.args.self.now.keep c.args.self.now.node c.args.self.now.lines.now c.args.self.now.seats.items c.args.self.now.of c.args.line c.requires c.from-2.result c.index-seats-from.result (get_or c.as_mut_slice-seats.result.now c.from-2.result c.index-seats-from.result) (search rules) (ap (λ l. get_or l c.from-2.result c.index-seats-from.result) c.as_mut_slice-seats.ensures.value) (Own (Some c.own.result)) c.own.new.self c.own.ensures.made _ (written_back c.args.self.now.seats.items c.as_mut_slice-seats.result.now c.args.self.now.seats.len c.from-2.result c.own.new.self c.as_mut_slice-seats.ensures.value c.as_mut_slice-seats.ensures.len),
+)
+
+pub returns-clause-others : goal.returns-clause-others
+returns-clause-others g c = (returns-clause-gives g c).2.others
+
+pub returns-clause-look : goal.returns-clause-look
+returns-clause-look g c = (returns-clause-gives g c).2.owes.0
+
+pub returns-clause-form : goal.returns-clause-form
+returns-clause-form g c = own_form _ _ (Some c.own.result) (returns-clause-gives g c).2.owes.1
