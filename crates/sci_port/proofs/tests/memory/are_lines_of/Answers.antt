@@ -11,6 +11,6 @@ loop-line-preserved c keep k d lt = elim (cases_lt k c.loop-line.line) [
       let e : c.loop-line.line ≡ k = omega arith in
       let here : IsLineOf keep c.args.me c.loop-line.line c.index-wholes-line.result = record { number = search rules; fact = search rules; below = search rules } in
       subst (λ (i : ℕ). IsLineOf keep c.args.me i (get_or c.args.wholes.now i d)) e
-        (subst (IsLineOf keep c.args.me c.loop-line.line)
-          (c.index-wholes-line.is ∙ get_or_default c.args.wholes.now c.loop-line.line c.index-wholes-line.result d (search rules)) here)
+      (subst (IsLineOf keep c.args.me c.loop-line.line)
+      (c.index-wholes-line.is ∙ get_or_default c.args.wholes.now c.loop-line.line c.index-wholes-line.result d (search rules)) here)
 ]
