@@ -4,6 +4,7 @@ ghost use Rattle.sci_core.specs.declared.pending.Pending.TheVariants.{Idle};
 ghost use Rattle.sci_fine.specs.Seats.{IsSeatOf};
 
 mod growths;
+mod memory;
 mod recorded;
 mod replays;
 mod threads;
