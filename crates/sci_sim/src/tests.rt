@@ -1,5 +1,7 @@
 ghost use Rattle.std.specs.Prelude.{Some};
 
+mod faltering;
+
 use crate::faults::SimFault;
 use crate::serve::{serve_buffered, serve_script};
 use sci_script::ScriptRefusal;
