@@ -82,6 +82,31 @@ fn opens_with_1_to_64_nodes(rt: HostRuntime) -> Result<(), Fail> {
 }
 
 #[test]
+fn closes_and_lists_1_to_64_nodes(rt: HostRuntime) -> Result<(), Fail> {
+    for nodes in 1..65 {
+        let mut whole = Whole::open(rt.alloc(), nodes, 7, LINE, AnyWords)?;
+        let closed = whole.closed(rt.alloc())?;
+        assert_eq!(rt; closed.tags.len(), usize::from(nodes));
+        let mut head = None;
+        for number in 0..nodes {
+            for event in [Event::Queue(head), Event::PrependValid, Event::ReturnMemory] {
+                let outcome = step(&mut whole, number, event);
+                assert!(rt; matches!(outcome, Some(Ok(Outcome::Done(_)))), "of {nodes}");
+            }
+            head = NodeId::new(number);
+        }
+        let chain: Vec<u16> = whole
+            .chain(rt.alloc())?
+            .iter()
+            .map(|node| node.get())
+            .collect(rt.alloc())?;
+        let want: Vec<u16> = (0..nodes).rev().collect(rt.alloc())?;
+        assert_eq!(rt; chain.as_slice(), want.as_slice(), "of {nodes}");
+    }
+    Ok(())
+}
+
+#[test]
 fn runs_two_readers(rt: HostRuntime) -> Result<(), Fail> {
     let mut whole = Whole::open(rt.alloc(), 2, 0, LINE, AnyWords)?;
     let events = [

@@ -2,6 +2,8 @@
 ghost use Rattle.std.specs.Prelude.{◌≡◌, ◌<◌};
 
 mod desks;
+mod extremes;
+mod faltering;
 mod growths;
 mod long_texts;
 mod memory;

@@ -1,6 +1,7 @@
 ghost use Rattle.std.specs.Prelude.{Some};
 
 mod checks;
+mod faltering;
 mod growths;
 
 use crate::faults::SimFault;

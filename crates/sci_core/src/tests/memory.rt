@@ -9,7 +9,11 @@ use crate::whole::Whole;
 use sci_words::{NodeId, Tag};
 use std::alloc::{AllocError, Global};
 
+/// How many nodes work on a line.
 const NODES: u16 = 3;
+
+/// The most nodes that a line may have.
+const MOST: u16 = 64;
 
 const EVENTS: usize = 34;
 
@@ -104,22 +108,31 @@ fn spend(alloc: Global, count: u16) -> Result<(), AllocError> {
 
 #[test]
 fn steps_take_no_memory(rt: HostRuntime) {
-    // `open` takes three.
-    assert!(rt; spend(rt.alloc(), 28).is_ok());
-    let Ok(mut whole) = Whole::open(rt.alloc(), NODES, 7, LINE, AnyWords) else {
-        panic!(rt; "`open` takes more than three allocations")
-    };
-    assert!(rt; walk(&mut whole) == Some([true; EVENTS]));
+    // `open` takes three, and is called for two numbers of nodes.
+    assert!(rt; spend(rt.alloc(), 25).is_ok());
+    for nodes in [NODES, MOST] {
+        let Ok(mut whole) = Whole::open(rt.alloc(), nodes, 7, LINE, AnyWords) else {
+            panic!(rt; "`open` takes more than three allocations")
+        };
+        assert!(rt; walk(&mut whole) == Some([true; EVENTS]), "with {nodes}");
+    }
     assert!(rt; spend(rt.alloc(), 1).is_ok(), "allocation 32 is refused");
 }
 
-/// A first reader, until a second one prepends itself; a missed exchange; and an event that isn't in turn.
-fn events() -> Option<[(NodeId, Event); 9]> {
-    let (zero, one) = (NodeId::new(0)?, NodeId::new(1)?);
+/// Three events of a first reader.
+fn first() -> Option<[(NodeId, Event); 3]> {
+    let zero = NodeId::new(0)?;
     Some([
         (zero, Event::Queue(None)),
         (zero, Event::PrependValid),
         (zero, Event::ReturnMemory),
+    ])
+}
+
+/// The same reader, until a second one prepends itself; a missed exchange; and an event that isn't in turn.
+fn then() -> Option<[(NodeId, Event); 6]> {
+    let (zero, one) = (NodeId::new(0)?, NodeId::new(1)?);
+    Some([
         (zero, Event::Settle),
         (zero, Event::Convert(fresh(None))),
         (one, Event::Queue(Some(zero))),
@@ -131,23 +144,30 @@ fn events() -> Option<[(NodeId, Event); 9]> {
 
 #[test]
 fn runs_and_closing_take_no_memory(rt: HostRuntime) {
-    // `open` takes three, and the room two.
-    assert!(rt; spend(rt.alloc(), 26).is_ok());
-    let Ok(mut whole) = Whole::open(rt.alloc(), NODES, 7, LINE, AnyWords) else {
-        panic!(rt; "`open` takes more than three allocations")
+    // `open` takes three, and the room two, for two numbers of nodes.
+    assert!(rt; spend(rt.alloc(), 21).is_ok());
+    let Some(first) = first() else {
+        panic!(rt; "no such node")
     };
-    let (Ok(tags), Ok(lines)) = (
-        Vec::with_capacity(rt.alloc(), usize::from(NODES)),
-        Vec::with_capacity(rt.alloc(), usize::from(NODES)),
-    ) else {
-        panic!(rt; "no room")
-    };
-    let closed = whole.closed_in(tags, lines);
-    assert_eq!(rt; closed.tags.len(), 3);
-    assert_eq!(rt; closed.lines.as_slice(), [LINE; 3].as_slice());
-    let Some(events) = events() else {
+    let Some(then) = then() else {
         panic!(rt; "no such nodes")
     };
-    assert_eq!(rt; run(&mut whole, &events), Some(Err(8)));
+    for nodes in [NODES, MOST] {
+        let Ok(mut whole) = Whole::open(rt.alloc(), nodes, 7, LINE, AnyWords) else {
+            panic!(rt; "`open` takes more than three allocations")
+        };
+        let (Ok(tags), Ok(lines)) = (
+            Vec::with_capacity(rt.alloc(), usize::from(nodes)),
+            Vec::with_capacity(rt.alloc(), usize::from(nodes)),
+        ) else {
+            panic!(rt; "no room")
+        };
+        let closed = whole.closed_in(tags, lines);
+        assert_eq!(rt; closed.tags.len(), usize::from(nodes));
+        assert_eq!(rt; closed.lines.len(), usize::from(nodes));
+        assert!(rt; closed.lines.iter().all(|line| *line == LINE));
+        assert_eq!(rt; run(&mut whole, &first), Some(Ok(3)));
+        assert_eq!(rt; run(&mut whole, &then), Some(Err(5)));
+    }
     assert!(rt; spend(rt.alloc(), 1).is_ok(), "allocation 32 is refused");
 }
