@@ -9,3 +9,4 @@ pub mod Ending
 pub mod Histories
 pub mod Unslipped
 pub mod Staying
+pub mod Appending

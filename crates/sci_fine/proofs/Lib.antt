@@ -13,3 +13,4 @@ pub mod Ordered
 pub mod Ending
 pub mod Staying
 pub mod Telling
+pub mod Appending
