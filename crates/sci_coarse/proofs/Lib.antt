@@ -11,3 +11,4 @@ pub mod Unslipped
 pub mod Staying
 pub mod Banked
 pub mod TwoLines
+pub mod Appending

@@ -14,3 +14,4 @@ pub mod Ending
 pub mod Staying
 pub mod Telling
 pub mod Banked
+pub mod Appending
