@@ -1,4 +1,4 @@
-//! The readers of a script, the calls of a desk, and `put` take no memory. The gate runs this test with allocation 64 refused,
+//! The readers of a script, the calls of a desk, and `put` take no memory. The gate runs this test with allocation 512 refused,
 //! and wants it to fail in its last line, and there alone.
 ghost use Rattle.std.specs.Prelude.{◌≡◌, ◌<◌, false, None};
 ghost use Rattle.sci_cache.specs.Requests.{line_of, has_bad_word};
@@ -15,8 +15,10 @@ const TURNS: u32 = 100_000;
 
 const LINE: LineNo = 1;
 
+const NODES: u16 = 64;
+
 const SCRIPT: &[u8] =
-    b"memory 3 2\ncapacity 2\nopen 0 9 1 1 1 1 1 1 1 1\nopen 1 4 1 2 3 4 5 6 7 8\nlist 0\n";
+    b"memory 64 2\ncapacity 2\nopen 0 9 1 1 1 1 1 1 1 1\nopen 1 4 1 2 3 4 5 6 7 8\nlist 0\n";
 
 /// Counts bytes: it takes three a write, and each other write is interrupted.
 #[derive(Drop)]
@@ -76,12 +78,12 @@ fn reads(script: &Script) -> (u16, u16, [u64; 3]) {
     (script.nodes(), script.lines(), stamps)
 }
 
-/// Each of three nodes begins a load of the line, which its table then names.
+/// Each node begins a load of the line, which its table then names.
 fn enter(script: &Script, desk: &mut WholeDesk) -> Option<()>
     requires { desk.old.size ≡ script.now.size }
     ensures { desk.new.size ≡ script.now.size }
 {
-    for number in 0..3 {
+    for number in 0..NODES {
         let node = NodeId::new(number)?;
         if node.get() >= script.nodes() || LINE >= script.lines() || desk.open(node) {
             return None;
@@ -91,7 +93,7 @@ fn enter(script: &Script, desk: &mut WholeDesk) -> Option<()>
     Some(())
 }
 
-/// Turns by chance of three nodes, each with one call after the other, with loads behind each: how many calls ended.
+/// Turns by chance of all nodes, each with one call after the other, with loads behind each: how many calls ended.
 fn turns(script: &Script, desk: &mut WholeDesk) -> Option<u32>
     requires { desk.old.size ≡ script.now.size }
 {
@@ -99,7 +101,7 @@ fn turns(script: &Script, desk: &mut WholeDesk) -> Option<u32>
     let mut chance = 1;
     for _ in 0..TURNS {
         chance = next(chance);
-        let node = NodeId::new((chance >> 16) as u16 % 3)?;
+        let node = NodeId::new((chance >> 16) as u16 % NODES)?;
         if node.get() >= script.nodes() || LINE >= script.lines() {
             return None;
         }
@@ -124,15 +126,15 @@ fn spend(alloc: Global, count: u16) -> Result<(), AllocError> {
 
 #[test]
 fn readers_and_turns_take_no_memory(rt: HostRuntime) {
-    // The script, the desk, and the lines that its nodes name take 36.
-    assert!(rt; spend(rt.alloc(), 27).is_ok());
+    // The script, the desk, and the lines that its nodes name take 467.
+    assert!(rt; spend(rt.alloc(), 44).is_ok());
     let Ok(script) = read_script(rt.alloc(), SCRIPT) else {
         panic!(rt; "no script")
     };
     let Ok(mut desk) = WholeDesk::open(rt.alloc(), &script) else {
         panic!(rt; "no desk")
     };
-    assert_eq!(rt; reads(&script), (3, 2, [9, 4, 0]));
+    assert_eq!(rt; reads(&script), (NODES, 2, [9, 4, 0]));
     assert!(rt; enter(&script, &mut desk) == Some(()));
     assert!(rt; matches!(turns(&script, &mut desk), Some(1_000..)));
     let mut out = Counter {
@@ -141,5 +143,5 @@ fn readers_and_turns_take_no_memory(rt: HostRuntime) {
     };
     assert!(rt; put(&mut out, SCRIPT).is_ok());
     assert_eq!(rt; out.bytes, SCRIPT.len());
-    assert!(rt; spend(rt.alloc(), 1).is_ok(), "allocation 64 is refused");
+    assert!(rt; spend(rt.alloc(), 1).is_ok(), "allocation 512 is refused");
 }
