@@ -1,5 +1,5 @@
 -- The calls of a desk of whole lines, on its lists.
-use Rattle.std.proofs.Common.{◌≡◌, ◌≢◌, ◌∙◌, ℕ, ◌<◌, List, Option, Some, None, IfSome, [], length, get_or, set, All, refl, sym, ap, subst, arith}
+use Rattle.std.proofs.Common.{◌≡◌, ◌∙◌, ℕ, ◌<◌, List, Option, Some, None, IfSome, length, get_or, set, All, refl, sym, ap, subst, arith}
 use Rattle.std.proofs.lemmas.Bool.Decides.{nat_tests}
 use Rattle.std.proofs.lemmas.List.{get_or-set_same, get_or-set_other}
 use Rattle.sci_core.specs.declared.keeps.AnyWords.{AnyWords}
@@ -8,13 +8,13 @@ use Rattle.sci_core.specs.Whole.{WholeLine, nodes_of, state_of}
 use Rattle.sci_core.proofs.States.{opened_state}
 use Rattle.sci_ops.specs.declared.answers.Turn.{Turn}
 use Rattle.sci_cache.specs.declared.calls.OpenCall.{OpenCall}
-use Rattle.sci_cache.specs.Nodes.{NodeState, node_state, node_after, line_by, op_by}
+use Rattle.sci_cache.specs.Nodes.{NodeState, node_after, line_by, op_by}
 use Rattle.sci_script.specs.declared.commands.Size.{Size}
 use Rattle.sci_script.specs.declared.commands.Opening.{Opening}
-use Rattle.sci_script.specs.Nodes.{TurnsOver, TurnsOverOf, whole_of}
+use Rattle.sci_script.specs.Nodes.{TurnsOverOf, whole_of}
 use Rattle.sci_script.specs.Openings.{zeros, content_of}
 use Rattle.sci_script.specs.ScriptText.{Opens}
-use Rattle.sci_script.specs.Shared.{HasNode, TakesTurn, TakesTurnOf}
+use Rattle.sci_script.specs.Shared.{HasNode, TakesTurnOf}
 use Rattle.sci_script.specs.Turns.{TurnsOn}
 use Rattle.sci_script.specs.Unused.{AreOpened, AreIdle, no_line, no_node, shared}
 

@@ -9,3 +9,4 @@ pub mod Seated
 pub mod Desks
 pub mod Through
 pub mod Extended
+pub mod BankDesks

@@ -1,17 +1,15 @@
 -- A turn of a node over the bank that it is seated at, as the lines see it.
-use Rattle.std.proofs.Common.{◌≡◌, ◌≢◌, ℕ, List, Option, Some, None, Result, Ok, Err, refl, sym, ap, subst}
+use Rattle.std.proofs.Common.{◌≡◌, ℕ, List, Option, Some, None, Ok, refl, sym, ap, subst}
 use Rattle.sci_core.specs.declared.keeps.AnyWords.{AnyWords}
 use Rattle.sci_port.specs.declared.calls.Call.{Call}
-use Rattle.sci_port.specs.Banks.{LentLines, GivesAt, whole_at, state_at, nodes_at, step_at}
-use Rattle.sci_port.specs.Solo.{Gives}
+use Rattle.sci_port.specs.Banks.{LentLines, GivesAt, whole_at, state_at, step_at}
 use Rattle.sci_ops.specs.declared.answers.Turn.{Turn}
 use Rattle.sci_ops.specs.Plan.{Takes}
 use Rattle.sci_ops.specs.Table.{turn_of}
 use Rattle.sci_cache.specs.declared.calls.OpenCall.{OpenCall}
-use Rattle.sci_cache.specs.declared.refusals.NodeRefusal.{NodeRefusal}
 use Rattle.sci_cache.specs.Nodes.{NodeState, TurnsBy, line_by, op_by}
 use Rattle.sci_cache.proofs.Through.{chain_keeps}
-use Rattle.sci_script.specs.Nodes.{TurnsOver, TurnsOverOf}
+use Rattle.sci_script.specs.Nodes.{TurnsOverOf}
 use Rattle.sci_script.proofs.Followed.{turned_by}
 
 module _ {U : Type 0} (fits : AnyWords → ℕ → List ℕ → Type 0) (lent : U → LentLines AnyWords) (gives : U → ℕ → Call → U → Type 0)

@@ -11,5 +11,6 @@ pub mod Shared
 pub mod Unused
 pub mod Nodes
 pub mod Wholes
+pub mod BankDesks
 pub mod ScriptText
 pub mod Refusals

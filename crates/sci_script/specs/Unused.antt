@@ -1,5 +1,5 @@
 -- Whole lines and nodes as a memory, and lines and nodes just opened. This project's profile.
-use Rattle.std.specs.Prelude.{◌≡◌, ℕ, ◌<◌, List, [], length, None, slice_index_or}
+use Rattle.std.specs.Prelude.{◌≡◌, ℕ, ◌<◌, List, [], None, slice_index_or}
 use Rattle.sci_core.specs.declared.keeps.AnyWords.{AnyWords}
 use Rattle.sci_core.specs.State.{blank}
 use Rattle.sci_core.specs.Whole.{WholeLine, state_of, opened_whole}

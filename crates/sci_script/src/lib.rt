@@ -1,11 +1,13 @@
 //! Scripts: their reader, their runner, and what they are run over.
 #![tactic(auto)]
 
+mod banks;
 mod commands;
 mod desk;
 mod line_commands;
 mod line_words;
 mod loading;
+mod nodes;
 mod numbers;
 mod reader;
 mod refusals;
@@ -16,6 +18,7 @@ mod texts;
 mod wholes;
 mod writing;
 
+pub use banks::{BankDesk, NoDesk};
 pub use commands::Script;
 pub use desk::Desk;
 pub use reader::read_script;

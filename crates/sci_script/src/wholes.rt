@@ -3,10 +3,11 @@ ghost use Rattle.std.specs.Prelude.{◌≡◌, ◌<◌, ℕ, true, length, is_so
 ghost use Rattle.sci_core.specs.Whole.{nodes_of};
 ghost use Rattle.sci_cache.specs.Nodes.{IsSameNode, line_by};
 ghost use Rattle.sci_script.specs.Nodes.{AreNodesOf, TurnsOverOf, whole_of};
-ghost use Rattle.sci_script.specs.Unused.{AreOpened, AreIdle};
+ghost use Rattle.sci_script.specs.Unused.{AreOpened};
 
 use crate::commands::{Script, Size};
 use crate::desk::Desk;
+use crate::nodes::idle;
 use sci_cache::{Node, Request};
 use sci_core::{AnyWords, Whole};
 use sci_ops::Turn;
@@ -41,25 +42,6 @@ fn unused(alloc: Global, script: &Script) -> Result<Vec<Whole<AnyWords>>, AllocE
         }
     }
     Ok(wholes)
-}
-
-/// The nodes of a script, none of which has used a line.
-fn idle(alloc: Global, script: &Script) -> Result<Vec<Node>, AllocError>
-    ensures count { IfOk result (λ nodes. length nodes.items ≡ script.now.size.nodes) }
-    ensures idle { IfOk result (λ nodes. AreIdle script.now.size.lines script.now.capacity script.now.size.nodes nodes.items) }
-{
-    let size = script.size;
-    let mut nodes = Vec::new(alloc);
-    for number in 0..size.nodes {
-        let Some(id) = NodeId::new(number) else {
-            unreachable!()
-        };
-        match Node::new(alloc, id, size.lines, script.capacity) {
-            Ok(node) => nodes.push(node)?,
-            Err(_) => return Err(AllocError),
-        }
-    }
-    Ok(nodes)
 }
 
 /// One turn of the node's call, over the bank that it is seated at.

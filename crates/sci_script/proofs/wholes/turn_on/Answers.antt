@@ -1,7 +1,5 @@
 use Rattle.std.proofs.Common.{sym}
-use Rattle.sci_core.specs.declared.keeps.AnyWords.{AnyWords}
 use Rattle.sci_port.specs.Banks.{lent_lines}
-use Rattle.sci_port.specs.declared.solo_bank.SoloBank.{SoloBank}
 use Rattle.sci_script.proofs.Seated.{turned}
 use Rattle.sci_script.proofs.wholes.turn_on.Goals as goal
 

@@ -1,6 +1,6 @@
 use Rattle.std.proofs.Common.{◌≡◌, length}
 use Rattle.sci_script.specs.Unused.{AreIdle}
-use Rattle.sci_script.proofs.wholes.idle.Given as goal
+use Rattle.sci_script.proofs.nodes.idle.Given as goal
 
 abbrev pub invariant-loop-number : goal.invariant-loop-number
 invariant-loop-number l =

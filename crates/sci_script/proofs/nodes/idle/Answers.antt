@@ -1,7 +1,7 @@
 use Rattle.std.proofs.Common.{rules, ◌+◌, ◌∙◌, ap}
 use Rattle.std.proofs.lemmas.List.{length_push}
 use Rattle.sci_script.proofs.Opened.{idle_push}
-use Rattle.sci_script.proofs.wholes.idle.Goals as goal
+use Rattle.sci_script.proofs.nodes.idle.Goals as goal
 
 pub loop-number-preserved : goal.loop-number-preserved
 loop-number-preserved c =
