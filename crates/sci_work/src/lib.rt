@@ -1,0 +1,13 @@
+//! Workloads: programs of nodes on shared lines, each node in a thread of its own.
+#![tactic(auto)]
+
+mod doors;
+mod facts;
+mod gates;
+mod refusals;
+#[cfg(test)]
+mod tests;
+
+pub use facts::StencilFact;
+pub use gates::{Gate, OpenGate};
+pub use refusals::WorkRefusal;
