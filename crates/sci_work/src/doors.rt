@@ -1,4 +1,7 @@
 //! What a worker passes before each of its calls: the stop mark, and the gate.
+ghost use Rattle.std.specs.Prelude.{IfErr};
+ghost use Rattle.sci_work.specs.Made.{ComesInWork};
+
 use crate::gates::Gate;
 use crate::refusals::WorkRefusal;
 use crossbeam_utils::Backoff;
@@ -24,7 +27,9 @@ impl<'w, G: Gate> Door<'w, G> {
     }
 
     /// Asks until the next call may start. Refusal 25 where the stop mark is raised, 20 at the gate's limit.
-    pub(crate) fn enter(&self) -> Result<(), WorkRefusal> {
+    pub(crate) fn enter(&self) -> Result<(), WorkRefusal>
+        ensures { IfErr result ComesInWork }
+    {
         let backoff = Backoff::new();
         for _ in 0..self.gate.limit() {
             if self.stop.load(Ordering::SeqCst) {

@@ -5,9 +5,11 @@ mod doors;
 mod facts;
 mod gates;
 mod refusals;
+mod ring;
 #[cfg(test)]
 mod tests;
 
-pub use facts::StencilFact;
+pub use facts::{RingFact, StencilFact};
 pub use gates::{Gate, OpenGate};
 pub use refusals::WorkRefusal;
+pub use ring::{consume, produce};
