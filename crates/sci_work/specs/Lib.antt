@@ -1,0 +1,5 @@
+pub mod Made
+pub mod Plain
+pub mod Refusals
+pub mod Ring
+pub mod Stencil
