@@ -26,8 +26,8 @@ word k f b = record { kind = k; held = false; forw = f; back = b }
 abbrev pub invalid : Tag
 invalid = word Kind.Invalid None None
 
-abbrev pub held : Tag → Tag
-held t = record { kind = t.kind; held = true; forw = t.forw; back = t.back }
+abbrev pub held_word : Tag → Tag
+held_word t = record { kind = t.kind; held = true; forw = t.forw; back = t.back }
 
 abbrev pub unheld : Tag → Tag
 unheld t = record { kind = t.kind; held = false; forw = t.forw; back = t.back }
@@ -36,8 +36,8 @@ unheld t = record { kind = t.kind; held = false; forw = t.forw; back = t.back }
 abbrev pub memory_word : MemState → Option ℕ → Mem
 memory_word s f = record { state = s; lent = false; forw = f }
 
-abbrev pub lent : Mem → Mem
-lent m = record { state = m.state; lent = true; forw = m.forw }
+abbrev pub lent_word : Mem → Mem
+lent_word m = record { state = m.state; lent = true; forw = m.forw }
 
 abbrev pub unlent : Mem → Mem
 unlent m = record { state = m.state; lent = false; forw = m.forw }

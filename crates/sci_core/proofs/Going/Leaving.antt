@@ -5,7 +5,7 @@ use Rattle.sci_words.specs.declared.tags.Tag.{Tag}
 use Rattle.sci_core.specs.declared.lines.Line.{Line}
 use Rattle.sci_core.specs.declared.pending.Pending.{Pending}
 use Rattle.sci_core.specs.declared.events.Event.{Event}
-use Rattle.sci_core.specs.State.{State, update, lent, unlent, blank}
+use Rattle.sci_core.specs.State.{State, update, lent_word, unlent, blank}
 use Rattle.sci_core.specs.Shape.{shape}
 use Rattle.sci_core.specs.Law.{Witness, Law, Below}
 use Rattle.sci_core.specs.Found.{names, is_settled_body, is_found}
@@ -58,7 +58,7 @@ module _ (n : ℕ) (s : State) (g : Witness) (me : ℕ) where
   return_home_dirty_goes false l t allowed word = absurd (cc)
   return_home_dirty_goes true l t allowed word = record {
     home = memory_home s g t.law (ap (λ (m : Mem). m.lent) word);
-    after = record g { rank = update g.rank me 0; lender = me };
+    after = record g { rank = update g.rank me 0; borrower = me };
     law = return_home_dirty_keeps_law s g t.law me l t.pending word;
     links = return_home_dirty_keeps_links n s t.links me t.below l t.pending word;
     value = refl;
@@ -103,7 +103,7 @@ module _ (n : ℕ) (s : State) (g : Witness) (me : ℕ) where
   promoted_goes d l x Event.ReEnter t allowed finds = re_enter_goes d l x t finds
   promoted_goes d l x _ t allowed finds = absurd (cc)
 
-  write_back_goes : (l : Line) → Turn n s g me (Pending.WritingBack l) → s.memory ≡ lent home → Going n s g me Event.ReturnMemory (writing_back_row l Event.ReturnMemory)
+  write_back_goes : (l : Line) → Turn n s g me (Pending.WritingBack l) → s.memory ≡ lent_word home → Going n s g me Event.ReturnMemory (writing_back_row l Event.ReturnMemory)
   write_back_goes l t word =
       let after : Mem → State = λ m. record s { memory = m; steps = update s.steps me (Pending.Parted None); memory_slot = Some l } in
       let rest : unlent s.memory ≡ home = ap unlent word in

@@ -7,7 +7,7 @@ use Rattle.sci_core.specs.declared.events.Event.{Event}
 use Rattle.sci_core.specs.State.{State, update}
 use Rattle.sci_core.specs.Law.{Witness}
 use Rattle.sci_core.specs.Found.{names, is_settled_body, is_rolling, is_found}
-use Rattle.sci_core.specs.Row.{purging, purged}
+use Rattle.sci_core.specs.Row.{purging, purged_word}
 use Rattle.sci_core.specs.Table.Purging.{written, purging_allows, purging_row, advancing_allows, advancing_row, clearing_allows, clearing_row}
 use Rattle.sci_core.proofs.Going.Forms.{Going, Turn, FindsRow}
 use Rattle.sci_core.proofs.Going.Facts.{Found, found, body_kind, rolling_kind, not_named, not_true, and_left, and_right, purging_value}
@@ -83,7 +83,7 @@ module _ (n : ℕ) (s : State) (g : Witness) (me : ℕ) where
   advancing_goes l x w Event.Advance t allowed finds = advance_goes l x w t finds
   advancing_goes l x w _ t allowed finds = absurd (cc)
 
-  clear_goes : (l : Line) (x : ℕ) (w : Tag) → Turn n s g me (Pending.Clearing l x w) → s.tags x ≡ purged w → Going n s g me Event.Clear (clearing_row l x w Event.Clear)
+  clear_goes : (l : Line) (x : ℕ) (w : Tag) → Turn n s g me (Pending.Clearing l x w) → s.tags x ≡ purged_word w → Going n s g me Event.Clear (clearing_row l x w Event.Clear)
   clear_goes l x w t victim = record {
     home = tt;
     after = g;

@@ -8,7 +8,7 @@ use crate::lines::Line;
 use crate::pending::Pending;
 use crate::rows::{Exchange, Place};
 use crate::table::shorthand::{
-    answering, listed, memory, no_exchange, purging, settled, stays, tag, takes, word,
+    answering, listed, memory, no_exchange, purging, settled_word, stays, tag, takes, word,
 };
 use sci_words::{Kind, NodeId};
 
@@ -47,7 +47,7 @@ pub fn converting_exchange(
             answering(takes(change, Place::Node(me), after), taken)
         }
         Event::Unconverted => {
-            let change = tag(me, word(Kind::Convert, *forw, None), settled(false, *forw));
+            let change = tag(me, word(Kind::Convert, *forw, None), settled_word(false, *forw));
             stays(change, Pending::Idle)
         }
         _ => no_exchange(),

@@ -10,7 +10,7 @@ use crate::pending::Pending;
 use crate::rows::{Exchange, Place};
 use crate::table::found;
 use crate::table::shorthand::{
-    answering, gives, held, invalid, leaving, no_exchange, purging, queued, stays, tag, takes,
+    answering, gives, held_word, invalid, leaving, no_exchange, purging, queued_word, stays, tag, takes,
     unheld, word,
 };
 use sci_words::{Kind, NodeId, Tag};
@@ -36,14 +36,14 @@ pub fn idle_exchange(me: NodeId, event: &Event, taken: &Line) -> Exchange
     match event {
         Event::Queue(forw) => {
             let after = Pending::Queueing { forw: *forw };
-            takes(tag(me, invalid(), queued(*forw)), mine, after)
+            takes(tag(me, invalid(), queued_word(*forw)), mine, after)
         }
         Event::Hold(own) => {
             let after = Pending::Holding {
                 word: *own,
                 line: *taken,
             };
-            takes(tag(me, *own, held(own)), mine, after)
+            takes(tag(me, *own, held_word(own)), mine, after)
         }
         Event::Convert(own) => {
             let after = Pending::Converting {
@@ -89,7 +89,7 @@ pub fn holding_exchange(me: NodeId, kept: &Tag, line: &Line, event: &Event) -> E
 {
     match event {
         Event::Unhold => {
-            let change = tag(me, held(kept), unheld(kept));
+            let change = tag(me, held_word(kept), unheld(kept));
             answering(gives(change, Place::Node(me), line, Pending::Idle), line)
         }
         _ => no_exchange(),

@@ -10,7 +10,7 @@ use crate::pending::Pending;
 use crate::rows::{Exchange, Place};
 use crate::table::found;
 use crate::table::shorthand::{
-    gives, home, invalid, leaving, lent, listed, memory, no_exchange, queued, settled, stays, tag,
+    gives, home, invalid, leaving, lent_word, listed, memory, no_exchange, queued_word, settled_word, stays, tag,
     takes,
 };
 use sci_words::NodeId;
@@ -45,10 +45,10 @@ pub fn leaving_exchange(
                 line: *line,
                 succ: *next,
             };
-            stays(tag(*next, *found, settled(dirty, found.forw)), after)
+            stays(tag(*next, *found, settled_word(dirty, found.forw)), after)
         }
         (Event::Stay, Some(forw)) => {
-            let change = tag(me, leaving(*forw), settled(dirty, *forw));
+            let change = tag(me, leaving(*forw), settled_word(dirty, *forw));
             gives(change, Place::Node(me), line, Pending::Idle)
         }
         (Event::ReturnHomeFresh, Some(None)) => {
@@ -58,7 +58,7 @@ pub fn leaving_exchange(
             )
         }
         (Event::ReturnHomeDirty, Some(None)) => {
-            let change = memory(listed(true, me), lent(&home()));
+            let change = memory(listed(true, me), lent_word(&home()));
             takes(change, Place::Memory, Pending::WritingBack { line: *line })
         }
         _ => no_exchange(),
@@ -91,7 +91,7 @@ pub fn promoted_exchange(
                 dirty,
                 copy: if dirty { None } else { Some(*line) },
             };
-            stays(tag(me, leaving(Some(succ)), queued(Some(succ))), after)
+            stays(tag(me, leaving(Some(succ)), queued_word(Some(succ))), after)
         }
         _ => no_exchange(),
     }
@@ -109,7 +109,7 @@ pub fn writing_back_exchange(line: &Line, event: &Event) -> Exchange
     match event {
         Event::ReturnMemory => {
             let after = Pending::Parted { forw: None };
-            gives(memory(lent(&home()), home()), Place::Memory, line, after)
+            gives(memory(lent_word(&home()), home()), Place::Memory, line, after)
         }
         _ => no_exchange(),
     }

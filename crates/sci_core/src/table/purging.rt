@@ -11,7 +11,7 @@ use crate::pending::Pending;
 use crate::rows::{Exchange, Place};
 use crate::table::found;
 use crate::table::shorthand::{
-    gives, invalid, no_exchange, purged, purging, settled, stays, tag, word,
+    gives, invalid, no_exchange, purged_word, purging, settled_word, stays, tag, word,
 };
 use sci_words::{Kind, NodeId, Tag};
 
@@ -72,7 +72,7 @@ pub fn purging_exchange(
 {
     match (event, seen) {
         (Event::Written(words), _) => {
-            let change = tag(me, purging(None), settled(true, None));
+            let change = tag(me, purging(None), settled_word(true, None));
             gives(
                 change,
                 Place::Node(me),
@@ -84,9 +84,9 @@ pub fn purging_exchange(
             let after = Pending::Advancing {
                 line: *line,
                 victim: *next,
-                word: purged(found),
+                word: purged_word(found),
             };
-            stays(tag(*next, *found, purged(found)), after)
+            stays(tag(*next, *found, purged_word(found)), after)
         }
         (Event::Adopt(found), Some(Some(next))) => {
             let after = Pending::Purging {
@@ -143,7 +143,7 @@ pub fn clearing_exchange(line: &Line, victim: NodeId, kept: &Tag, event: &Event)
                 line: *line,
                 seen: None,
             };
-            stays(tag(victim, purged(kept), invalid()), after)
+            stays(tag(victim, purged_word(kept), invalid()), after)
         }
         _ => no_exchange(),
     }

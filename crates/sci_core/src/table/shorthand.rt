@@ -1,7 +1,7 @@
 //! Short ways to write the words and the exchanges of the table.
 ghost use Rattle.std.specs.Prelude.{◌≡◌};
-ghost use Rattle.sci_core.specs.State.{word, held, unheld, lent, memory_word, invalid};
-ghost use Rattle.sci_core.specs.Row.{exchange_with, stays, takes, takes_and_answers, gives, gives_and_answers, queued, purging, leaving, attached, purged, settled, listed, home, home_or_listed, no_row};
+ghost use Rattle.sci_core.specs.State.{word, held_word, unheld, lent_word, memory_word, invalid};
+ghost use Rattle.sci_core.specs.Row.{exchange_with, stays, takes, takes_and_answers, gives, gives_and_answers, queued_word, purging, leaving, attached, purged_word, settled_word, listed, home, home_or_listed, no_row};
 
 use crate::lines::Line;
 use crate::pending::Pending;
@@ -25,8 +25,8 @@ pub fn invalid() -> Tag
     word(Kind::Invalid, None, None)
 }
 
-pub fn queued(forw: Option<NodeId>) -> Tag
-    ensures { result ≡ queued forw }
+pub fn queued_word(forw: Option<NodeId>) -> Tag
+    ensures { result ≡ queued_word forw }
 {
     word(Kind::Queued, forw, None)
 }
@@ -51,21 +51,21 @@ pub fn attached(me: NodeId, found: &Tag) -> Tag
 }
 
 /// The victim's word.
-pub fn purged(found: &Tag) -> Tag
-    ensures { result ≡ purged found.now }
+pub fn purged_word(found: &Tag) -> Tag
+    ensures { result ≡ purged_word found.now }
 {
     word(Kind::Purged, found.forw, found.back)
 }
 
 /// A settled front.
-pub fn settled(dirty: bool, forw: Option<NodeId>) -> Tag
-    ensures { result ≡ settled dirty forw }
+pub fn settled_word(dirty: bool, forw: Option<NodeId>) -> Tag
+    ensures { result ≡ settled_word dirty forw }
 {
     word(if dirty { Kind::Dirty } else { Kind::Fresh }, forw, None)
 }
 
-pub fn held(tag: &Tag) -> Tag
-    ensures { result ≡ held tag.now }
+pub fn held_word(tag: &Tag) -> Tag
+    ensures { result ≡ held_word tag.now }
 {
     Tag { held: true, ..*tag }
 }
@@ -115,8 +115,8 @@ pub fn home_or_listed(head: &Option<NodeId>) -> Mem
     }
 }
 
-pub fn lent(mem: &Mem) -> Mem
-    ensures { result ≡ lent mem.now }
+pub fn lent_word(mem: &Mem) -> Mem
+    ensures { result ≡ lent_word mem.now }
 {
     Mem { lent: true, ..*mem }
 }

@@ -8,11 +8,11 @@ use Rattle.sci_words.specs.Tag.{tag_well_formed}
 use Rattle.sci_core.specs.declared.lines.Line.{Line}
 use Rattle.sci_core.specs.declared.pending.Pending.{Pending}
 use Rattle.sci_core.specs.declared.events.Event.{Event}
-use Rattle.sci_core.specs.State.{State, word, invalid, held, update}
+use Rattle.sci_core.specs.State.{State, word, invalid, held_word, update}
 use Rattle.sci_core.specs.Found.{names, is_dirty, is_settled_front}
 use Rattle.sci_core.specs.Law.{is_valid}
 use Rattle.sci_core.specs.PendingStep.{is_at_rest}
-use Rattle.sci_core.specs.Row.{listed, queued, purging, leaving, exchange_with}
+use Rattle.sci_core.specs.Row.{listed, queued_word, purging, leaving, exchange_with}
 use Rattle.sci_core.specs.Run.{HasValue}
 use Rattle.sci_core.specs.declared.rows.Exchange.{Exchange}
 use Rattle.sci_core.specs.Step.{looked, stepped}
@@ -83,13 +83,13 @@ module _ (n : ℕ) (fits : List ℕ → Type 0) (me : ℕ) (s t : State) (r : Tu
       let f : Option ℕ = s.memory.forw in
       let m = made n fits me Pending.Idle own_idle refl (invalid_word (s.tags me) k (free_at_rest n fits (looked s me) v o idle me) form) (of_exchange n fits me (of_mem n fits me h)) in
       let x : Exchange = exchange_with m.taken (row_of me Pending.Idle (Event.Queue f)) in
-      moves n goal me s (looked s me) t r Pending.Idle x is others_rest m.turn m.next (a, front_kept (looked s me) (stepped (looked s me) me x) me (queued f) refl refl k f (front n fits (looked s me) v o idle)) (own_same me s.tags (queued f) n) less
+      moves n goal me s (looked s me) t r Pending.Idle x is others_rest m.turn m.next (a, front_kept (looked s me) (stepped (looked s me) me x) me (queued_word f) refl refl k f (front n fits (looked s me) v o idle)) (own_same me s.tags (queued_word f) n) less
 
   holds : (k : Kind) → (s.tags me).kind ≡ k → 1 < left_idle Goal.Load (others me s.tags n) k → Takes (on_line n fits me) (move (Event.Hold (s.tags me))) (looked s me) r t → Falls n Goal.Load me s r t
   holds k e less h =
       let m = made n fits me Pending.Idle own_idle refl refl (of_exchange n fits me h) in
       let more : 1 < left_idle Goal.Load (others me s.tags n) (s.tags me).kind = rw e less in
-      moves n Goal.Load me s (looked s me) t r Pending.Idle (exchange_with m.taken (row_of me Pending.Idle (Event.Hold (s.tags me)))) is others_rest m.turn m.next tt (own_same me s.tags (held (s.tags me)) n) more
+      moves n Goal.Load me s (looked s me) t r Pending.Idle (exchange_with m.taken (row_of me Pending.Idle (Event.Hold (s.tags me)))) is others_rest m.turn m.next tt (own_same me s.tags (held_word (s.tags me)) n) more
 
   -- the node is the head
   as_front : (d : Bool) (this : Plan) → s.memory ≡ listed d me → Takes (on_line n fits me) (if_front me this wait) (looked s me) r t → Takes (on_line n fits me) this (looked s me) r t

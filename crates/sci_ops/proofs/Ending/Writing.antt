@@ -14,7 +14,7 @@ use Rattle.std.specs.Prelude.{if◌then◌else◌}
 use Rattle.sci_core.specs.Shape.{phase_of}
 use Rattle.sci_core.specs.Law.{is_front, is_valid}
 use Rattle.sci_core.specs.PendingStep.{IsOwnWord}
-use Rattle.sci_core.specs.Row.{listed, purging, purged, exchange_with}
+use Rattle.sci_core.specs.Row.{listed, purging, purged_word, exchange_with}
 use Rattle.sci_core.specs.Run.{HasValue}
 use Rattle.sci_core.specs.Step.{looked}
 use Rattle.sci_core.specs.Table.{row_of}
@@ -107,7 +107,7 @@ module _ (n : ℕ) (fits : List ℕ → Type 0) (me : ℕ) where
       let test : is_free is_settled_body y ≡ true = rw (valid, free) refl in
       let plan : Takes (on_line n fits me) (move (Event.PurgeOne y)) u r t = chosen (is_free is_settled_body y) (move (Event.PurgeOne y)) (if may_adopt me y then move (Event.Adopt y) else wait) test (of_tag n fits me h) in
       let m = made n fits me q now refl refl (of_exchange n fits me plan) in
-      moves n goal me s u t r p (exchange_with m.taken (row_of me q (Event.PurgeOne (u.tags x)))) is rest m.turn m.next (a, below, updated u.tags x (purged (u.tags x))) (listed_same me u.tags x (purged (u.tags x)) n (rw valid refl) refl ∙ same) (omega arith)
+      moves n goal me s u t r p (exchange_with m.taken (row_of me q (Event.PurgeOne (u.tags x)))) is rest m.turn m.next (a, below, updated u.tags x (purged_word (u.tags x))) (listed_same me u.tags x (purged_word (u.tags x)) n (rw valid refl) refl ∙ same) (omega arith)
 
   link_falls : (goal : Goal) (s u t : State) (r : Turn) (l v : Line) (seen : Option (Option ℕ)) (f : Option ℕ) → HasValue n fits u v → s.steps me ≡ Pending.Purging l seen → u.steps me ≡ Pending.Purging l (Some f) → OthersRest me u → Writes goal → others me u.tags n ≡ others me s.tags n → (u.tags me).forw ≡ f → Takes (on_line n fits me) (purging_at goal me l f) u r t → Falls n goal me s r t
   link_falls (Goal.Write w) s u t r l v seen None o is now rest a same e h = written_by w s u t r l seen (can_count l) is now rest e h
