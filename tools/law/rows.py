@@ -22,12 +22,12 @@ def word(kind, forw, back='None'):
 
 def lock(node):
     """The word of a node, held."""
-    return Word(f'held (s.tags {node})', f'(s.kind {node})', 'true', f'(s.forw {node})', f'(s.back {node})')
+    return Word(f'held_word (s.tags {node})', f'(s.kind {node})', 'true', f'(s.forw {node})', f'(s.back {node})')
 
 
 def of(name, held=None):
     """A kept word by its name, with the held bit as it is, set or cleared."""
-    text = {None: name, 'true': f'held {name}', 'false': f'unheld {name}'}[held]
+    text = {None: name, 'true': f'held_word {name}', 'false': f'unheld_word {name}'}[held]
     return Word(text, f'{name}.kind', held or f'{name}.held', f'{name}.forw', f'{name}.back')
 
 
@@ -50,10 +50,10 @@ def memory(state, forw):
 
 def lent(state, forw):
     """A memory word that is lent."""
-    return Memory(f'lent (memory_word {state} {forw})', state, 'true', forw)
+    return Memory(f'lent_word (memory_word {state} {forw})', state, 'true', forw)
 
 
-UNLENT = Memory('unlent s.memory', 's.state', 'false', 's.head')
+UNLENT = Memory('unlent_word s.memory', 's.state', 'false', 's.head')
 
 
 @dataclass

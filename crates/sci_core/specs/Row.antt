@@ -46,11 +46,11 @@ gives_and_answers c x l p = record { change = c; carry = Carry.Gives x l; after 
 abbrev pub queued_word : Option ℕ → Tag
 queued_word f = word Kind.Queued f None
 
-abbrev pub purging : Option ℕ → Tag
-purging f = word Kind.Purging f None
+abbrev pub purging_word : Option ℕ → Tag
+purging_word f = word Kind.Purging f None
 
-abbrev pub leaving : Option ℕ → Tag
-leaving f = word Kind.Leaving f None
+abbrev pub leaving_word : Option ℕ → Tag
+leaving_word f = word Kind.Leaving f None
 
 -- the old head's word, with the actor in front of it
 abbrev pub attached : ℕ → Tag → Tag

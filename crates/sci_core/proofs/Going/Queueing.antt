@@ -5,7 +5,7 @@ use Rattle.sci_words.specs.Tag.{link_below}
 use Rattle.sci_core.specs.declared.lines.Line.{Line}
 use Rattle.sci_core.specs.declared.pending.Pending.{Pending}
 use Rattle.sci_core.specs.declared.events.Event.{Event}
-use Rattle.sci_core.specs.State.{State, lent_word, unlent, update}
+use Rattle.sci_core.specs.State.{State, lent_word, unlent_word, update}
 use Rattle.sci_core.specs.Shape.{shape}
 use Rattle.sci_core.specs.Law.{Witness, Law, Below}
 use Rattle.sci_core.specs.Row.{queued_word, listed, home}
@@ -74,7 +74,7 @@ module _ (n : ℕ) (s : State) (g : Witness) (me : ℕ) where
   return_memory_goes : (f : Option ℕ) (d : Bool) (l : Line) → Turn n s g me (Pending.Fetching f d l) → s.memory ≡ lent_word (listed d me) → Going n s g me Event.ReturnMemory (fetching_row me f d l Event.ReturnMemory)
   return_memory_goes f d l t word =
       let after : Mem → State = λ m. record s { memory = m; steps = update s.steps me (Pending.InQueue f d (Some l)); memory_slot = Some l } in
-      let rest : unlent s.memory ≡ listed d me = ap unlent word in
+      let rest : unlent_word s.memory ≡ listed d me = ap unlent_word word in
       let lawful : Mem → Type 0 = λ m. Law (shape (after m)) g in
       let below : Mem → Type 0 = λ m. Below n (shape (after m)) in
       record {

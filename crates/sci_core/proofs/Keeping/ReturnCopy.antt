@@ -4,7 +4,7 @@ use Rattle.sci_words.specs.declared.tags.Kind.{Kind}
 use Rattle.sci_words.specs.declared.tags.Tag.{Tag}
 use Rattle.sci_core.specs.declared.lines.Line.{Line}
 use Rattle.sci_core.specs.declared.pending.Pending.{Pending}
-use Rattle.sci_core.specs.State.{State, update, unheld}
+use Rattle.sci_core.specs.State.{State, update, unheld_word}
 use Rattle.sci_core.specs.Shape.{shape}
 use Rattle.sci_core.specs.Law.{Witness, Law, Below}
 use Rattle.sci_core.proofs.Fields.{StepFields, TagFields, step_fields, tag_fields}
@@ -12,7 +12,7 @@ use Rattle.sci_core.proofs.Fields.{StepFields, TagFields, step_fields, tag_field
 -- The node has copied the old head's line, and gives its slot back.
 abbrev pub after_return_copy : State → ℕ → ℕ → Line → Tag → State
 after_return_copy s me target line kept = record s {
-  tags = update s.tags target (unheld kept);
+  tags = update s.tags target (unheld_word kept);
   steps = update s.steps me (Pending.Ready (Some target) true line);
   slots = update s.slots target (Some line);
 }

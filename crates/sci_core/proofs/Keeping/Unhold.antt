@@ -3,7 +3,7 @@ use Rattle.std.proofs.lemmas.Bool.Decides.{nat_tests}
 use Rattle.sci_words.specs.declared.tags.Tag.{Tag}
 use Rattle.sci_core.specs.declared.lines.Line.{Line}
 use Rattle.sci_core.specs.declared.pending.Pending.{Pending}
-use Rattle.sci_core.specs.State.{State, update, held_word, unheld}
+use Rattle.sci_core.specs.State.{State, update, held_word, unheld_word}
 use Rattle.sci_core.specs.Shape.{shape}
 use Rattle.sci_core.specs.Law.{Witness, Law, Below}
 use Rattle.sci_core.proofs.Fields.{StepFields, TagFields, step_fields, tag_fields}
@@ -11,7 +11,7 @@ use Rattle.sci_core.proofs.Fields.{StepFields, TagFields, step_fields, tag_field
 -- The node has read its line, gives its slot back, and is not held.
 abbrev pub after_unhold : State → ℕ → Line → Tag → State
 after_unhold s me line kept = record s {
-  tags = update s.tags me (unheld kept);
+  tags = update s.tags me (unheld_word kept);
   steps = update s.steps me Pending.Idle;
   slots = update s.slots me (Some line);
 }

@@ -6,7 +6,7 @@ use Rattle.sci_core.specs.declared.pending.Pending.{Pending}
 use Rattle.sci_core.specs.declared.events.Event.{Event}
 use Rattle.sci_core.specs.declared.rows.Change.TheVariants.{OfTag}
 use Rattle.sci_core.specs.declared.rows.Place.TheVariants.{Node}
-use Rattle.sci_core.specs.State.{held_word, unheld}
+use Rattle.sci_core.specs.State.{held_word, unheld_word}
 use Rattle.sci_core.specs.Found.{is_fresh, is_dirty, is_found}
 use Rattle.sci_core.specs.Row.{Row, stays, takes, gives, gives_and_answers, queued_word, attached, settled_word, no_row}
 
@@ -27,7 +27,7 @@ copying_allows Event.ReturnCopy = true
 copying_allows _ = false
 
 abbrev pub copying_row : ℕ → Tag → Line → Event → Row
-copying_row x w l Event.ReturnCopy = gives (OfTag x w (unheld w)) (Node x) l (Pending.Ready (Some x) true l)
+copying_row x w l Event.ReturnCopy = gives (OfTag x w (unheld_word w)) (Node x) l (Pending.Ready (Some x) true l)
 copying_row x w l _ = no_row
 
 abbrev pub ready_allows : Event → Bool

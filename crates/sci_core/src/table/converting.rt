@@ -8,7 +8,7 @@ use crate::lines::Line;
 use crate::pending::Pending;
 use crate::rows::{Exchange, Place};
 use crate::table::shorthand::{
-    answering, listed, memory, no_exchange, purging, settled_word, stays, tag, takes, word,
+    answering, listed, memory, no_exchange, purging_word, settled_word, stays, tag, takes, word,
 };
 use sci_words::{Kind, NodeId};
 
@@ -43,7 +43,7 @@ pub fn converting_exchange(
                 line: *taken,
                 seen: None,
             };
-            let change = tag(me, word(Kind::Convert, *forw, None), purging(*forw));
+            let change = tag(me, word(Kind::Convert, *forw, None), purging_word(*forw));
             answering(takes(change, Place::Node(me), after), taken)
         }
         Event::Unconverted => {

@@ -10,8 +10,8 @@ use crate::pending::Pending;
 use crate::rows::{Exchange, Place};
 use crate::table::found;
 use crate::table::shorthand::{
-    answering, gives, held_word, invalid, leaving, no_exchange, purging, queued_word, stays, tag, takes,
-    unheld, word,
+    answering, gives, held_word, invalid, leaving_word, no_exchange, purging_word, queued_word, stays, tag, takes,
+    unheld_word, word,
 };
 use sci_words::{Kind, NodeId, Tag};
 
@@ -57,7 +57,7 @@ pub fn idle_exchange(me: NodeId, event: &Event, taken: &Line) -> Exchange
                 line: *taken,
                 seen: None,
             };
-            answering(takes(tag(me, *own, purging(own.forw)), mine, after), taken)
+            answering(takes(tag(me, *own, purging_word(own.forw)), mine, after), taken)
         }
         Event::Roll(own) => {
             let after = Pending::Rolling {
@@ -72,7 +72,7 @@ pub fn idle_exchange(me: NodeId, event: &Event, taken: &Line) -> Exchange
                 line: *taken,
                 seen: None,
             };
-            takes(tag(me, *own, leaving(own.forw)), mine, after)
+            takes(tag(me, *own, leaving_word(own.forw)), mine, after)
         }
         _ => no_exchange(),
     }
@@ -89,7 +89,7 @@ pub fn holding_exchange(me: NodeId, kept: &Tag, line: &Line, event: &Event) -> E
 {
     match event {
         Event::Unhold => {
-            let change = tag(me, held_word(kept), unheld(kept));
+            let change = tag(me, held_word(kept), unheld_word(kept));
             answering(gives(change, Place::Node(me), line, Pending::Idle), line)
         }
         _ => no_exchange(),

@@ -10,7 +10,7 @@ use crate::pending::Pending;
 use crate::rows::{Exchange, Place};
 use crate::table::found;
 use crate::table::shorthand::{
-    answering, attached, gives, held_word, no_exchange, queued_word, settled_word, stays, tag, takes, unheld,
+    answering, attached, gives, held_word, no_exchange, queued_word, settled_word, stays, tag, takes, unheld_word,
 };
 use sci_words::{NodeId, Tag};
 
@@ -87,7 +87,7 @@ pub fn copying_exchange(head: NodeId, kept: &Tag, line: &Line, event: &Event) ->
                 line: *line,
             };
             gives(
-                tag(head, *kept, unheld(kept)),
+                tag(head, *kept, unheld_word(kept)),
                 Place::Node(head),
                 line,
                 after,

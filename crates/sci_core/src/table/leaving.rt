@@ -10,7 +10,7 @@ use crate::pending::Pending;
 use crate::rows::{Exchange, Place};
 use crate::table::found;
 use crate::table::shorthand::{
-    gives, home, invalid, leaving, lent_word, listed, memory, no_exchange, queued_word, settled_word, stays, tag,
+    gives, home, invalid, leaving_word, lent_word, listed, memory, no_exchange, queued_word, settled_word, stays, tag,
     takes,
 };
 use sci_words::NodeId;
@@ -48,7 +48,7 @@ pub fn leaving_exchange(
             stays(tag(*next, *found, settled_word(dirty, found.forw)), after)
         }
         (Event::Stay, Some(forw)) => {
-            let change = tag(me, leaving(*forw), settled_word(dirty, *forw));
+            let change = tag(me, leaving_word(*forw), settled_word(dirty, *forw));
             gives(change, Place::Node(me), line, Pending::Idle)
         }
         (Event::ReturnHomeFresh, Some(None)) => {
@@ -91,7 +91,7 @@ pub fn promoted_exchange(
                 dirty,
                 copy: if dirty { None } else { Some(*line) },
             };
-            stays(tag(me, leaving(Some(succ)), queued_word(Some(succ))), after)
+            stays(tag(me, leaving_word(Some(succ)), queued_word(Some(succ))), after)
         }
         _ => no_exchange(),
     }
@@ -126,7 +126,7 @@ pub fn parted_exchange(me: NodeId, forw: &Option<NodeId>, event: &Event) -> Exch
 {
     match event {
         Event::Left => {
-            let change = tag(me, leaving(*forw), invalid());
+            let change = tag(me, leaving_word(*forw), invalid());
             gives(change, Place::Node(me), &Line::ZERO, Pending::Idle)
         }
         _ => no_exchange(),

@@ -11,7 +11,7 @@ use crate::pending::Pending;
 use crate::rows::{Exchange, Place};
 use crate::table::found;
 use crate::table::shorthand::{
-    gives, invalid, no_exchange, purged_word, purging, settled_word, stays, tag, word,
+    gives, invalid, no_exchange, purged_word, purging_word, settled_word, stays, tag, word,
 };
 use sci_words::{Kind, NodeId, Tag};
 
@@ -72,7 +72,7 @@ pub fn purging_exchange(
 {
     match (event, seen) {
         (Event::Written(words), _) => {
-            let change = tag(me, purging(None), settled_word(true, None));
+            let change = tag(me, purging_word(None), settled_word(true, None));
             gives(
                 change,
                 Place::Node(me),
@@ -122,7 +122,7 @@ pub fn advancing_exchange(
                 victim,
                 word: *kept,
             };
-            stays(tag(me, purging(Some(victim)), purging(kept.forw)), after)
+            stays(tag(me, purging_word(Some(victim)), purging_word(kept.forw)), after)
         }
         _ => no_exchange(),
     }

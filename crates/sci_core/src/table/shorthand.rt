@@ -1,7 +1,7 @@
 //! Short ways to write the words and the exchanges of the table.
 ghost use Rattle.std.specs.Prelude.{◌≡◌};
-ghost use Rattle.sci_core.specs.State.{word, held_word, unheld, lent_word, memory_word, invalid};
-ghost use Rattle.sci_core.specs.Row.{exchange_with, stays, takes, takes_and_answers, gives, gives_and_answers, queued_word, purging, leaving, attached, purged_word, settled_word, listed, home, home_or_listed, no_row};
+ghost use Rattle.sci_core.specs.State.{word, held_word, unheld_word, lent_word, memory_word, invalid};
+ghost use Rattle.sci_core.specs.Row.{exchange_with, stays, takes, takes_and_answers, gives, gives_and_answers, queued_word, purging_word, leaving_word, attached, purged_word, settled_word, listed, home, home_or_listed, no_row};
 
 use crate::lines::Line;
 use crate::pending::Pending;
@@ -31,14 +31,14 @@ pub fn queued_word(forw: Option<NodeId>) -> Tag
     word(Kind::Queued, forw, None)
 }
 
-pub fn purging(forw: Option<NodeId>) -> Tag
-    ensures { result ≡ purging forw }
+pub fn purging_word(forw: Option<NodeId>) -> Tag
+    ensures { result ≡ purging_word forw }
 {
     word(Kind::Purging, forw, None)
 }
 
-pub fn leaving(forw: Option<NodeId>) -> Tag
-    ensures { result ≡ leaving forw }
+pub fn leaving_word(forw: Option<NodeId>) -> Tag
+    ensures { result ≡ leaving_word forw }
 {
     word(Kind::Leaving, forw, None)
 }
@@ -70,8 +70,8 @@ pub fn held_word(tag: &Tag) -> Tag
     Tag { held: true, ..*tag }
 }
 
-pub fn unheld(tag: &Tag) -> Tag
-    ensures { result ≡ unheld tag.now }
+pub fn unheld_word(tag: &Tag) -> Tag
+    ensures { result ≡ unheld_word tag.now }
 {
     Tag {
         held: false,

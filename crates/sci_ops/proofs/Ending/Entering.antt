@@ -10,7 +10,7 @@ use Rattle.sci_core.specs.declared.rows.Change.{Change}
 use Rattle.sci_core.specs.declared.rows.Carry.{Carry}
 use Rattle.sci_core.specs.declared.rows.Place.{Place}
 use Rattle.sci_core.specs.declared.rows.Exchange.{Exchange}
-use Rattle.sci_core.specs.State.{State, unheld, held_word, update}
+use Rattle.sci_core.specs.State.{State, unheld_word, held_word, update}
 use Rattle.sci_core.specs.Row.{listed, queued_word, settled_word, attached, exchange_with}
 use Rattle.sci_core.specs.Step.{stepped}
 use Rattle.sci_core.specs.Table.{row_of}
@@ -119,7 +119,7 @@ module _ (n : ℕ) (fits : List ℕ → Type 0) (me : ℕ) where
   copying_falls goal s t r x w l is rest a h =
       let p : Pending = Pending.Copying x w l in
       let m = made n fits me p is refl a.1 (of_exchange n fits me h) in
-      moves n goal me s s t r p (exchange_with m.taken (row_of me p Event.ReturnCopy)) is rest m.turn m.next a.0 (listed_same me s.tags x (unheld w) n (ap (λ (y : Tag). is_listed y.kind) a.1 ∙ a.2) a.2) (omega arith)
+      moves n goal me s s t r p (exchange_with m.taken (row_of me p Event.ReturnCopy)) is rest m.turn m.next a.0 (listed_same me s.tags x (unheld_word w) n (ap (λ (y : Tag). is_listed y.kind) a.1 ∙ a.2) a.2) (omega arith)
 
   pub ready_falls : (goal : Goal) (s t : State) (r : Turn) (f : Option ℕ) (d : Bool) (l : Line) → s.steps me ≡ Pending.Ready f d l → OthersRest me s → AloneIn n goal me s (Pending.Ready f d l) → Takes (on_line n fits me) (turn_in goal me (Pending.Ready f d l)) s r t → Falls n goal me s r t
   ready_falls goal s t r f d l is rest a h =
