@@ -47,7 +47,11 @@ pub fn converting_exchange(
             answering(takes(change, Place::Node(me), after), taken)
         }
         Event::Unconverted => {
-            let change = tag(me, word(Kind::Convert, *forw, None), settled_word(false, *forw));
+            let change = tag(
+                me,
+                word(Kind::Convert, *forw, None),
+                settled_word(false, *forw),
+            );
             stays(change, Pending::Idle)
         }
         _ => no_exchange(),

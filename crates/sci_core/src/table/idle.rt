@@ -10,8 +10,8 @@ use crate::pending::Pending;
 use crate::rows::{Exchange, Place};
 use crate::table::found;
 use crate::table::shorthand::{
-    answering, gives, held_word, invalid, leaving_word, no_exchange, purging_word, queued_word, stays, tag, takes,
-    unheld_word, word,
+    answering, gives, held_word, invalid, leaving_word, no_exchange, purging_word, queued_word,
+    stays, tag, takes, unheld_word, word,
 };
 use sci_words::{Kind, NodeId, Tag};
 
@@ -57,7 +57,10 @@ pub fn idle_exchange(me: NodeId, event: &Event, taken: &Line) -> Exchange
                 line: *taken,
                 seen: None,
             };
-            answering(takes(tag(me, *own, purging_word(own.forw)), mine, after), taken)
+            answering(
+                takes(tag(me, *own, purging_word(own.forw)), mine, after),
+                taken,
+            )
         }
         Event::Roll(own) => {
             let after = Pending::Rolling {

@@ -10,7 +10,8 @@ use crate::pending::Pending;
 use crate::rows::{Exchange, Place};
 use crate::table::found;
 use crate::table::shorthand::{
-    answering, attached, gives, held_word, no_exchange, queued_word, settled_word, stays, tag, takes, unheld_word,
+    answering, attached, gives, held_word, no_exchange, queued_word, settled_word, stays, tag,
+    takes, unheld_word,
 };
 use sci_words::{NodeId, Tag};
 

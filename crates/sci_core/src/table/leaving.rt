@@ -10,8 +10,8 @@ use crate::pending::Pending;
 use crate::rows::{Exchange, Place};
 use crate::table::found;
 use crate::table::shorthand::{
-    gives, home, invalid, leaving_word, lent_word, listed, memory, no_exchange, queued_word, settled_word, stays, tag,
-    takes,
+    gives, home, invalid, leaving_word, lent_word, listed, memory, no_exchange, queued_word,
+    settled_word, stays, tag, takes,
 };
 use sci_words::NodeId;
 
@@ -91,7 +91,10 @@ pub fn promoted_exchange(
                 dirty,
                 copy: if dirty { None } else { Some(*line) },
             };
-            stays(tag(me, leaving_word(Some(succ)), queued_word(Some(succ))), after)
+            stays(
+                tag(me, leaving_word(Some(succ)), queued_word(Some(succ))),
+                after,
+            )
         }
         _ => no_exchange(),
     }
@@ -109,7 +112,12 @@ pub fn writing_back_exchange(line: &Line, event: &Event) -> Exchange
     match event {
         Event::ReturnMemory => {
             let after = Pending::Parted { forw: None };
-            gives(memory(lent_word(&home()), home()), Place::Memory, line, after)
+            gives(
+                memory(lent_word(&home()), home()),
+                Place::Memory,
+                line,
+                after,
+            )
         }
         _ => no_exchange(),
     }

@@ -122,7 +122,10 @@ pub fn advancing_exchange(
                 victim,
                 word: *kept,
             };
-            stays(tag(me, purging_word(Some(victim)), purging_word(kept.forw)), after)
+            stays(
+                tag(me, purging_word(Some(victim)), purging_word(kept.forw)),
+                after,
+            )
         }
         _ => no_exchange(),
     }
