@@ -10,8 +10,8 @@ use crate::pending::Pending;
 use crate::rows::{Exchange, Place};
 use crate::table::found;
 use crate::table::shorthand::{
-    answering, gives, held_word, invalid, leaving_word, no_exchange, purging_word, queued_word,
-    stays, tag, takes, unheld_word, word,
+    answering, gives, held_word, invalid, leaving_word, no_exchange, purges, purging_word,
+    queued_word, stays, tag, takes, unheld_word, word,
 };
 use sci_words::{Kind, NodeId, Tag};
 
@@ -53,14 +53,8 @@ pub fn idle_exchange(me: NodeId, event: &Event, taken: &Line) -> Exchange
             stays(tag(me, *own, word(Kind::Convert, own.forw, None)), after)
         }
         Event::BeginPurge(own) => {
-            let after = Pending::Purging {
-                line: *taken,
-                seen: None,
-            };
-            answering(
-                takes(tag(me, *own, purging_word(own.forw)), mine, after),
-                taken,
-            )
+            let change = tag(me, *own, purging_word(own.forw));
+            answering(takes(change, mine, purges(taken)), taken)
         }
         Event::Roll(own) => {
             let after = Pending::Rolling {

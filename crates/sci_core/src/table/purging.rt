@@ -11,7 +11,7 @@ use crate::pending::Pending;
 use crate::rows::{Exchange, Place};
 use crate::table::found;
 use crate::table::shorthand::{
-    gives, invalid, no_exchange, purged_word, purging_word, settled_word, stays, tag, word,
+    gives, invalid, no_exchange, purged_word, purges, purging_word, settled_word, stays, tag, word,
 };
 use sci_words::{Kind, NodeId, Tag};
 
@@ -122,10 +122,8 @@ pub fn advancing_exchange(
                 victim,
                 word: *kept,
             };
-            stays(
-                tag(me, purging_word(Some(victim)), purging_word(kept.forw)),
-                after,
-            )
+            let change = tag(me, purging_word(Some(victim)), purging_word(kept.forw));
+            stays(change, after)
         }
         _ => no_exchange(),
     }
@@ -141,13 +139,7 @@ pub fn clearing_exchange(line: &Line, victim: NodeId, kept: &Tag, event: &Event)
     ensures { (y : a_line.Line) → result ≡ exchange_with y (clearing_row line.now victim kept.now event.now) }
 {
     match event {
-        Event::Clear => {
-            let after = Pending::Purging {
-                line: *line,
-                seen: None,
-            };
-            stays(tag(victim, purged_word(kept), invalid()), after)
-        }
+        Event::Clear => { stays(tag(victim, purged_word(kept), invalid()), purges(line)) }
         _ => no_exchange(),
     }
 }

@@ -175,6 +175,16 @@ pub fn gives(change: Change, place: Place, line: &Line, after: Pending) -> Excha
     }
 }
 
+/// The step that purges, just entered: nothing was seen yet.
+pub fn purges(line: &Line) -> Pending
+    ensures { result ≡ Pending.Purging line.now None }
+{
+    Pending::Purging {
+        line: *line,
+        seen: None,
+    }
+}
+
 /// The same exchange, which answers this line.
 pub fn answering(exchange: Exchange, line: &Line) -> Exchange
     ensures { result ≡ record exchange { answer = Some line.now } }
