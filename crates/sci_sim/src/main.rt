@@ -6,6 +6,7 @@ mod commands;
 mod faults;
 mod input;
 mod serve;
+mod settings;
 #[cfg(test)]
 mod tests;
 mod verdicts;

@@ -3,6 +3,7 @@ ghost use Rattle.std.specs.Prelude.{Some};
 mod checks;
 mod faltering;
 mod growths;
+mod settings;
 
 use crate::faults::SimFault;
 use crate::serve::{serve_buffered, serve_script};
