@@ -1,3 +1,5 @@
 pub mod Plain
 pub mod Refusals
+pub mod Shares
 pub mod Stencil
+pub mod Workers

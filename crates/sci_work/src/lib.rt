@@ -1,10 +1,12 @@
 //! Workloads: programs of nodes on shared lines, each node in a thread of its own.
 #![tactic(auto)]
 
+mod calls;
 mod doors;
 mod facts;
 mod gates;
 mod refusals;
+mod stencils;
 #[cfg(test)]
 mod tests;
 
