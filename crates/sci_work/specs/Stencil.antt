@@ -17,3 +17,10 @@ pub record ShowsPhase (cells : List ℕ) (phases line : ℕ) (words : List ℕ) 
 -- a line of a stencil: all zeros, or its tile after some phase
 unfoldable pub FitsStencil : List ℕ → ℕ → ℕ → List ℕ → Type 0
 FitsStencil cells phases line words = (words ≡ replicate 8 0) ⊎ ((phase : ℕ) × ShowsPhase cells phases line words phase)
+
+-- the cell before cell j of a tile with these words, where left is the cell before the tile; and the cell behind it
+abbrev pub before : ℕ → List ℕ → ℕ → ℕ
+before left words j = if j == 0 then left else slice_index words j
+
+abbrev pub behind : ℕ → List ℕ → ℕ → ℕ
+behind right words j = if j == 6 then right else slice_index words (j + 2)

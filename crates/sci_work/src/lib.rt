@@ -1,11 +1,13 @@
 //! Workloads: programs of nodes on shared lines, each node in a thread of its own.
 #![tactic(auto)]
 
+mod calls;
 mod doors;
 mod facts;
 mod gates;
 mod refusals;
 mod ring;
+mod stencils;
 #[cfg(test)]
 mod tests;
 

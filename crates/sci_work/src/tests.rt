@@ -1,2 +1,3 @@
-//! The workloads' rows.
+//! The numbers of refusals, and the open gate.
+mod gates;
 mod refusals;
