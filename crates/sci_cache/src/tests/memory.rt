@@ -67,8 +67,8 @@ fn spend(alloc: Global, count: u16) -> Result<(), AllocError> {
 
 #[test]
 fn turns_take_no_memory(rt: HostRuntime) -> Result<(), Fail> {
-    // The lines take ten, a node six, and each line that it names for the first time one.
-    assert!(rt; spend(rt.alloc(), 6).is_ok());
+    // The lines take ten, a node six, and the first line that it names one.
+    assert!(rt; spend(rt.alloc(), 7).is_ok());
     let wholes = opened(rt.alloc(), 2, 3, Line::ZERO)?;
     let (zero, one) = NodeId::new(0).zip(NodeId::new(1)).ok_or("no node")?;
     let mut first = Node::new(rt.alloc(), zero, 3, 1)?;
