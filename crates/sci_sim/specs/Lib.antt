@@ -3,3 +3,4 @@ pub mod Input
 pub mod Serve
 pub mod Settings
 pub mod Verdicts
+pub mod Works

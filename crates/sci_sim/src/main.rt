@@ -10,6 +10,7 @@ mod settings;
 #[cfg(test)]
 mod tests;
 mod verdicts;
+mod works;
 
 use checking::serve_check;
 use commands::commands;

@@ -4,6 +4,7 @@ mod checks;
 mod faltering;
 mod growths;
 mod settings;
+mod works;
 
 use crate::faults::SimFault;
 use crate::serve::{serve_buffered, serve_script};
