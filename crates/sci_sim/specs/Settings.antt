@@ -1,8 +1,8 @@
 -- What a text says as the settings of a run. This project's profile, over TOML 1.1.
-use Rattle.std.specs.Prelude.{◌≡◌, ℕ, ◌*◌, ◌%◌, ℤ, pos, negsuc, Bool, true, false, ◌&&◌, List, [], ◌∷◌, length, Option, Some, None, Result, Ok, Err, option_and_then, codes, nat_le, ◌==◌, if◌then◌else◌, IsUtf8}
+use Rattle.std.specs.Prelude.{◌≡◌, ℕ, ◌%◌, ℤ, pos, negsuc, Bool, false, ◌&&◌, List, [], ◌∷◌, length, Option, Some, None, Result, Ok, Err, option_and_then, codes, nat_le, ◌==◌, if◌then◌else◌}
 use Rattle.std.specs.List.{list_all, list_any}
 use Rattle.std.specs.Str.{bytes_eq}
-use Rattle.toml.specs.Data.{Data, boolean, Items, no_items, item, Members, no_members, member, get_member, as_str, as_integer, as_bool, as_array}
+use Rattle.toml.specs.Data.{Data, Items, no_items, item, Members, no_members, member, get_member, as_str, as_integer, as_bool, as_array}
 use Rattle.toml.specs.Parse.{parse_document}
 use Rattle.sci_sim.specs.declared.settings.refusals.SettingsRefusal.{SettingsRefusal}
 use Rattle.sci_sim.specs.declared.settings.refusals.SettingsRefusal.TheVariants.{OutOfMemory, BadSettings}

@@ -1,4 +1,3 @@
-use Rattle.std.proofs.Common.{◌≡◌}
 use Rattle.sci_dump.proofs.Dumpable.{read_again}
 use Rattle.sci_dump.proofs.texts.dump.Goals as goal
 
