@@ -26,8 +26,7 @@ pub new-requires : goal.new-requires
 new-requires c =
     let n : length c.loop-number.wholes.items ≡ c.args.count = search rules in
     let all : c.loop-number.number ≡ c.args.count = search rules in
-    let asked = c.requires.count in
-    (
+    let asked = c.requires.count in (
       c.args.fact,
       record {
         some = omega (arith, n, asked.0);
