@@ -44,9 +44,10 @@ fn run_over<B: Bank + Drop>(
     if script.nodes() != 1 || !is_bank(script, &bank, 0) {
         return None;
     }
-    let Ok(banks) = vec![in alloc; bank] else {
+    let mut banks = Vec::new(alloc);
+    if banks.push(bank).is_err() {
         return None;
-    };
+    }
     let Ok(mut desk) = BankDesk::new(alloc, script, banks) else {
         return None;
     };
@@ -185,6 +186,14 @@ impl Bank for Unheard {
     }
 }
 
+/// A bank of so many lines.
+fn unheard(lines: u16) -> Unheard {
+    Unheard {
+        lines,
+        step: Pending::Idle,
+    }
+}
+
 #[test]
 fn what_is_never_to_be_had(rt: HostRuntime) -> Result<(), Fail> {
     for (text, line) in [
@@ -194,10 +203,7 @@ fn what_is_never_to_be_had(rt: HostRuntime) -> Result<(), Fail> {
         ("memory 1 2\nresidents 0\nstore 0 1 0 7\ndone 0\n", 4),
     ] {
         let script = read_script(rt.alloc(), text.as_bytes())?;
-        let bank = Unheard {
-            lines: script.lines(),
-            step: Pending::Idle,
-        };
+        let bank = unheard(script.lines());
         let mut out = Vec::new(rt.alloc());
         let end = run_over(rt.alloc(), &script, bank, &mut out).ok_or("no desk")?;
         assert_eq!(rt; end, Err(ScriptRefusal::NotDone(line)), "of {text}");
