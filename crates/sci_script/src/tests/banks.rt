@@ -118,7 +118,7 @@ fn one_node_over_whole_lines(rt: HostRuntime) -> Result<(), Fail> {
 
 /// Another has each line for ever: no load is had, and no step is done.
 #[derive(Drop)]
-struct Unheard {
+pub struct Unheard {
     lines: u16,
     step: Pending,
     ghost idle: { step ≡ Idle },
@@ -187,7 +187,7 @@ impl Bank for Unheard {
 }
 
 /// A bank of so many lines.
-fn unheard(lines: u16) -> Unheard {
+pub fn unheard_bank(lines: u16) -> Unheard {
     Unheard {
         lines,
         step: Pending::Idle,
@@ -203,7 +203,7 @@ fn what_is_never_to_be_had(rt: HostRuntime) -> Result<(), Fail> {
         ("memory 1 2\nresidents 0\nstore 0 1 0 7\ndone 0\n", 4),
     ] {
         let script = read_script(rt.alloc(), text.as_bytes())?;
-        let bank = unheard(script.lines());
+        let bank = unheard_bank(script.lines());
         let mut out = Vec::new(rt.alloc());
         let end = run_over(rt.alloc(), &script, bank, &mut out).ok_or("no desk")?;
         assert_eq!(rt; end, Err(ScriptRefusal::NotDone(line)), "of {text}");
