@@ -1,4 +1,4 @@
-//! Desks over banks: of one node over whole lines, with texts worked out by hand from the tables of rows and turns; and over a
+//! Desks over banks: of one node over whole lines, with texts worked out by hand from the tables of rows and turns; and a
 //! bank to which no line is ever to be had.
 ghost use Rattle.std.specs.Prelude.{◌≡◌, ℕ, List, IsTrue};
 ghost use Rattle.sci_core.specs.declared.pending.Pending.TheVariants.{Idle};
@@ -192,21 +192,4 @@ pub fn unheard_bank(lines: u16) -> Unheard {
         lines,
         step: Pending::Idle,
     }
-}
-
-#[test]
-fn what_is_never_to_be_had(rt: HostRuntime) -> Result<(), Fail> {
-    for (text, line) in [
-        ("memory 1 1\nlist 0\n", 2),
-        ("memory 1 1\n\ntag 0 0\n", 3),
-        ("memory 1 1\nload 0 0 0\ndone 0\n", 3),
-        ("memory 1 2\nresidents 0\nstore 0 1 0 7\ndone 0\n", 4),
-    ] {
-        let script = read_script(rt.alloc(), text.as_bytes())?;
-        let bank = unheard_bank(script.lines());
-        let mut out = Vec::new(rt.alloc());
-        let end = run_over(rt.alloc(), &script, bank, &mut out).ok_or("no desk")?;
-        assert_eq!(rt; end, Err(ScriptRefusal::NotDone(line)), "of {text}");
-    }
-    Ok(())
 }
