@@ -18,6 +18,7 @@ from clauses import CRATE, GROUPS
 from rows import ROWS
 
 CHECK = os.environ.get('CHECK', 'rt check --jobs 2')
+COMMANDS = ['write', 'hints', 'compact', 'possible', 'readback', 'ask']
 
 
 def place(lines, number):
@@ -103,6 +104,8 @@ def compact(hints):
 
 def main():
     command, *more = sys.argv[1:] or ['write']
+    if command not in COMMANDS:
+        raise SystemExit('one of the words ' + ', '.join(COMMANDS) + ', or none to write every file; README.md has what each does')
     if command == 'readback':
         import readback
         readback.readback(int(more[0]) if more else 4)

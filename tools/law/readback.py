@@ -34,7 +34,7 @@ class Line:
             links = [f(i) for f in (state.forw, state.back, state.kept, state.word_forw, state.word_back, state.seen_forw,
                                     state.seen_back)]
             made += [self.below(each) for each in links + [state.head]]
-            made += [self.among(each) for each in (state.clearer(i), state.copier(i), state.last_front, state.lender)]
+            made += [self.among(each) for each in (state.clearer(i), state.copier(i), state.last_front, state.borrower)]
             made += [state.rank(i) >= 0, Implies(self.step(i, 'Advancing', 'Clearing', 'Promoted', 'Copying'),
                                                  state.kept(i) != LINK.none),
                      Implies(self.step(i, 'WritingBack'), state.kept(i) == LINK.none),

@@ -22,12 +22,12 @@ def word(kind, forw, back='None'):
 
 def lock(node):
     """The word of a node, held."""
-    return Word(f'held (s.tags {node})', f'(s.kind {node})', 'true', f'(s.forw {node})', f'(s.back {node})')
+    return Word(f'held_word (s.tags {node})', f'(s.kind {node})', 'true', f'(s.forw {node})', f'(s.back {node})')
 
 
 def of(name, held=None):
     """A kept word by its name, with the held bit as it is, set or cleared."""
-    text = {None: name, 'true': f'held {name}', 'false': f'unheld {name}'}[held]
+    text = {None: name, 'true': f'held_word {name}', 'false': f'unheld_word {name}'}[held]
     return Word(text, f'{name}.kind', held or f'{name}.held', f'{name}.forw', f'{name}.back')
 
 
@@ -50,10 +50,10 @@ def memory(state, forw):
 
 def lent(state, forw):
     """A memory word that is lent."""
-    return Memory(f'lent (memory_word {state} {forw})', state, 'true', forw)
+    return Memory(f'lent_word (memory_word {state} {forw})', state, 'true', forw)
 
 
-UNLENT = Memory('unlent s.memory', 's.state', 'false', 's.head')
+UNLENT = Memory('unlent_word s.memory', 's.state', 'false', 's.head')
 
 
 @dataclass
@@ -196,14 +196,14 @@ def enter_rows():
         [('line', LINE)],
         ('Queueing', 'None'), ('Fetching', 'None', 'false', 'line'), memory_before=memory('MemState.Home', 'None'),
         needs=[MEMORY_SLOT], memory=lent('MemState.Fresh', '(Some me)'), slots={'memory': 'None'},
-        witness={'rank': 'update g.rank me 1', 'last_front': 'me', 'lender': 'me'}, facts=[link('None'), OUTSIDE],
+        witness={'rank': 'update g.rank me 1', 'last_front': 'me', 'borrower': 'me'}, facts=[link('None'), OUTSIDE],
         special={'order': 'push_first me me_forw (rw memory_forw at o.order)'})
     row('prepend_valid_listed', 'PrependValid',
         'The home is FRESH: the node is the head before the old one, with memory\'s slot in hand.',
         [('target', NODE), ('line', LINE)], ('Queueing', '(Some target)'), ('Fetching', '(Some target)', 'false', 'line'),
         memory_before=memory('MemState.Fresh', '(Some target)'), needs=[MEMORY_SLOT],
         memory=lent('MemState.Fresh', '(Some me)'), slots={'memory': 'None'},
-        witness={'rank': 'update g.rank me (g.rank target + 1)', 'lender': 'me'}, facts=[link('Some target'), OUTSIDE],
+        witness={'rank': 'update g.rank me (g.rank target + 1)', 'borrower': 'me'}, facts=[link('Some target'), OUTSIDE],
         special={'order': 'push_next me target me_forw me_out (rw memory_forw at o.order)'})
     row('return_memory_fetching', 'ReturnMemory', 'The node has copied memory\'s line, and gives memory\'s slot back.',
         [('forw', LINK), ('dirty', FLAG), ('line', LINE)], ('Fetching', 'forw', 'dirty', 'line'),
@@ -399,7 +399,7 @@ def home_rows():
         [('line', LINE)],
         ('Leaving', 'true', 'line', '(Some None)'), ('WritingBack', 'line'),
         memory_before=memory('MemState.Gone', '(Some me)'), memory=lent('MemState.Home', 'None'), slots={'memory': 'None'},
-        witness={'rank': 'update g.rank me 0', 'lender': 'me'}, facts=[INSIDE, kind('Leaving'), LAST_ENTRY],
+        witness={'rank': 'update g.rank me 0', 'borrower': 'me'}, facts=[INSIDE, kind('Leaving'), LAST_ENTRY],
         special={'order': 'pop me None me_forw (rw memory_forw at o.order)'})
 
 

@@ -235,7 +235,7 @@ class Search:
         state = self.step.before
         first = self.open[0][1]
         witnesses = [('(g.clearer @0)', state.clearer(first)), ('(g.copier @0)', state.copier(first)),
-                     ('g.lender', state.lender)]
+                     ('g.borrower', state.borrower)]
         lines = [self.open_line] + [(name, each) for name, each in self.step.env.items() if each.sort() == LINES]
         every = self.terms()
         few = [each for each in every if not each[0].startswith('(link') or each[0] == '(link (s.forw me))']

@@ -20,7 +20,7 @@ IMPORTS = [
     ('Rattle.sci_words.specs.declared.memory.MemState', ['MemState']),
     ('Rattle.sci_core.specs.declared.lines.Line', ['Line']),
     ('Rattle.sci_core.specs.declared.pending.Pending', ['Pending']),
-    ('Rattle.sci_core.specs.State', 'State update word invalid held unheld memory_word lent unlent blank'.split()),
+    ('Rattle.sci_core.specs.State', 'State update word invalid held_word unheld_word memory_word lent_word unlent_word blank'.split()),
     ('Rattle.sci_core.specs.Shape', PHASES + ['link', 'shape']),
     ('Rattle.sci_core.specs.Law', ['Witness', 'Law', 'Below', 'can_be_held']),
     ('Rattle.sci_core.proofs.Order', 'pop push_first push_next'.split()),

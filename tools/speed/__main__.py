@@ -11,6 +11,7 @@ additions and evictions, each taken to its end before the next begins. A run's t
 reads the script, checks it, runs it and writes the answers; the best of N runs counts, and the ratio says how many times as fast
 the peer is. What is printed must be the same of both, and hold no `waits` and one answer a call. With --check the scripts take
 each turn by a command of its own, so the number of turns that is counted here is the program's.
+Then the same calls by the program alone, with each capacity of the nodes' caches in turn; the turns of victims' exits count too.
 
 Next, how long a processor takes to read and check a dump of 1,024 lines that 64 nodes share, by `read_dump` and `check`, beside a
 plain Rust program that reads it, looks at the same rules and makes the lists; the best of N runs counts, in turn.

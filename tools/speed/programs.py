@@ -30,7 +30,7 @@ def build(folder, line):
     if program.exists():
         return program
     crates.mkdir(parents=True)
-    used = ["sci_words", "sci_core", "sci_port", "sci_ops", line]
+    used = ["sci_words", "sci_core", "sci_port", "sci_ops", "sci_cache", line]
     for crate in used:
         shutil.copytree(ROOT / "crates" / crate, crates / crate)
     for text in SOURCE.rglob("*.txt"):

@@ -1,5 +1,6 @@
-"""Scripts: how many turns a second `scisim script` makes, beside a plain Rust simulator."""
+"""Scripts: how many turns a second `scisim script` makes, beside a plain Rust simulator, and with small caches beside large ones."""
 
+import collections
 import os
 import random
 import subprocess
@@ -16,6 +17,8 @@ SETTINGS = [
     (64, 1024, MEBIBYTE // 2),
     (64, 1024, MEBIBYTE),
 ]
+# nodes, lines, bytes of the script, and the capacities that are compared; 1,024 is no bound
+CAPACITIES = (64, 1024, MEBIBYTE, [1024, 4, 64])
 # where the output goes
 OUTPUTS = {"null": subprocess.DEVNULL, "pipe": subprocess.PIPE}
 
@@ -68,11 +71,29 @@ class SharingList:
         return turns
 
 
-def script_of(nodes, lines, size, each_turn):
+class Cache:
+    """The lines that a node names, the one used last behind."""
+
+    def __init__(self, capacity):
+        self.capacity = capacity
+        self.named = collections.OrderedDict()
+
+    def leave(self, line):
+        self.named.pop(line, None)
+
+    def use(self, line):
+        """The line that this puts out."""
+        self.named[line] = True
+        self.named.move_to_end(line)
+        return self.named.popitem(last=False)[0] if len(self.named) > self.capacity else None
+
+
+def script_of(nodes, lines, size, each_turn, capacity=1024):
     """A script of at most so many bytes, its calls and its turns."""
     pick = random.Random(f"{nodes} {lines}")
     lists = [SharingList() for _ in range(lines)]
-    commands = [f"memory {nodes} {lines}\n"]
+    caches = [Cache(capacity) for _ in range(nodes)]
+    commands = [f"memory {nodes} {lines}\ncapacity {capacity}\n" if capacity < 1024 else f"memory {nodes} {lines}\n"]
     length, calls, turns = len(commands[0]), 0, 0
     while True:
         node, line, word = pick.randrange(nodes), pick.randrange(lines), pick.randrange(8)
@@ -85,7 +106,8 @@ def script_of(nodes, lines, size, each_turn):
             begin, taken = f"evict {node} {line}\n", sharers.evict
         else:
             begin, taken = f"{kind} {node} {line} {word} {value}\n", sharers.write
-        count = taken(node)
+        victim = caches[node].leave(line) if kind == "evict" else caches[node].use(line)
+        count = taken(node) + (0 if victim is None else lists[victim].evict(node))
         end = f"turn {node}\n" * count if each_turn else f"done {node}\n"
         length += len(begin) + len(end)
         if length > size:
@@ -134,8 +156,31 @@ def measure(programs, setting, runs, each_turn):
             print(f"{nodes:5} {lines:5} {len(text):9} {turns:8} {output:>5}", *cells, flush=True)
 
 
+def measure_capacities(program, runs, each_turn):
+    """The same calls with each capacity, in turn: a ratio is to no bound."""
+    nodes, lines, size, capacities = CAPACITIES
+    print("nodes lines capacity     bytes    turns       scisim ratio", flush=True)
+    with tempfile.TemporaryDirectory() as folder:
+        scripts = {}
+        for capacity in capacities:
+            text, calls, turns = script_of(nodes, lines, size, each_turn, capacity)
+            name = f"{folder}/{capacity}"
+            with open(name, "w") as script:
+                script.write(text)
+            check(program, name, calls)
+            scripts[capacity] = name, len(text), turns
+        best = dict.fromkeys(scripts, float("inf"))
+        for _ in range(runs):
+            for capacity, (name, _, _) in scripts.items():
+                best[capacity] = min(best[capacity], seconds(program, name, "null"))
+        rates = {capacity: turns / best[capacity] / 1e6 for capacity, (_, _, turns) in scripts.items()}
+        for capacity, (_, length, turns) in scripts.items():
+            print(f"{nodes:5} {lines:5} {capacity:8} {length:9} {turns:8} {rates[capacity]:8.2f} M/s {rates[capacity] / rates[1024]:5.2f}", flush=True)
+
+
 def measure_all(programs, runs, each_turn):
     head = "".join(f"{name:>13} ratio" for name in programs)
     print(f"nodes lines     bytes    turns    to{head}", flush=True)
     for setting in SETTINGS:
         measure(programs, setting, runs, each_turn)
+    measure_capacities(programs["scisim"], runs, each_turn)

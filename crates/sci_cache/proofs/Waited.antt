@@ -1,5 +1,5 @@
 -- A call's turns, one after another.
-use Rattle.std.proofs.Common.{◌≡◌, ℕ, Option, Some, None, Result, Ok, Err, List, refl, sym, ap, subst, ◌∙◌}
+use Rattle.std.proofs.Common.{◌≡◌, ◌⊎◌, inl, inr, ℕ, Option, Some, None, IfSome, Result, Ok, Err, List, refl, sym, ap, subst, ◌∙◌}
 use Rattle.sci_core.specs.declared.pending.Pending.{Pending}
 use Rattle.sci_port.specs.declared.calls.Call.{Call}
 use Rattle.sci_ops.specs.declared.answers.Answer.{Answer}
@@ -9,7 +9,7 @@ use Rattle.sci_cache.specs.declared.calls.OpenCall.{OpenCall}
 use Rattle.sci_cache.specs.declared.refusals.NodeRefusal.{NodeRefusal}
 use Rattle.sci_cache.specs.declared.requests.Request.{Request}
 use Rattle.sci_cache.specs.Requests.{line_of, goal_of}
-use Rattle.sci_cache.specs.Nodes.{NodeState, TurnsAt, TurnsBy, shown_by, node_after, node_with, node_ended, residents_with, victim_with, GoesOn, IsSameNode}
+use Rattle.sci_cache.specs.Nodes.{NodeState, TurnsAt, TurnsBy, line_by, shown_by, node_after, node_with, node_ended, refusal_of, residents_with, victim_with, GoesOn, IsIdleBut, IsSameNode}
 
 pub still_same : {n k m : NodeState} → IsSameNode n k → IsSameNode k m → IsSameNode n m
 still_same h g = record { id = g.id ∙ h.id; lines = g.lines ∙ h.lines; capacity = g.capacity ∙ h.capacity }
@@ -53,6 +53,26 @@ goes n r (Some x) (Turn.Done b) h = (None, refl)
 goes n r (Some x) Turn.Moved h = (Some x, refl)
 goes n r (Some x) Turn.Waiting h = (Some x, refl)
 
+no_call : (c : OpenCall) → ◌≡◌ {A = Option OpenCall} None (Some c) → ⊥
+no_call c h = cc
+
+-- at the end of a call the pending step on its line is Idle, since the call is gone
+idle_end : (n : NodeState) (r : Request) (w : Option ℕ) (turn : Turn) (a : Answer) (step : ℕ → Pending) (m : NodeState) → Turn.Done a ≡ shown_by w turn → m ≡ node_ended n r → (m.call ≡ Some (call_of r w)) ⊎ (step (line_by w (line_of r)) ≡ Pending.Idle) → step (line_of r) ≡ Pending.Idle
+idle_end n r None turn a step m shows ended (inl same) = absurd (no_call (call_of r None) (sym (ap (λ (k : NodeState). k.call) ended) ∙ same))
+idle_end n r None turn a step m shows ended (inr idle) = idle
+idle_end n r (Some x) (Turn.Done b) a step m shows ended idle = absurd (moved_done a shows)
+idle_end n r (Some x) Turn.Moved a step m shows ended idle = absurd (moved_done a shows)
+idle_end n r (Some x) Turn.Waiting a step m shows ended idle = absurd (waiting_done a shows)
+
+-- a request is accepted where no call is open
+accepted_idle : (n : NodeState) (r : Request) (call : Option OpenCall) (step : ℕ → Pending) → n.call ≡ call → refusal_of n r ≡ None → IsIdleBut call step → (m : ℕ) → step m ≡ Pending.Idle
+accepted_idle n r None step is accepted idle = idle
+accepted_idle n r (Some c) step is accepted idle = absurd (let e = is in let f = accepted in cc)
+
+-- where every line was Idle, every line is, but the one at work
+pub begun_idle : (n : NodeState) (r : Request) (k : NodeState) (step : ℕ → Pending) → AtWork n r k → refusal_of n r ≡ None → IsIdleBut n.call step → IsIdleBut k.call step
+begun_idle n r k step work accepted idle = subst (λ (x : NodeState). IsIdleBut x.call step) (sym work.1) (λ m other. accepted_idle n r n.call step refl accepted idle m)
+
 module _ {U : Type 0} (gives : U → ℕ → Call → U → Type 0) (step : U → ℕ → Pending) (n : NodeState) (r : Request) (k : NodeState) (work : AtWork n r k) (u v : U) (m : NodeState) where
   at_work : (t : Result Turn NodeRefusal) → TurnsBy gives step k k.call u t v m → TurnsBy gives step (work_of n r work.0) (Some (call_of r work.0)) u t v m
   at_work t h = subst (λ (x : NodeState). TurnsBy gives step x x.call u t v m) work.1 h
@@ -67,3 +87,8 @@ module _ {U : Type 0} (gives : U → ℕ → Call → U → Type 0) (step : U �
 
   pub never_refuses : (e : NodeRefusal) → TurnsBy gives step k k.call u (Err e) v m → ⊥
   never_refuses e h = at_work (Err e) h
+
+  pub turn_idles : (a : Answer) → TurnsBy gives step k k.call u (Ok (Turn.Done a)) v m → IfSome k.call (λ (d : OpenCall). (m.call ≡ k.call) ⊎ (step v (line_by d.victim d.line) ≡ Pending.Idle)) → step v (line_of r) ≡ Pending.Idle
+  turn_idles a h idle =
+      let t = at_work (Ok (Turn.Done a)) h in
+      idle_end n r work.0 t.turn a (step v) m t.shows (turn_ends a h) (subst (λ (x : NodeState). IfSome x.call (λ (d : OpenCall). (m.call ≡ x.call) ⊎ (step v (line_by d.victim d.line) ≡ Pending.Idle))) work.1 idle)

@@ -126,6 +126,22 @@ abbrev pub ShowsAnswerTo : (List ℕ → Type 0) → Goal → Turn → Type 0
 ShowsAnswerTo fits goal (Turn.Done answer) = IsAnswerTo fits goal answer
 ShowsAnswerTo fits goal turn = Unit {0}
 
+-- a turn that ends an operation leaves the pending step Idle
+abbrev pub EndsIdle : Turn → Pending → Type 0
+EndsIdle (Turn.Done answer) p = p ≡ Pending.Idle
+EndsIdle turn p = Unit {0}
+
+-- the node's pending step is Idle on every line but the one at work
+abbrev pub IsIdleBut : Option OpenCall → (ℕ → Pending) → Type 0
+IsIdleBut None step = (m : ℕ) → step m ≡ Pending.Idle
+IsIdleBut (Some c) step = (m : ℕ) → m ≢ line_by c.victim c.line → step m ≡ Pending.Idle
+
+-- a call that waited and has ended, with an answer or as Spent, leaves the pending step Idle
+abbrev pub LeavesIdle : Result Answer NodeRefusal → Pending → Type 0
+LeavesIdle (Ok answer) p = p ≡ Pending.Idle
+LeavesIdle (Err NodeRefusal.StampsSpent) p = p ≡ Pending.Idle
+LeavesIdle (Err refusal) p = Unit {0}
+
 module _ {U : Type 0} (gives : U → ℕ → Call → U → Type 0) (step : U → ℕ → Pending) where
   -- a turn of the call: of the operation at work, over the bank's port to the line at work
   pub record TurnsAt (n : NodeState) (c : OpenCall) (u : U) (shown : Turn) (v : U) (m : NodeState) : Type 0 where

@@ -39,7 +39,8 @@ impl Model for Node {
 }
 
 impl Node {
-    ghost use Rattle.sci_cache.specs.Nodes.{node_state, refusal_of, IsRefused, node_with, TurnsBy, line_by, ShowsAnswerTo, IsSameNode};
+    ghost use Rattle.sci_core.specs.declared.pending.Pending.TheVariants.{Idle};
+    ghost use Rattle.sci_cache.specs.Nodes.{node_state, refusal_of, IsRefused, node_with, TurnsBy, line_by, ShowsAnswerTo, IsIdleBut, IsSameNode};
 
     /// A node of a memory of so many lines, which names up to `capacity` of them and has used none. The refusals: 13 for a
     /// capacity of 0 or more than 1,024, then 7.
@@ -123,6 +124,8 @@ impl Node {
         ensures below { IfSome self.old.call (λ c. line_by c.victim c.line < self.old.lines) }
         ensures same_node { IsSameNode self.old self.new }
         ensures content { IfSome self.old.call (λ c. IfOk result (λ turn. ShowsAnswerTo (B.Keep.fits (B.keep bank.old) c.line) c.op.goal turn)) }
+        ensures idle { IfSome self.old.call (λ c. (self.new.call ≡ self.old.call) ⊎ (B.at_step bank.new (line_by c.victim c.line) ≡ Idle)) }
+        ensures rest { IsIdleBut self.old.call (B.at_step bank.old) → IsIdleBut self.new.call (B.at_step bank.new) }
         ensures same_way { B.way bank.new ≡ B.way bank.old }
         ensures same_nodes { (m : ℕ) → B.nodes_on bank.new m ≡ B.nodes_on bank.old m }
         ensures same_fact { B.keep bank.new ≡ B.keep bank.old }

@@ -4,7 +4,7 @@ ghost use Rattle.sci_ops.specs.Answers.{AnswersAt};
 ghost use Rattle.sci_ops.specs.Change.{StoresFitting};
 ghost use Rattle.sci_ops.specs.Plan.{Takes, LoadsAtMost};
 ghost use Rattle.sci_ops.specs.Table.{turn_of, after_turn};
-ghost use Rattle.sci_cache.specs.Nodes.{ShowsAnswerTo};
+ghost use Rattle.sci_cache.specs.Nodes.{ShowsAnswerTo, EndsIdle};
 
 use sci_ops::{Op, Turn};
 use sci_port::{At, Bank};
@@ -18,6 +18,7 @@ pub(crate) fn turn_at<B: Bank>(bank: &mut B, line: LineNo, op: &mut Op) -> Turn
     ensures answers { AnswersAt (λ s call t. B.gives s line call t) (λ s. B.at_step s line) op.old (B.way bank.old).node bank.old result bank.new }
     ensures loads { LoadsAtMost 3 (turn_of op.old (B.way bank.old).node (B.at_step bank.old line)) }
     ensures content { op.old.answer ≡ None → ShowsAnswerTo (B.Keep.fits (B.keep bank.old) line) op.old.goal result }
+    ensures idle { op.old.answer ≡ None → EndsIdle result (B.at_step bank.new line) }
     ensures op { op.new ≡ after_turn op.old result }
     ensures same_way { B.way bank.new ≡ B.way bank.old }
     ensures same_nodes { (m : ℕ) → B.nodes_on bank.new m ≡ B.nodes_on bank.old m }

@@ -4,6 +4,7 @@ ghost use Rattle.sci_core.specs.declared.keeps.AnyWords.{AnyWords};
 ghost use Rattle.sci_port.specs.Banks.{AreLinesOf};
 
 mod growths;
+mod memory;
 mod waiting;
 
 use super::*;

@@ -5,7 +5,7 @@ ghost use Rattle.sci_ops.specs.declared.goals.Write as write;
 ghost use Rattle.sci_ops.specs.Change.{StoresFitting};
 ghost use Rattle.sci_cache.specs.declared.requests.Request as request;
 ghost use Rattle.sci_cache.specs.Requests.{line_of, goal_of};
-ghost use Rattle.sci_cache.specs.Nodes.{Waits, IsAnswerTo, IsSameNode};
+ghost use Rattle.sci_cache.specs.Nodes.{Waits, IsAnswerTo, IsIdleBut, LeavesIdle, IsSameNode};
 
 use crate::node::Node;
 use crate::refusals::NodeRefusal;
@@ -30,6 +30,8 @@ impl Node {
         ensures waits { Waits B.gives B.at_step self.old request bank.old result bank.new self.new }
         ensures same_node { IsSameNode self.old self.new }
         ensures content { IfOk result (λ answer. IsAnswerTo (B.Keep.fits (B.keep bank.old) (line_of request)) (goal_of request) answer) }
+        ensures idle { LeavesIdle result (B.at_step bank.new (line_of request)) }
+        ensures rest { IsIdleBut self.old.call (B.at_step bank.old) → IsIdleBut self.new.call (B.at_step bank.new) }
         ensures same_way { B.way bank.new ≡ B.way bank.old }
         ensures same_nodes { (m : ℕ) → B.nodes_on bank.new m ≡ B.nodes_on bank.old m }
         ensures same_fact { B.keep bank.new ≡ B.keep bank.old }
@@ -62,6 +64,8 @@ impl Node {
         ensures waits { Waits B.gives B.at_step self.old (request.Request.Load line) bank.old result bank.new self.new }
         ensures same_node { IsSameNode self.old self.new }
         ensures content { IfOk result (λ answer. IsAnswerTo (B.Keep.fits (B.keep bank.old) line) goal.Goal.Load answer) }
+        ensures idle { LeavesIdle result (B.at_step bank.new line) }
+        ensures rest { IsIdleBut self.old.call (B.at_step bank.old) → IsIdleBut self.new.call (B.at_step bank.new) }
         ensures same_way { B.way bank.new ≡ B.way bank.old }
         ensures same_nodes { (m : ℕ) → B.nodes_on bank.new m ≡ B.nodes_on bank.old m }
         ensures same_fact { B.keep bank.new ≡ B.keep bank.old }
@@ -85,6 +89,8 @@ impl Node {
         ensures waits { Waits B.gives B.at_step self.old (request.Request.Store line word value) bank.old result bank.new self.new }
         ensures same_node { IsSameNode self.old self.new }
         ensures content { IfOk result (λ answer. IsAnswerTo (B.Keep.fits (B.keep bank.old) line) (goal.Goal.Write (write.Write.Store word value)) answer) }
+        ensures idle { LeavesIdle result (B.at_step bank.new line) }
+        ensures rest { IsIdleBut self.old.call (B.at_step bank.old) → IsIdleBut self.new.call (B.at_step bank.new) }
         ensures same_way { B.way bank.new ≡ B.way bank.old }
         ensures same_nodes { (m : ℕ) → B.nodes_on bank.new m ≡ B.nodes_on bank.old m }
         ensures same_fact { B.keep bank.new ≡ B.keep bank.old }
@@ -108,6 +114,8 @@ impl Node {
         ensures waits { Waits B.gives B.at_step self.old (request.Request.Add line word delta) bank.old result bank.new self.new }
         ensures same_node { IsSameNode self.old self.new }
         ensures content { IfOk result (λ answer. IsAnswerTo (B.Keep.fits (B.keep bank.old) line) (goal.Goal.Write (write.Write.Add word delta)) answer) }
+        ensures idle { LeavesIdle result (B.at_step bank.new line) }
+        ensures rest { IsIdleBut self.old.call (B.at_step bank.old) → IsIdleBut self.new.call (B.at_step bank.new) }
         ensures same_way { B.way bank.new ≡ B.way bank.old }
         ensures same_nodes { (m : ℕ) → B.nodes_on bank.new m ≡ B.nodes_on bank.old m }
         ensures same_fact { B.keep bank.new ≡ B.keep bank.old }
@@ -130,6 +138,8 @@ impl Node {
         ensures waits { Waits B.gives B.at_step self.old (request.Request.WriteLine line words) bank.old result bank.new self.new }
         ensures same_node { IsSameNode self.old self.new }
         ensures content { IfOk result (λ answer. IsAnswerTo (B.Keep.fits (B.keep bank.old) line) (goal.Goal.Write (write.Write.Line words)) answer) }
+        ensures idle { LeavesIdle result (B.at_step bank.new line) }
+        ensures rest { IsIdleBut self.old.call (B.at_step bank.old) → IsIdleBut self.new.call (B.at_step bank.new) }
         ensures same_way { B.way bank.new ≡ B.way bank.old }
         ensures same_nodes { (m : ℕ) → B.nodes_on bank.new m ≡ B.nodes_on bank.old m }
         ensures same_fact { B.keep bank.new ≡ B.keep bank.old }
@@ -150,6 +160,8 @@ impl Node {
         ensures waits { Waits B.gives B.at_step self.old (request.Request.Evict line) bank.old result bank.new self.new }
         ensures same_node { IsSameNode self.old self.new }
         ensures content { IfOk result (λ answer. IsAnswerTo (B.Keep.fits (B.keep bank.old) line) goal.Goal.Evict answer) }
+        ensures idle { LeavesIdle result (B.at_step bank.new line) }
+        ensures rest { IsIdleBut self.old.call (B.at_step bank.old) → IsIdleBut self.new.call (B.at_step bank.new) }
         ensures same_way { B.way bank.new ≡ B.way bank.old }
         ensures same_nodes { (m : ℕ) → B.nodes_on bank.new m ≡ B.nodes_on bank.old m }
         ensures same_fact { B.keep bank.new ≡ B.keep bank.old }

@@ -9,10 +9,10 @@ use Rattle.sci_core.specs.declared.events.Event.{Event}
 use Rattle.sci_core.specs.declared.rows.Change.{Change}
 use Rattle.sci_core.specs.declared.rows.Place.{Place}
 use Rattle.sci_core.specs.declared.rows.Carry.{Carry}
-use Rattle.sci_core.specs.State.{State, update, word, held, unheld}
+use Rattle.sci_core.specs.State.{State, update, word, held_word, unheld_word}
 use Rattle.sci_core.specs.Shape.{phase_of}
 use Rattle.sci_core.specs.Law.{can_be_held, has_slot, is_valid}
-use Rattle.sci_core.specs.Row.{Row, exchange_with, queued, purging, settled}
+use Rattle.sci_core.specs.Row.{Row, exchange_with, queued_word, purging_word, settled_word}
 use Rattle.sci_core.specs.Table.{row_of}
 use Rattle.sci_core.specs.Table.Queueing.{queueing_row}
 use Rattle.sci_core.specs.Table.InQueue.{in_queue_row}
@@ -52,7 +52,7 @@ not_none f v a b = cc
 held_valid : (k : Kind) → can_be_held k ≡ true → is_valid k ≡ true
 held_valid k h = grind (arith, h)
 
-settled_valid : (d : Bool) (f : Option ℕ) → is_valid (settled d f).kind ≡ true
+settled_valid : (d : Bool) (f : Option ℕ) → is_valid (settled_word d f).kind ≡ true
 settled_valid true f = refl
 settled_valid false f = refl
 
@@ -86,18 +86,18 @@ rolling_silent _ seen y = refl
 answered_in_queue : (me : ℕ) (e : Event) (f : Option ℕ) (d : Bool) (c : Option Line) (y line : Line) → Some line ≡ (in_queue_row me e f d c).answer y → IsAnsweredRow me (in_queue_row me e f d c) y line
 answered_in_queue me (Event.AttachFresh t) (Some x) d (Some l) y line a = absurd (some_none line a)
 answered_in_queue me (Event.AttachDirty t) (Some x) d None y line a = absurd (some_none line a)
-answered_in_queue me Event.Settle None d (Some l) y line a = record { before = queued None; after = settled d None; change = refl; valid = settled_valid d None; copy = inl (given me l line a) }
+answered_in_queue me Event.Settle None d (Some l) y line a = record { before = queued_word None; after = settled_word d None; change = refl; valid = settled_valid d None; copy = inl (given me l line a) }
 answered_in_queue me _ f d c y line a = absurd (some_none line a)
 
 answered_row : (me : ℕ) (p : Pending) (e : Event) (own : Tag) (y line : Line) → IsOwnWord p own → Some line ≡ (row_of me p e).answer y → IsAnsweredRow me (row_of me p e) y line
-answered_row me Pending.Idle (Event.BeginPurge t) own y line o a = record { before = t; after = purging t.forw; change = refl; valid = refl; copy = inr (refl, sym a) }
-answered_row me (Pending.Holding w l) Event.Unhold own y line o a = record { before = held w; after = unheld w; change = refl; valid = held_valid w.kind o.1; copy = inl (given me l line a) }
+answered_row me Pending.Idle (Event.BeginPurge t) own y line o a = record { before = t; after = purging_word t.forw; change = refl; valid = refl; copy = inr (refl, sym a) }
+answered_row me (Pending.Holding w l) Event.Unhold own y line o a = record { before = held_word w; after = unheld_word w; change = refl; valid = held_valid w.kind o.1; copy = inl (given me l line a) }
 answered_row me (Pending.Queueing f) e own y line o a = absurd (some_none line (a ∙ queueing_silent me e f y))
 answered_row me (Pending.Fetching f d l) Event.ReturnMemory own y line o a = absurd (some_none line a)
 answered_row me (Pending.InQueue f d c) e own y line o a = answered_in_queue me e f d c y line a
 answered_row me (Pending.Copying x w l) Event.ReturnCopy own y line o a = absurd (some_none line a)
-answered_row me (Pending.Ready f d l) Event.Settle own y line o a = record { before = queued f; after = settled d f; change = refl; valid = settled_valid d f; copy = inl (given me l line a) }
-answered_row me (Pending.Converting f turned) Event.Converted own y line o a = record { before = word Kind.Convert f None; after = purging f; change = refl; valid = refl; copy = inr (refl, sym a) }
+answered_row me (Pending.Ready f d l) Event.Settle own y line o a = record { before = queued_word f; after = settled_word d f; change = refl; valid = settled_valid d f; copy = inl (given me l line a) }
+answered_row me (Pending.Converting f turned) Event.Converted own y line o a = record { before = word Kind.Convert f None; after = purging_word f; change = refl; valid = refl; copy = inr (refl, sym a) }
 answered_row me (Pending.Purging l seen) e own y line o a = absurd (some_none line (a ∙ purging_silent me l e seen y))
 answered_row me (Pending.Advancing l v w) Event.Advance own y line o a = absurd (some_none line a)
 answered_row me (Pending.Clearing l v w) Event.Clear own y line o a = absurd (some_none line a)

@@ -8,7 +8,7 @@ use Rattle.sci_core.specs.declared.lines.Line.{Line}
 use Rattle.sci_core.specs.declared.pending.Pending.{Pending}
 use Rattle.sci_core.specs.declared.events.Event.{Event}
 use Rattle.sci_core.specs.State.{word}
-use Rattle.sci_core.specs.Row.{settled, listed}
+use Rattle.sci_core.specs.Row.{settled_word, listed}
 use Rattle.sci_core.specs.Found.{is_settled, is_settled_body, can_be_told, is_found}
 use Rattle.sci_core.specs.Table.{has_row, row_of}
 use Rattle.sci_core.specs.Table.Idle.{idle_allows, idle_row}
@@ -34,7 +34,7 @@ purged_formed k h f b s e = grind (arith, nat_tests)
 told_formed : (k : Kind) (h : Bool) (f b g : Option ℕ) → can_be_told k ≡ true → tag_well_formed record { kind = k; held = h; forw = f; back = b } ≡ true → tag_well_formed (word k g b) ≡ true
 told_formed k h f b g s e = grind (arith, nat_tests)
 
-settled_formed : (d : Bool) (f : Option ℕ) → tag_well_formed (settled d f) ≡ true
+settled_formed : (d : Bool) (f : Option ℕ) → tag_well_formed (settled_word d f) ≡ true
 settled_formed true f = refl
 settled_formed false f = refl
 

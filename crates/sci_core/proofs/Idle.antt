@@ -63,7 +63,7 @@ module _ (s : State) (g : Witness) (o : Law (shape s) g) (idle : (i : ℕ) → s
 
   -- memory isn't lent, and its line is at home
   pub not_lent : s.memory.lent ≡ false
-  not_lent = ⊎_elim (λ e. absurd (let h = o.slots.lender_has e in let q = phase_idle g.lender in let o : ℕ = 0 in grind (arith, h, q))) (λ e. e) (cases_Bool s.memory.lent)
+  not_lent = ⊎_elim (λ e. absurd (let h = o.slots.borrower_has e in let q = phase_idle g.borrower in let o : ℕ = 0 in grind (arith, h, q))) (λ e. e) (cases_Bool s.memory.lent)
 
   pub memory_at_home : (l : Line) × (s.memory_slot ≡ Some l)
   memory_at_home = some_line s.memory_slot (o.slots.memory_home not_lent)

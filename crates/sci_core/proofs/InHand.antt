@@ -27,7 +27,7 @@ module _ (s : State) (g : Witness) (o : Law (shape s) g) where
   memory_shown : (slot hand : Option Line) (d : Line) → s.memory_slot ≡ slot → FindsKept HasMemorySlot s.steps hand → IsMemoryCopy s (unwrap_or (option_or slot hand) d)
   memory_shown (Some l) hand d e h = inl e
   memory_shown None (Some l) d e h = inr (e, h)
-  memory_shown None None d e h = absurd (h g.lender (o.slots.lender_has (memory_lent s g o e)))
+  memory_shown None None d e h = absurd (h g.borrower (o.slots.borrower_has (memory_lent s g o e)))
 
   copied_keeps_none : (j i : ℕ) → IsCopying (s.steps j) i → kept_line (s.steps i) ≡ None
   copied_keeps_none j i h = idle_keeps_none (s.steps i) (o.slots.copied_idle j i (copying_phase (s.steps j) i h) (copying_kept (s.steps j) i h))

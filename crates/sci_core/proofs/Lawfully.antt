@@ -9,7 +9,7 @@ use Rattle.sci_core.specs.declared.events.Event.{Event}
 use Rattle.sci_core.specs.declared.outcomes.Outcome.{Outcome}
 use Rattle.sci_core.specs.declared.outcomes.NotInTurn.{NotInTurn}
 use Rattle.sci_core.specs.State.{State, update, opened}
-use Rattle.sci_core.specs.Row.{settled}
+use Rattle.sci_core.specs.Row.{settled_word}
 use Rattle.sci_core.specs.Law.{is_valid}
 use Rattle.sci_core.specs.Answers.{Answers, Exchanges, FitsEvent, Makes, is_allowed, row_at}
 use Rattle.sci_core.specs.PendingStep.{IsOwnWord}
@@ -82,14 +82,14 @@ module _ (n : ℕ) (fits : List ℕ → Type 0) (s : State) (r : IsRuled n fits 
       let same : r.witness.value ≡ l = line_is_value n fits s me l r.witness.value before (purging_has s me l (Some None) e (before.lawful.steps.own_word me)) in
       e ∙ ap (λ (x : Line). Pending.Purging x (Some None)) (sym same)
 
-  written_tags : (p : Pending) (l : Line) (words : Option (List ℕ)) → p ≡ Pending.Purging l (Some None) → (made s me (row_of me p (Event.Written words))).tags ≡ update s.tags me (settled true None)
-  written_tags p l words e = subst (λ (q : Pending). (made s me (row_of me q (Event.Written words))).tags ≡ update s.tags me (settled true None)) (sym e) refl
+  written_tags : (p : Pending) (l : Line) (words : Option (List ℕ)) → p ≡ Pending.Purging l (Some None) → (made s me (row_of me p (Event.Written words))).tags ≡ update s.tags me (settled_word true None)
+  written_tags p l words e = subst (λ (q : Pending). (made s me (row_of me q (Event.Written words))).tags ≡ update s.tags me (settled_word true None)) (sym e) refl
 
   made_value : (e : Event) (answer : Option Line) (w : Line) → has_row n me (s.steps me) e ≡ true → w ≡ value_after e r.witness.value → ValueAfter s r.witness.value me e (Ok (Outcome.Done answer)) (made s me (row_at s me e)) w
   made_value (Event.Written words) answer w h e =
       let p = writes_from n me (s.steps me) words h in
       let sole : IsSoleSharer s me = sole_sharer s r.witness r.law me p.0 p.1 in
-      (e, sole, sole_after s (made s me (row_at s me (Event.Written words))) me (settled true None) refl (written_tags (s.steps me) p.0 words p.1) sole, writer_keeps p.0 p.1)
+      (e, sole, sole_after s (made s me (row_at s me (Event.Written words))) me (settled_word true None) refl (written_tags (s.steps me) p.0 words p.1) sole, writer_keeps p.0 p.1)
   made_value _ answer w h e = e
 
   pub made_keeps : (e : Event) (answer : Option Line) → Makes n s me e answer (made s me (row_at s me e)) → FitsEvent fits e → KeepsLawful n fits s me e (Ok (Outcome.Done answer)) (made s me (row_at s me e))

@@ -7,7 +7,7 @@ use Rattle.sci_core.specs.Shape.{shape}
 use Rattle.sci_core.specs.Law.{Witness, Law, Below}
 
 abbrev pub opened_witness : Line → Witness
-opened_witness line = record { rank = λ _. 0; last_front = 0; clearer = λ _. 0; copier = λ _. 0; lender = 0; value = line }
+opened_witness line = record { rank = λ _. 0; last_front = 0; clearer = λ _. 0; copier = λ _. 0; borrower = 0; value = line }
 
 pub opened_is_lawful : (n : ℕ) (line : Line) → Law (shape (opened n line)) (opened_witness line)
 opened_is_lawful n line = record {

@@ -15,7 +15,7 @@ pub record Witness : Type 0 where
   pub clearer : ℕ → ℕ
   pub copier : ℕ → ℕ
   -- who has memory's slot
-  pub lender : ℕ
+  pub borrower : ℕ
   pub value : Line
 
 abbrev pub is_front : Kind → Bool
@@ -290,12 +290,12 @@ pub record Words (kind : ℕ → Kind) (forw back : ℕ → Option ℕ) (phase :
   pub held_back : (i : ℕ) → phase i ≡ Holding → back i ≡ word_back i
 
 -- who has which slot
-pub record Slots (state : MemState) (lent : Bool) (head : Option ℕ) (held : ℕ → Bool) (phase : ℕ → Phase) (kept : ℕ → Option ℕ) (memory_slot : Option Line) (slot : ℕ → Option Line) (copier : ℕ → ℕ) (lender : ℕ) : Type 0 where
+pub record Slots (state : MemState) (lent : Bool) (head : Option ℕ) (held : ℕ → Bool) (phase : ℕ → Phase) (kept : ℕ → Option ℕ) (memory_slot : Option Line) (slot : ℕ → Option Line) (copier : ℕ → ℕ) (borrower : ℕ) : Type 0 where
   pub memory_out : lent ≡ true → memory_slot ≡ None
   pub memory_home : lent ≡ false → memory_slot ≢ None
   pub lends : (i : ℕ) → has_memory_slot (phase i) ≡ true → lent ≡ true
-  pub lends_one : (i : ℕ) → has_memory_slot (phase i) ≡ true → lender ≡ i
-  pub lender_has : lent ≡ true → has_memory_slot (phase lender) ≡ true
+  pub lends_one : (i : ℕ) → has_memory_slot (phase i) ≡ true → borrower ≡ i
+  pub borrower_has : lent ≡ true → has_memory_slot (phase borrower) ≡ true
   pub fetching : (i : ℕ) → phase i ≡ Fetching → head ≡ Some i
   pub writing : (i : ℕ) → phase i ≡ WritingBack → state ≡ MemState.Home
   pub in_hand : (i : ℕ) → has_slot (phase i) ≡ true → slot i ≡ None
@@ -342,7 +342,7 @@ pub record Law (s : Shape) (g : Witness) : Type 0 where
   pub backs : Backs s.kind s.forw s.back s.phase g.rank g.last_front
   pub sees : Seen s.kind s.forw s.back s.phase s.flag s.seen s.seen_forw s.seen_back g.rank g.last_front
   pub words : Words s.kind s.forw s.back s.phase s.kept s.word_kind s.word_held s.word_forw s.word_back
-  pub slots : Slots s.state s.lent s.head s.held s.phase s.kept s.memory_slot s.slot g.copier g.lender
+  pub slots : Slots s.state s.lent s.head s.held s.phase s.kept s.memory_slot s.slot g.copier g.borrower
   pub mode : Mode s.state s.head s.kind s.phase s.kept s.flag s.copy s.line g.rank g.last_front g.value
   pub values : Values s.state s.kind s.phase s.memory_slot s.slot s.line g.value
 

@@ -3,7 +3,7 @@ use Rattle.std.specs.Prelude.{◌≡◌, ◌≢◌, ℕ, Bool, true, false, Some
 use Rattle.sci_words.specs.declared.tags.Kind.{Kind}
 use Rattle.sci_words.specs.declared.tags.Tag.{Tag}
 use Rattle.sci_core.specs.declared.pending.Pending.{Pending}
-use Rattle.sci_core.specs.State.{State, word, held}
+use Rattle.sci_core.specs.State.{State, word, held_word}
 use Rattle.sci_core.specs.Shape.{phase_of}
 use Rattle.sci_core.specs.Law.{can_be_held, is_outside}
 
@@ -19,7 +19,7 @@ is_at_rest _ = false
 -- the own word of a node in this step
 abbrev pub IsOwnWord : Pending → Tag → Type 0
 IsOwnWord Pending.Idle t = is_at_rest t.kind ≡ true
-IsOwnWord (Pending.Holding w line) t = (t ≡ held w) × (can_be_held w.kind ≡ true)
+IsOwnWord (Pending.Holding w line) t = (t ≡ held_word w) × (can_be_held w.kind ≡ true)
 IsOwnWord (Pending.Queueing forw) t = t ≡ word Kind.Queued forw None
 IsOwnWord (Pending.Fetching forw dirty line) t = t ≡ word Kind.Queued forw None
 IsOwnWord (Pending.InQueue forw dirty copy) t = (t ≡ word Kind.Queued forw None) × (forw ≡ None → copy ≢ None)

@@ -43,26 +43,26 @@ gives c x l p = record { change = c; carry = Carry.Gives x l; after = λ _. p; a
 abbrev pub gives_and_answers : Change → Place → Line → Pending → Row
 gives_and_answers c x l p = record { change = c; carry = Carry.Gives x l; after = λ _. p; answer = λ _. Some l }
 
-abbrev pub queued : Option ℕ → Tag
-queued f = word Kind.Queued f None
+abbrev pub queued_word : Option ℕ → Tag
+queued_word f = word Kind.Queued f None
 
-abbrev pub purging : Option ℕ → Tag
-purging f = word Kind.Purging f None
+abbrev pub purging_word : Option ℕ → Tag
+purging_word f = word Kind.Purging f None
 
-abbrev pub leaving : Option ℕ → Tag
-leaving f = word Kind.Leaving f None
+abbrev pub leaving_word : Option ℕ → Tag
+leaving_word f = word Kind.Leaving f None
 
 -- the old head's word, with the actor in front of it
 abbrev pub attached : ℕ → Tag → Tag
 attached me t = word Kind.Valid t.forw (Some me)
 
 -- the victim's word
-abbrev pub purged : Tag → Tag
-purged t = word Kind.Purged t.forw t.back
+abbrev pub purged_word : Tag → Tag
+purged_word t = word Kind.Purged t.forw t.back
 
 -- a settled front
-abbrev pub settled : Bool → Option ℕ → Tag
-settled dirty f = word (cond dirty Kind.Dirty Kind.Fresh) f None
+abbrev pub settled_word : Bool → Option ℕ → Tag
+settled_word dirty f = word (cond dirty Kind.Dirty Kind.Fresh) f None
 
 -- memory's word with a list: GONE if the list is dirty
 abbrev pub listed : Bool → ℕ → Mem

@@ -26,21 +26,21 @@ word k f b = record { kind = k; held = false; forw = f; back = b }
 abbrev pub invalid : Tag
 invalid = word Kind.Invalid None None
 
-abbrev pub held : Tag → Tag
-held t = record { kind = t.kind; held = true; forw = t.forw; back = t.back }
+abbrev pub held_word : Tag → Tag
+held_word t = record { kind = t.kind; held = true; forw = t.forw; back = t.back }
 
-abbrev pub unheld : Tag → Tag
-unheld t = record { kind = t.kind; held = false; forw = t.forw; back = t.back }
+abbrev pub unheld_word : Tag → Tag
+unheld_word t = record { kind = t.kind; held = false; forw = t.forw; back = t.back }
 
 -- a memory word that is not lent
 abbrev pub memory_word : MemState → Option ℕ → Mem
 memory_word s f = record { state = s; lent = false; forw = f }
 
-abbrev pub lent : Mem → Mem
-lent m = record { state = m.state; lent = true; forw = m.forw }
+abbrev pub lent_word : Mem → Mem
+lent_word m = record { state = m.state; lent = true; forw = m.forw }
 
-abbrev pub unlent : Mem → Mem
-unlent m = record { state = m.state; lent = false; forw = m.forw }
+abbrev pub unlent_word : Mem → Mem
+unlent_word m = record { state = m.state; lent = false; forw = m.forw }
 
 -- a line of zeros
 abbrev pub blank : Line

@@ -5,39 +5,74 @@ use sci_words::{NodeId, Tag};
 /// loaded, which the word before must equal.
 #[derive(Clone, Copy, Debug, PartialEq, Eq)]
 pub enum Event {
+    /// The node loads its own tag. No exchange.
     Look,
+    /// Own tag, Invalid to Queued with this forward link: a newcomer notes whom it found as the head.
     Queue(Option<NodeId>),
+    /// Own tag, still outside the list: the newcomer notes another head.
     Requeue(Option<NodeId>),
+    /// Memory's word, HOME or FRESH to FRESH with this node as the head, and memory's bytes lent to it.
     PrependValid,
+    /// Memory's word: the node gives memory's bytes back.
     ReturnMemory,
+    /// The old head's tag, Fresh to Valid: its back link now names this node, which stands in front.
     AttachFresh(Tag),
+    /// Own tag, Queued to Fresh or Dirty: the newcomer has the bytes and is the head. Answers the line.
     Settle,
+    /// Own tag, settled: the held bit is set while the node copies its own bytes.
     Hold(Tag),
+    /// Own tag: the held bit is cleared. Answers the line.
     Unhold,
+    /// Own tag, Fresh to Convert: a fresh head is on its way to write.
     Convert(Tag),
+    /// Memory's word, FRESH to GONE: from now on newcomers get their bytes from the head.
     FreshToGone,
+    /// Own tag, Convert to Purging, after memory turned GONE. Answers the line.
     Converted,
+    /// Own tag, Convert back to Fresh: somebody came in front first.
     Unconverted,
+    /// Own tag, Dirty to Purging: a dirty head is about to write. Answers the line.
     BeginPurge(Tag),
+    /// Own tag, Purging to Dirty, with nobody behind: writes these words, or none where the stamp is spent.
     Written(Option<[u64; 8]>),
+    /// Memory's word, under GONE: this node is the new head, and has no bytes yet.
     PrependGone,
+    /// The old head's tag, Dirty to Valid and held: this node stands in front, and takes its bytes to copy them.
     AttachDirty(Tag),
+    /// The old head's tag: the node gives its bytes back, and the held bit is cleared.
     ReturnCopy,
+    /// The next entry's tag, Valid to Purged: it is told to go, and still stands in the list.
     PurgeOne(Tag),
+    /// Own tag: the forward link passes over the purged entry, which leaves the list.
     Advance,
+    /// The purged entry's tag, Purged to Invalid: it is free.
     Clear,
+    /// Own tag, Valid to Roll: a body entry is on its way out.
     Roll(Tag),
+    /// The next entry's tag: its back link passes over this node.
     TellSuccessor(Tag),
+    /// The tag of the entry before: its forward link passes over this node, which leaves the list.
     TellPredecessor(Tag),
+    /// The next entry's tag, in Roll: its back link now names this node, which has purged the entry between.
     Adopt(Tag),
+    /// Own tag, Roll to Invalid: the entry has left the list.
     Rolled,
+    /// Own tag, Fresh or Dirty to Leaving: a head is on its way out.
     Leave(Tag),
+    /// The next entry's tag, Valid to Fresh or Dirty: it becomes a head.
     Promote(Tag),
+    /// Memory's word: it names the next entry as the head.
     PassOn,
+    /// Own tag, Leaving back to Fresh or Dirty: the head stays.
     Stay,
+    /// Own tag, Leaving to Queued, after Promote: somebody came in front, and the leaver queues up again.
     ReEnter,
+    /// Memory's word, FRESH to HOME: the only sharer leaves.
     ReturnHomeFresh,
+    /// Memory's word, GONE to HOME, with memory's bytes lent to the only sharer, which writes its own over them.
     ReturnHomeDirty,
+    /// Own tag, Leaving to Invalid: the leaver is out of the list.
     Left,
+    /// Planned: a store that finds HOME goes straight to GONE. Never in turn yet.
     HomeWrite,
 }

@@ -6,7 +6,7 @@ use Rattle.sci_words.specs.declared.tags.Tag.{Tag}
 use Rattle.sci_words.specs.declared.memory.MemState.{MemState}
 use Rattle.sci_core.specs.declared.lines.Line.{Line}
 use Rattle.sci_core.specs.Closed.{ClosedLine, IsExactClosed}
-use Rattle.sci_core.specs.Exact.{is_closed_kind, IsExact}
+use Rattle.sci_core.specs.Exact.{is_closed_kind}
 use Rattle.sci_core.proofs.ReadBack.Chain.{path_unique}
 use Rattle.sci_core.proofs.ReadBack.Elements.{contains_none, contains_head}
 use Rattle.sci_dump.specs.declared.checking.Rule.{Rule}

@@ -1,12 +1,11 @@
 -- A text that is read is the dump of what was read.
-use Rattle.std.proofs.Common.{◌≡◌, ℕ, ◌+◌, List, [], ◌∷◌, ◌++◌, length, Option, Some, None, Result, Ok, Err, IfOk, refl, sym, ap, ◌∙◌, subst, zero, suc, codes, append_assoc, append-nil, add-one}
-use Rattle.sci_words.specs.declared.memory.Mem.{Mem}
+use Rattle.std.proofs.Common.{◌≡◌, ℕ, ◌+◌, List, [], ◌∷◌, ◌++◌, length, Result, Ok, Err, IfOk, refl, sym, ap, ◌∙◌, subst, zero, suc, codes, append_assoc}
 use Rattle.sci_words.specs.declared.tags.Tag.{Tag}
 use Rattle.sci_core.specs.declared.lines.Line.{Line}
 use Rattle.sci_core.specs.Closed.{ClosedLine}
 use Rattle.sci_dump.specs.declared.refusals.DumpRefusal.{DumpRefusal}
 use Rattle.sci_dump.specs.Dumps.{DumpLines}
-use Rattle.sci_dump.specs.Reading.{Gives, ◌>>>◌, on_line, behind, memory_at, entry_at, entries_at, closed_at, lines_at, ended, end_at, head_at, dump_of}
+use Rattle.sci_dump.specs.Reading.{Gives, on_line, behind, memory_at, entry_at, entries_at, closed_at, lines_at, ended, end_at, head_at, dump_of}
 use Rattle.sci_dump.specs.Text.{memory_text, node_text, nodes_text, closed_text, lines_text, head_text, dump_text}
 use Rattle.sci_dump.proofs.Inverting.{both_ok, ok_of, not_err, line_ok, behind_text}
 use Rattle.sci_dump.proofs.RowTexts.{memory_read, entry_read, head_read}

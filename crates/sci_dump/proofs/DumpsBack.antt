@@ -1,5 +1,5 @@
 -- A dump is read as the lines that were dumped, with zeros for nodes that are Invalid.
-use Rattle.std.proofs.Common.{if◌then◌else◌, ◌≡◌, ◌≢◌, ℕ, ◌+◌, ◌<◌, ◌≤◌, ◌^◌, Bool, true, false, List, [], ◌∷◌, ◌++◌, length, map, All, Option, Some, None, Result, Ok, Err, refl, sym, ap, ◌∙◌, subst, arith, zero, suc, codes, inl, inr, append_assoc}
+use Rattle.std.proofs.Common.{◌≡◌, ℕ, ◌+◌, ◌<◌, ◌≤◌, ◌^◌, true, List, [], ◌∷◌, ◌++◌, length, map, All, Option, Some, None, Result, Ok, refl, sym, ap, ◌∙◌, subst, arith, suc, codes, inl, inr, append_assoc}
 use Rattle.std.proofs.lemmas.Bool.{cases_Bool}
 use Rattle.sci_words.specs.declared.tags.Tag.{Tag}
 use Rattle.sci_words.specs.Tag.{is_invalid, tag_well_formed, tag_links_below}
@@ -7,10 +7,9 @@ use Rattle.sci_core.specs.declared.lines.Line.{Line}
 use Rattle.sci_core.specs.Closed.{ClosedLine}
 use Rattle.sci_core.specs.State.{invalid, blank}
 use Rattle.sci_dump.specs.declared.refusals.DumpRefusal.{DumpRefusal}
-use Rattle.sci_dump.specs.declared.refusals.DumpRefusal.TheVariants.{OutOfMemory, DumpFault}
 use Rattle.sci_dump.specs.Dumps.{DumpLines}
 use Rattle.sci_dump.specs.ReadBack.{IsContent, IsLineOf, CanBeDumped, contents_read, line_read, dump_read}
-use Rattle.sci_dump.specs.Reading.{◌>>=◌, ◌>>>◌, Gives, on_line, behind, memory_at, node_at, entry_at, entries_at, closed_at, lines_at, ended, end_at, head_at, dump_of}
+use Rattle.sci_dump.specs.Reading.{◌>>>◌, Gives, on_line, behind, memory_at, node_at, entry_at, entries_at, closed_at, lines_at, ended, end_at, head_at, dump_of}
 use Rattle.sci_dump.specs.Text.{memory_text, tag_text, node_text, nodes_text, closed_text, lines_text, head_text, dump_text}
 use Rattle.sci_dump.proofs.FieldsBack.{behind_own}
 use Rattle.sci_dump.proofs.WordsBack.{only_invalid}

@@ -1,10 +1,10 @@
 -- The field that is read is the text of its value.
-use Rattle.std.proofs.Common.{if◌then◌else◌, ◌≡◌, ℕ, ◌+◌, ◌-◌, ◌*◌, ◌/◌, ◌%◌, ◌^◌, ◌<◌, ◌≤◌, ◌&&◌, ◌||◌, Bool, true, false, not, eqb, ltb, leb, ◌==◌, List, [], ◌∷◌, ◌++◌, length, get_or, slice_index, take, drop, Option, Some, None, refl, sym, ap, ◌∙◌, subst, arith, zero, suc, codes, inl, inr, length-take, take-append-drop, append_assoc, decimal, flat_map, take_all, ltb-true, leb-true, eqb-true, ne_eqb, eq-eqb}
+use Rattle.std.proofs.Common.{if◌then◌else◌, ◌≡◌, ℕ, ◌+◌, ◌-◌, ◌*◌, ◌/◌, ◌%◌, ◌^◌, ◌<◌, ◌≤◌, ◌&&◌, ◌||◌, true, false, not, leb, ◌==◌, List, [], ◌∷◌, ◌++◌, length, get_or, slice_index, take, drop, Some, None, refl, sym, ap, ◌∙◌, subst, arith, zero, suc, codes, inl, inr, length-take, take-append-drop, append_assoc, decimal, take_all, ltb-true, leb-true, eqb-true}
 use Rattle.std.specs.Char.{is_ascii_digit, digit_value}
 use Rattle.std.specs.Fmt.{digit_glyph}
 use Rattle.std.specs.List.{list_all}
 use Rattle.std.specs.Str.Parse.{AllDigits, digits_value}
-use Rattle.std.proofs.lemmas.Bool.{and_parts, cases_lt, le-ltb, lt-ltb, cases_Bool}
+use Rattle.std.proofs.lemmas.Bool.{and_parts, le-ltb, lt-ltb, cases_Bool}
 use Rattle.std.proofs.lemmas.Fmt.{decimal-digits_value}
 use Rattle.std.proofs.lemmas.List.{take_more}
 use Rattle.std.proofs.lemmas.Str.{digit_value_digit}

@@ -1,10 +1,10 @@
 -- The text of a field is read as its value.
-use Rattle.std.proofs.Common.{if◌then◌else◌, ◌≡◌, ◌≢◌, ℕ, ◌+◌, ◌-◌, ◌*◌, ◌/◌, ◌%◌, ◌^◌, ◌<◌, ◌≤◌, ◌&&◌, ◌||◌, Bool, true, false, not, eqb, ltb, leb, cond, ◌==◌, List, [], ◌∷◌, ◌++◌, length, get_or, slice_index, take, drop, All, Option, Some, None, refl, sym, ap, ap₂, ◌∙◌, subst, arith, zero, suc, codes, inl, inr, append_assoc, decimal, bytes_eq, ltb-true, leb-true, eqb-true, ne_eqb, eq-eqb, lt-ltb, le-leb, length-append}
+use Rattle.std.proofs.Common.{if◌then◌else◌, ◌≡◌, ◌≢◌, ℕ, ◌*◌, ◌/◌, ◌%◌, ◌^◌, ◌<◌, ◌≤◌, ◌&&◌, ◌||◌, true, false, not, ltb, leb, ◌==◌, List, [], ◌∷◌, ◌++◌, length, get_or, slice_index, take, drop, All, Option, Some, None, refl, ap, ◌∙◌, subst, arith, zero, suc, codes, inl, inr, append_assoc, decimal, leb-true, ne_eqb, eq-eqb, lt-ltb, le-leb, length-append}
 use Rattle.std.specs.Char.{is_ascii_digit, digit_value}
 use Rattle.std.specs.Fmt.{digit_glyph}
-use Rattle.std.specs.List.{list_all, prefix_len}
-use Rattle.std.specs.Str.Parse.{AllDigits, digits_value}
-use Rattle.std.proofs.lemmas.Bool.{and_parts, cases_lt, le-ltb, cases_Bool}
+use Rattle.std.specs.List.{list_all}
+use Rattle.std.specs.Str.Parse.{digits_value}
+use Rattle.std.proofs.lemmas.Bool.{and_parts, cases_lt, cases_Bool}
 use Rattle.std.proofs.lemmas.Fmt.{digits_decimal, digits_value-decimal, decimal_nonempty, length-decimal-le, first_decimal, decimal_digit}
 use Rattle.std.proofs.lemmas.Int.Digits.{digits_value_push}
 use Rattle.std.proofs.lemmas.List.Folds.{list_all-append}

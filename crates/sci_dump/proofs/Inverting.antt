@@ -1,6 +1,5 @@
 -- From what reading gives back to its parts.
-use Rattle.std.proofs.Common.{◌≡◌, ℕ, Bool, true, false, Option, Some, None, Result, Ok, Err, List, ◌++◌, ◌∷◌, take, drop, length, bytes_eq, refl, sym, ap, ◌∙◌, subst, cond, inl, inr, take-append-drop, if◌then◌else◌}
-use Rattle.std.proofs.lemmas.Bool.{cases_Bool}
+use Rattle.std.proofs.Common.{◌≡◌, ℕ, Bool, true, false, Option, Some, None, Result, Ok, Err, List, ◌++◌, take, drop, length, bytes_eq, refl, sym, ap, ◌∙◌, take-append-drop, if◌then◌else◌}
 use Rattle.std.proofs.lemmas.Slice.Eq.{bytes_eq-Decides}
 use Rattle.sci_dump.specs.declared.refusals.DumpRefusal.{DumpRefusal}
 use Rattle.sci_dump.specs.Reading.{◌>>=◌, ◌>>>◌, on_line, behind}

@@ -15,3 +15,4 @@ pub mod FieldsBack
 pub mod WordsBack
 pub mod RowsBack
 pub mod DumpsBack
+pub mod Dumpable

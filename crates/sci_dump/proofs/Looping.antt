@@ -1,12 +1,12 @@
 -- Reading node by node, and line by line.
-use Rattle.std.proofs.Common.{◌≡◌, ℕ, zero, suc, ◌+◌, List, [], ◌∷◌, ◌++◌, Option, Some, None, Result, Ok, Err, refl, sym, ap, ◌∙◌, append_assoc}
+use Rattle.std.proofs.Common.{◌≡◌, ℕ, suc, ◌+◌, List, [], ◌∷◌, ◌++◌, Some, None, Result, Ok, Err, refl, sym, ◌∙◌, append_assoc}
 use Rattle.std.proofs.lemmas.List.{append-nil}
 use Rattle.sci_words.specs.declared.tags.Tag.{Tag}
 use Rattle.sci_core.specs.declared.lines.Line.{Line}
 use Rattle.sci_core.specs.Closed.{ClosedLine}
 use Rattle.sci_dump.specs.declared.refusals.DumpRefusal.{DumpRefusal}
 use Rattle.sci_dump.specs.declared.refusals.DumpRefusal.TheVariants.{OutOfMemory, DumpFault}
-use Rattle.sci_dump.specs.Reading.{◌>>>◌, on_line, Fails, entry_at, entries_at, closed_at, lines_at}
+use Rattle.sci_dump.specs.Reading.{◌>>>◌, Fails, entry_at, entries_at, closed_at, lines_at}
 
 -- what is read behind these nodes
 abbrev pub Nodes : Type 0

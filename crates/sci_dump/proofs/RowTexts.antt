@@ -1,12 +1,12 @@
 -- The line of text that is read is the text of what it says.
-use Rattle.std.proofs.Common.{if◌then◌else◌, ◌≡◌, ℕ, ◌+◌, Bool, true, false, leb, ◌&&◌, ◌==◌, List, [], ◌∷◌, ◌++◌, length, Option, Some, None, Result, Ok, Err, refl, sym, ap, ◌∙◌, subst, arith, zero, suc, codes, append_assoc, decimal}
+use Rattle.std.proofs.Common.{if◌then◌else◌, ◌≡◌, ℕ, ◌+◌, false, List, [], ◌∷◌, ◌++◌, Option, Some, None, refl, sym, ap, ◌∙◌, subst, codes, append_assoc, decimal}
 use Rattle.sci_words.specs.declared.memory.Mem.{Mem}
 use Rattle.sci_words.specs.declared.tags.Tag.{Tag}
 use Rattle.sci_words.specs.Codes.{mem_code, tag_code}
 use Rattle.sci_words.specs.Tag.{is_invalid}
 use Rattle.sci_core.specs.declared.lines.Line.{Line}
 use Rattle.sci_core.specs.State.{invalid, blank}
-use Rattle.sci_dump.specs.Reading.{◌>>=◌, behind, numbered_at, word_at, mem_of, tag_of, content_at, memory_at, node_at, tag_at, count_at, head_at, entry_at, found_on, tag_on}
+use Rattle.sci_dump.specs.Reading.{behind, numbered_at, word_at, mem_of, tag_of, content_at, memory_at, node_at, tag_at, count_at, head_at, entry_at, found_on, tag_on}
 use Rattle.sci_dump.specs.Text.{hexadecimal, values_text, content_text, memory_text, tag_text, node_text, head_text}
 use Rattle.sci_dump.proofs.Inverting.{both_some, some_of, not_none, behind_text}
 use Rattle.sci_dump.proofs.FieldTexts.{word_text, content_read, numbered_read, count_read}

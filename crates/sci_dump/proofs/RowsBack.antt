@@ -1,5 +1,5 @@
 -- A line of text is read as what it says.
-use Rattle.std.proofs.Common.{if◌then◌else◌, ◌≡◌, ◌≢◌, ℕ, ◌+◌, ◌<◌, ◌≤◌, ◌^◌, Bool, true, false, List, [], ◌∷◌, ◌++◌, length, Option, Some, None, refl, sym, ap, ◌∙◌, subst, arith, codes, append_assoc, decimal}
+use Rattle.std.proofs.Common.{◌≡◌, ◌≢◌, ℕ, ◌+◌, ◌<◌, ◌≤◌, ◌^◌, true, false, List, ◌∷◌, ◌++◌, Option, Some, None, refl, ap, ◌∙◌, arith, codes, append_assoc, decimal}
 use Rattle.sci_words.specs.declared.memory.Mem.{Mem}
 use Rattle.sci_words.specs.declared.tags.Tag.{Tag}
 use Rattle.sci_words.specs.Codes.{mem_code, tag_code}
@@ -9,7 +9,7 @@ use Rattle.sci_words.proofs.Codes.{tag_code_below, mem_code_below}
 use Rattle.sci_core.specs.declared.lines.Line.{Line}
 use Rattle.sci_core.specs.State.{invalid, blank}
 use Rattle.sci_dump.specs.ReadBack.{IsContent}
-use Rattle.sci_dump.specs.Reading.{◌>>=◌, behind, numbered_at, word_at, mem_of, tag_of, content_at, memory_at, node_at, tag_at, count_at, head_at, entry_at, found_on, tag_on}
+use Rattle.sci_dump.specs.Reading.{behind, numbered_at, word_at, mem_of, tag_of, content_at, memory_at, node_at, tag_at, count_at, head_at, entry_at, found_on}
 use Rattle.sci_dump.specs.Text.{hexadecimal, values_text, content_text, memory_text, tag_text, head_text}
 use Rattle.sci_dump.proofs.FieldsBack.{then_read, behind_own, numbered_own, numbered_other, word_own, content_own, count_own}
 use Rattle.sci_dump.proofs.WordsBack.{mem_own, tag_own}

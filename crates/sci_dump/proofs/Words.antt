@@ -1,10 +1,8 @@
 -- The word that is read has the code that was read, and the code of a word is read as that word.
-use Rattle.std.proofs.Common.{◌≡◌, ℕ, ◌+◌, ◌*◌, ◌/◌, ◌%◌, ◌^◌, ◌<◌, ◌≤◌, ◌&&◌, ◌||◌, Bool, true, false, not, eqb, ltb, leb, cond, ◌==◌, Option, Some, None, [], ◌∷◌, find, refl, sym, ap, ◌∙◌, subst, arith, inl, inr, ltb-false, ltb-true, eqb-true}
+use Rattle.std.proofs.Common.{◌≡◌, ℕ, ◌+◌, ◌*◌, ◌/◌, ◌%◌, ◌^◌, ◌<◌, ◌≤◌, Bool, true, false, not, ◌==◌, Option, Some, None, refl, sym, ap, ◌∙◌, subst, arith, inl, inr, ltb-false, eqb-true}
 use Rattle.std.proofs.lemmas.Bool.{and_parts, cases_Bool}
-use Rattle.sci_words.specs.declared.tags.Kind.{Kind}
 use Rattle.sci_words.specs.declared.tags.Tag.{Tag}
 use Rattle.sci_words.specs.declared.memory.Mem.{Mem}
-use Rattle.sci_words.specs.declared.memory.MemState.{MemState}
 use Rattle.sci_words.specs.declared.refusals.WordRefusal.{WordRefusal}
 use Rattle.sci_words.specs.declared.refusals.WordRefusal.TheVariants.{UnknownKind, SpareBits, LinkMissing, LinkUnwanted, HeldNotValid}
 use Rattle.sci_words.specs.Refused.{tag_refused, mem_refused, lowest, tag_refusal, mem_refusal}

@@ -1,6 +1,6 @@
 -- The code of a word is read as that word.
-use Rattle.std.proofs.Common.{◌≡◌, ℕ, ◌+◌, ◌*◌, ◌/◌, ◌%◌, ◌^◌, ◌<◌, ◌≤◌, ◌&&◌, ◌||◌, Bool, true, false, not, eqb, ltb, leb, ◌==◌, Option, Some, None, is_some, is_none, refl, sym, ap, ap₂, ◌∙◌, subst, arith, inl, inr, ltb-true, eq-eqb, le-ltb}
-use Rattle.std.proofs.lemmas.Bool.{and_parts, cases_Bool}
+use Rattle.std.proofs.Common.{◌≡◌, ℕ, ◌+◌, ◌*◌, ◌/◌, ◌%◌, ◌^◌, ◌<◌, ◌≤◌, ◌&&◌, ◌||◌, Bool, true, false, not, ◌==◌, Option, Some, None, is_some, refl, sym, ap, ◌∙◌, subst, arith, ltb-true, le-ltb}
+use Rattle.std.proofs.lemmas.Bool.{and_parts}
 use Rattle.sci_words.specs.declared.tags.Kind.{Kind}
 use Rattle.sci_words.specs.declared.tags.Tag.{Tag}
 use Rattle.sci_words.specs.declared.memory.Mem.{Mem}
@@ -9,8 +9,8 @@ use Rattle.sci_words.specs.declared.refusals.WordRefusal.{WordRefusal}
 use Rattle.sci_words.specs.declared.refusals.WordRefusal.TheVariants.{UnknownKind, SpareBits, LinkMissing, LinkUnwanted, HeldNotValid}
 use Rattle.sci_words.specs.Refused.{tag_refused, mem_refused, lowest, tag_refusal, mem_refusal}
 use Rattle.sci_words.specs.Codes.{kind_number, state_number, tag_in, mem_in, tag_code, mem_code}
-use Rattle.sci_words.specs.Layout.{layout1, bit, kind_field, link_code, spare_bits_clear}
-use Rattle.sci_words.specs.Tag.{is_invalid, is_body, misses_link, has_unwanted_link, is_held_wrongly, tag_well_formed, link_below, tag_links_below}
+use Rattle.sci_words.specs.Layout.{layout1, bit, kind_field, link_code}
+use Rattle.sci_words.specs.Tag.{is_invalid, misses_link, has_unwanted_link, is_held_wrongly, tag_well_formed, link_below, tag_links_below}
 use Rattle.sci_words.specs.Mem.{misses_head, has_unwanted_head, mem_well_formed, mem_links_below}
 use Rattle.sci_words.proofs.Codes.{tag_in-code, mem_in-code}
 use Rattle.sci_core.specs.State.{invalid}

@@ -1,5 +1,5 @@
 -- Which rule of an exact sharing list a closed line breaks first. IEEE Std 1596-1992; this project's profile.
-use Rattle.std.specs.Prelude.{◌≡◌, ◌<◌, ◌≤◌, ℕ, List, Bool, true, false, length, All, slice_index_or}
+use Rattle.std.specs.Prelude.{◌<◌, ℕ, List, Bool, true, false, length, All, slice_index_or}
 use Rattle.sci_words.specs.declared.tags.Tag.{Tag}
 use Rattle.sci_core.specs.declared.lines.Line.{Line}
 use Rattle.sci_core.specs.Closed.{ClosedLine, IsExactClosed}

@@ -4,6 +4,7 @@
 mod checking;
 mod dumps;
 mod fields;
+mod ranges;
 mod reader;
 mod refusals;
 mod rows;

@@ -1,4 +1,6 @@
 //! Dumps that are read, checked and written again, and texts that are none.
+ghost use Rattle.std.specs.Prelude.{◌<◌};
+
 mod growths;
 mod memory;
 
@@ -285,6 +287,43 @@ fn a_closed_line_is_dumped_and_read_back(rt: HostRuntime) -> Result<(), Fail> {
         assert_eq!(rt; line.memory, back.memory);
         assert_eq!(rt; line.tags.as_slice(), back.tags.as_slice());
         assert_eq!(rt; line.lines.as_slice(), back.lines.as_slice());
+    }
+    Ok(())
+}
+
+// The word of a node's tag, where 63 is the head, in front of 62, and so on to 0.
+fn word_of(node: u64) -> u64
+    requires { node < 64 }
+{
+    match node {
+        0 => 0x01_FF07,
+        63 => 0xFF_3E02,
+        _ => (node + 1) * 65_536 + (node - 1) * 256 + 7,
+    }
+}
+
+// The dump of so many lines that 64 nodes share.
+fn shared_by_all(alloc: Global, lines: u64) -> Result<String, Fail> {
+    let mut text = format!(in alloc; "scidump 1 64 {lines}\n")?;
+    for line in 0..lines {
+        write!(text, "line {line} 0000000000003f01 0 0 0 0 0 0 0 0 0\n")?;
+        for node in 0..64u64 {
+            let word = word_of(node);
+            write!(text, "tag {line} {node} {word:016x} 0 0 0 0 0 0 0 0 0\n")?;
+        }
+    }
+    text.push_str("end\n")?;
+    Ok(text)
+}
+
+#[test]
+fn dumps_of_64_nodes(rt: HostRuntime) -> Result<(), Fail> {
+    for lines in [1, 340, 1024] {
+        let text = shared_by_all(rt.alloc(), lines)?;
+        let read = read_dump(rt.alloc(), text.as_bytes())?;
+        assert_eq!(rt; check(&read), Verdict::Lawful);
+        let again = text_of(rt.alloc(), &read)?;
+        assert!(rt; again.as_str() == text.as_str(), "of {lines} lines");
     }
     Ok(())
 }

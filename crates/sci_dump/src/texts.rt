@@ -1,9 +1,12 @@
 //! The text of a dump.
 
-ghost use Rattle.std.specs.Prelude.{◌≡◌, ◌≤◌, ◌++◌, ℕ, true, IfOk, OnOk, string_bytes, length, All};
+ghost use Rattle.std.specs.Prelude.{◌≡◌, ◌≤◌, ◌++◌, ℕ, true, Ok, IfOk, OnOk, string_bytes, length, All};
 ghost use Rattle.sci_words.specs.Tag.{tag_well_formed};
+ghost use Rattle.sci_dump.specs.ReadBack.{dump_read};
+ghost use Rattle.sci_dump.specs.Reading.{dump_of};
 ghost use Rattle.sci_dump.specs.Text.{content_text, memory_text, node_text, tag_text, nodes_text, closed_text, head_text, lines_text, dump_text, hexadecimal, values_text};
 
+use crate::ranges::show_lines;
 use sci_core::{Closed, Line};
 use sci_words::{Kind, Tag, write_mem, write_tag};
 use std::alloc::{AllocError, Global};
@@ -108,9 +111,9 @@ fn push_lines(text: &mut String, lines: &[Closed]) -> Result<(), AllocError>
     Ok(())
 }
 
-/// The dump of closed lines, from line 0 on: 1 to 1,024 lines of the same 1 to 64 nodes. Err: memory ran out.
+/// The text of closed lines, from line 0 on.
 #[tactic(auto, unfolding(crate::specs::Text::dump_text, crate::specs::Text::head_text))]
-pub fn dump(alloc: Global, lines: &[Closed]) -> Result<String, AllocError>
+fn write_dump(alloc: Global, lines: &[Closed]) -> Result<String, AllocError>
     requires lines { (1 ≤ length lines.now) × (length lines.now ≤ 1024) }
     requires nodes { (nodes : ℕ) × (1 ≤ nodes) × (nodes ≤ 64) × All (λ c. length c.tags ≡ nodes) lines.now }
     ensures { IfOk result (λ text. (nodes : ℕ) → All (λ c. length c.tags ≡ nodes) lines.now → string_bytes text ≡ dump_text nodes lines.now) }
@@ -122,4 +125,16 @@ pub fn dump(alloc: Global, lines: &[Closed]) -> Result<String, AllocError>
     push_lines(&mut text, lines)?;
     text.push_str("end\n")?;
     Ok(text)
+}
+
+/// The dump of closed lines, from line 0 on: 1 to 1,024 lines of the same 1 to 64 nodes. Err: memory ran out.
+pub fn dump(alloc: Global, lines: &[Closed]) -> Result<String, AllocError>
+    requires lines { (1 ≤ length lines.now) × (length lines.now ≤ 1024) }
+    requires nodes { (nodes : ℕ) × (1 ≤ nodes) × (nodes ≤ 64) × All (λ c. length c.tags ≡ nodes) lines.now }
+    ensures text { IfOk result (λ text. (nodes : ℕ) → All (λ c. length c.tags ≡ nodes) lines.now → string_bytes text ≡ dump_text nodes lines.now) }
+    // What is read of it are these lines, with zeros as the content of nodes that are Invalid.
+    ensures read_back { IfOk result (λ text. (nodes : ℕ) → All (λ c. length c.tags ≡ nodes) lines.now → dump_of (string_bytes text) ≡ Ok (dump_read nodes lines.now)) }
+{
+    show_lines(lines);
+    write_dump(alloc, lines)
 }

@@ -1,8 +1,9 @@
-//! A line on separate words: how it is opened and closed, runs that are replayed, and threads on it.
+//! A line on separate words: how it is opened and closed, banks of lines, runs that are replayed, and threads on it.
 ghost use Rattle.std.specs.Prelude.{◌≡◌, ◌<◌, IfSome, IsTrue};
 ghost use Rattle.sci_core.specs.declared.pending.Pending.TheVariants.{Idle};
 ghost use Rattle.sci_fine.specs.Seats.{IsSeatOf};
 
+mod banks;
 mod growths;
 mod memory;
 mod recorded;

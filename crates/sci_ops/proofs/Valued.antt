@@ -9,7 +9,7 @@ use Rattle.sci_core.specs.declared.events.Event.{Event}
 use Rattle.sci_core.specs.declared.rows.Change.{Change}
 use Rattle.sci_core.specs.declared.outcomes.Outcome.{Outcome}
 use Rattle.sci_core.specs.Answers.{Makes, row_at}
-use Rattle.sci_core.specs.Row.{leaving}
+use Rattle.sci_core.specs.Row.{leaving_word}
 use Rattle.sci_core.specs.Run.{HasValue, ValueAfter, AnswersValue, KeepsLawful}
 use Rattle.sci_core.specs.Sharers.{IsSoleSharer}
 use Rattle.sci_core.specs.State.{State, invalid, word}
@@ -91,7 +91,7 @@ abbrev IsInvalidating : ℕ → Change → Type 0
 IsInvalidating me c = (before : Tag) × (c ≡ Change.OfTag me before invalid)
 
 left_row : (n me : ℕ) (p : Pending) → has_row n me p Event.Left ≡ true → IsInvalidating me (row_of me p Event.Left).change
-left_row n me (Pending.Parted f) h = (leaving f, refl)
+left_row n me (Pending.Parted f) h = (leaving_word f, refl)
 left_row n me _ h = absurd (cc)
 
 rolled_row : (n me : ℕ) (p : Pending) → has_row n me p Event.Rolled ≡ true → IsInvalidating me (row_of me p Event.Rolled).change

@@ -1,4 +1,6 @@
 pub mod Fault
 pub mod Input
 pub mod Serve
+pub mod Settings
 pub mod Verdicts
+pub mod Works

@@ -6,9 +6,11 @@ mod commands;
 mod faults;
 mod input;
 mod serve;
+mod settings;
 #[cfg(test)]
 mod tests;
 mod verdicts;
+mod works;
 
 use checking::serve_check;
 use commands::commands;

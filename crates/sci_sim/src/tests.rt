@@ -3,6 +3,8 @@ ghost use Rattle.std.specs.Prelude.{Some};
 mod checks;
 mod faltering;
 mod growths;
+mod settings;
+mod works;
 
 use crate::faults::SimFault;
 use crate::serve::{serve_buffered, serve_script};

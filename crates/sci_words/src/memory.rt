@@ -2,12 +2,14 @@
 use crate::nodes::NodeId;
 use crate::refusals::WordRefusal;
 
-/// HOME: there is no sharing list. FRESH: there is one, and memory's data is valid. GONE: there is one, and memory's data
-/// may be stale.
+/// Memory's state of a line.
 #[derive(Clone, Copy, Debug, PartialEq, Eq)]
 pub enum MemState {
+    /// There is no sharing list, and memory's bytes are valid.
     Home,
+    /// There is a sharing list, and memory's bytes are valid.
     Fresh,
+    /// There is a sharing list, and memory's bytes may be stale.
     Gone,
 }
 

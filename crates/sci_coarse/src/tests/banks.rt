@@ -13,7 +13,7 @@ use std::alloc::Global;
 use std::test::Fail;
 
 // A line of one node, with its seat.
-fn line_of(
+pub(super) fn line_of(
     alloc: Global,
     number: LineNo,
     keep: AnyWords,

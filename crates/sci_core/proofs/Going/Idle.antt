@@ -5,7 +5,7 @@ use Rattle.sci_words.specs.Tag.{link_below}
 use Rattle.sci_core.specs.declared.lines.Line.{Line}
 use Rattle.sci_core.specs.declared.pending.Pending.{Pending}
 use Rattle.sci_core.specs.declared.events.Event.{Event}
-use Rattle.sci_core.specs.State.{State, invalid, held}
+use Rattle.sci_core.specs.State.{State, invalid, held_word}
 use Rattle.sci_core.specs.Shape.{phase_of}
 use Rattle.sci_core.specs.Law.{Witness, has_slot}
 use Rattle.sci_core.specs.Found.{is_fresh, is_dirty, is_settled_front, is_settled_body, is_settled}
@@ -109,7 +109,7 @@ module _ (n : ℕ) (s : State) (g : Witness) (me : ℕ) where
   idle_goes (Event.Leave w) t allowed finds = own_goes Event.Leave leave_goes w t allowed finds
   idle_goes _ t allowed finds = absurd (cc)
 
-  unhold_goes : (w : Tag) (l : Line) → Turn n s g me (Pending.Holding w l) → s.tags me ≡ held w → Going n s g me Event.Unhold (holding_row me w l Event.Unhold)
+  unhold_goes : (w : Tag) (l : Line) → Turn n s g me (Pending.Holding w l) → s.tags me ≡ held_word w → Going n s g me Event.Unhold (holding_row me w l Event.Unhold)
   unhold_goes w l t word = record {
     home = tt;
     after = g;

@@ -9,7 +9,7 @@ use Rattle.sci_core.specs.State.{State, update}
 use Rattle.sci_core.specs.Shape.{phase_of}
 use Rattle.sci_core.specs.Law.{Witness, has_slot}
 use Rattle.sci_core.specs.Found.{is_fresh, is_dirty, is_found}
-use Rattle.sci_core.specs.Row.{queued}
+use Rattle.sci_core.specs.Row.{queued_word}
 use Rattle.sci_core.specs.Step.{line_in}
 use Rattle.sci_core.specs.Table.InQueue.{in_queue_allows, in_queue_row, copying_allows, copying_row, ready_allows, ready_row}
 use Rattle.sci_core.proofs.Going.Forms.{Going, Turn, FindsRow}
@@ -45,7 +45,7 @@ module _ (n : ℕ) (s : State) (g : Witness) (me : ℕ) where
         value = refl;
       }
 
-  settle_goes : (d : Bool) (l : Line) → Turn n s g me (Pending.InQueue None d (Some l)) → s.tags me ≡ queued None → Going n s g me Event.Settle (in_queue_row me Event.Settle None d (Some l))
+  settle_goes : (d : Bool) (l : Line) → Turn n s g me (Pending.InQueue None d (Some l)) → s.tags me ≡ queued_word None → Going n s g me Event.Settle (in_queue_row me Event.Settle None d (Some l))
   settle_goes d l t word = record {
     home = tt;
     after = g;
@@ -77,7 +77,7 @@ module _ (n : ℕ) (s : State) (g : Witness) (me : ℕ) where
   copying_goes x w l Event.ReturnCopy t allowed finds = return_copy_goes x w l t finds
   copying_goes x w l _ t allowed finds = absurd (cc)
 
-  settle_ready_goes : (f : Option ℕ) (d : Bool) (l : Line) → Turn n s g me (Pending.Ready f d l) → s.tags me ≡ queued f → Going n s g me Event.Settle (ready_row me f d l Event.Settle)
+  settle_ready_goes : (f : Option ℕ) (d : Bool) (l : Line) → Turn n s g me (Pending.Ready f d l) → s.tags me ≡ queued_word f → Going n s g me Event.Settle (ready_row me f d l Event.Settle)
   settle_ready_goes f d l t word = record {
     home = tt;
     after = g;

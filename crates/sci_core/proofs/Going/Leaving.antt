@@ -5,11 +5,11 @@ use Rattle.sci_words.specs.declared.tags.Tag.{Tag}
 use Rattle.sci_core.specs.declared.lines.Line.{Line}
 use Rattle.sci_core.specs.declared.pending.Pending.{Pending}
 use Rattle.sci_core.specs.declared.events.Event.{Event}
-use Rattle.sci_core.specs.State.{State, update, lent, unlent, blank}
+use Rattle.sci_core.specs.State.{State, update, lent_word, unlent_word, blank}
 use Rattle.sci_core.specs.Shape.{shape}
 use Rattle.sci_core.specs.Law.{Witness, Law, Below}
 use Rattle.sci_core.specs.Found.{names, is_settled_body, is_found}
-use Rattle.sci_core.specs.Row.{leaving, listed, home}
+use Rattle.sci_core.specs.Row.{leaving_word, listed, home}
 use Rattle.sci_core.specs.Table.Leaving.{leaving_allows, leaving_row, promoted_allows, promoted_row, writing_back_allows, writing_back_row, parted_allows, parted_row}
 use Rattle.sci_core.proofs.Going.Forms.{Going, Turn, FindsRow}
 use Rattle.sci_core.proofs.Going.Facts.{Found, found, body_kind, named, and_left, and_right, memory_home}
@@ -35,7 +35,7 @@ module _ (n : ℕ) (s : State) (g : Witness) (me : ℕ) where
         value = refl;
       }
 
-  stay_goes : (d : Bool) (l : Line) (f : Option ℕ) → Turn n s g me (Pending.Leaving d l (Some f)) → s.tags me ≡ leaving f → Going n s g me Event.Stay (leaving_row me d l Event.Stay (Some f))
+  stay_goes : (d : Bool) (l : Line) (f : Option ℕ) → Turn n s g me (Pending.Leaving d l (Some f)) → s.tags me ≡ leaving_word f → Going n s g me Event.Stay (leaving_row me d l Event.Stay (Some f))
   stay_goes d l f t me_word = record {
     home = tt;
     after = g;
@@ -58,7 +58,7 @@ module _ (n : ℕ) (s : State) (g : Witness) (me : ℕ) where
   return_home_dirty_goes false l t allowed word = absurd (cc)
   return_home_dirty_goes true l t allowed word = record {
     home = memory_home s g t.law (ap (λ (m : Mem). m.lent) word);
-    after = record g { rank = update g.rank me 0; lender = me };
+    after = record g { rank = update g.rank me 0; borrower = me };
     law = return_home_dirty_keeps_law s g t.law me l t.pending word;
     links = return_home_dirty_keeps_links n s t.links me t.below l t.pending word;
     value = refl;
@@ -82,7 +82,7 @@ module _ (n : ℕ) (s : State) (g : Witness) (me : ℕ) where
     value = refl;
   }
 
-  re_enter_goes : (d : Bool) (l : Line) (x : ℕ) → Turn n s g me (Pending.Promoted d l x) → s.tags me ≡ leaving (Some x) → Going n s g me Event.ReEnter (promoted_row me d l x Event.ReEnter)
+  re_enter_goes : (d : Bool) (l : Line) (x : ℕ) → Turn n s g me (Pending.Promoted d l x) → s.tags me ≡ leaving_word (Some x) → Going n s g me Event.ReEnter (promoted_row me d l x Event.ReEnter)
   re_enter_goes false l x t me_word = record {
     home = tt;
     after = g;
@@ -103,10 +103,10 @@ module _ (n : ℕ) (s : State) (g : Witness) (me : ℕ) where
   promoted_goes d l x Event.ReEnter t allowed finds = re_enter_goes d l x t finds
   promoted_goes d l x _ t allowed finds = absurd (cc)
 
-  write_back_goes : (l : Line) → Turn n s g me (Pending.WritingBack l) → s.memory ≡ lent home → Going n s g me Event.ReturnMemory (writing_back_row l Event.ReturnMemory)
+  write_back_goes : (l : Line) → Turn n s g me (Pending.WritingBack l) → s.memory ≡ lent_word home → Going n s g me Event.ReturnMemory (writing_back_row l Event.ReturnMemory)
   write_back_goes l t word =
       let after : Mem → State = λ m. record s { memory = m; steps = update s.steps me (Pending.Parted None); memory_slot = Some l } in
-      let rest : unlent s.memory ≡ home = ap unlent word in
+      let rest : unlent_word s.memory ≡ home = ap unlent_word word in
       let lawful : Mem → Type 0 = λ m. Law (shape (after m)) g in
       let below : Mem → Type 0 = λ m. Below n (shape (after m)) in
       record {
@@ -121,7 +121,7 @@ module _ (n : ℕ) (s : State) (g : Witness) (me : ℕ) where
   writing_back_goes l Event.ReturnMemory t allowed finds = write_back_goes l t finds
   writing_back_goes l _ t allowed finds = absurd (cc)
 
-  left_goes : (f : Option ℕ) → Turn n s g me (Pending.Parted f) → s.tags me ≡ leaving f → Going n s g me Event.Left (parted_row me f Event.Left)
+  left_goes : (f : Option ℕ) → Turn n s g me (Pending.Parted f) → s.tags me ≡ leaving_word f → Going n s g me Event.Left (parted_row me f Event.Left)
   left_goes f t me_word = record {
     home = tt;
     after = g;

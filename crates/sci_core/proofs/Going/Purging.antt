@@ -7,7 +7,7 @@ use Rattle.sci_core.specs.declared.events.Event.{Event}
 use Rattle.sci_core.specs.State.{State, update}
 use Rattle.sci_core.specs.Law.{Witness}
 use Rattle.sci_core.specs.Found.{names, is_settled_body, is_rolling, is_found}
-use Rattle.sci_core.specs.Row.{purging, purged}
+use Rattle.sci_core.specs.Row.{purging_word, purged_word}
 use Rattle.sci_core.specs.Table.Purging.{written, purging_allows, purging_row, advancing_allows, advancing_row, clearing_allows, clearing_row}
 use Rattle.sci_core.proofs.Going.Forms.{Going, Turn, FindsRow}
 use Rattle.sci_core.proofs.Going.Facts.{Found, found, body_kind, rolling_kind, not_named, not_true, and_left, and_right, purging_value}
@@ -18,7 +18,7 @@ use Rattle.sci_core.proofs.Keeping.Advance.{advance_keeps_law, advance_keeps_lin
 use Rattle.sci_core.proofs.Keeping.Clear.{clear_keeps_law, clear_keeps_links}
 
 module _ (n : ℕ) (s : State) (g : Witness) (me : ℕ) where
-  written_goes : (l : Line) (words : List ℕ) → Turn n s g me (Pending.Purging l (Some None)) → s.tags me ≡ purging None → Going n s g me (Event.Written (Some words)) (purging_row me l (Event.Written (Some words)) (Some None))
+  written_goes : (l : Line) (words : List ℕ) → Turn n s g me (Pending.Purging l (Some None)) → s.tags me ≡ purging_word None → Going n s g me (Event.Written (Some words)) (purging_row me l (Event.Written (Some words)) (Some None))
   written_goes l words t me_word = record {
     home = tt;
     after = record g { value = written l (Some words) };
@@ -27,7 +27,7 @@ module _ (n : ℕ) (s : State) (g : Witness) (me : ℕ) where
     value = ap (λ (v : Line). written v (Some words)) (purging_value s g t.law me l (Some None) t.pending);
   }
 
-  unwritten_goes : (l : Line) → Turn n s g me (Pending.Purging l (Some None)) → s.tags me ≡ purging None → Going n s g me (Event.Written None) (purging_row me l (Event.Written None) (Some None))
+  unwritten_goes : (l : Line) → Turn n s g me (Pending.Purging l (Some None)) → s.tags me ≡ purging_word None → Going n s g me (Event.Written None) (purging_row me l (Event.Written None) (Some None))
   unwritten_goes l t me_word = record {
     home = tt;
     after = g;
@@ -70,7 +70,7 @@ module _ (n : ℕ) (s : State) (g : Witness) (me : ℕ) where
       subst P finds (adopt_goes l x t) allowed
   purging_goes l _ seen t allowed finds = absurd (cc)
 
-  advance_goes : (l : Line) (x : ℕ) (w : Tag) → Turn n s g me (Pending.Advancing l x w) → s.tags me ≡ purging (Some x) → Going n s g me Event.Advance (advancing_row me l x w Event.Advance)
+  advance_goes : (l : Line) (x : ℕ) (w : Tag) → Turn n s g me (Pending.Advancing l x w) → s.tags me ≡ purging_word (Some x) → Going n s g me Event.Advance (advancing_row me l x w Event.Advance)
   advance_goes l x w t me_word = record {
     home = tt;
     after = record g { rank = update g.rank x 0; clearer = update g.clearer x me };
@@ -83,7 +83,7 @@ module _ (n : ℕ) (s : State) (g : Witness) (me : ℕ) where
   advancing_goes l x w Event.Advance t allowed finds = advance_goes l x w t finds
   advancing_goes l x w _ t allowed finds = absurd (cc)
 
-  clear_goes : (l : Line) (x : ℕ) (w : Tag) → Turn n s g me (Pending.Clearing l x w) → s.tags x ≡ purged w → Going n s g me Event.Clear (clearing_row l x w Event.Clear)
+  clear_goes : (l : Line) (x : ℕ) (w : Tag) → Turn n s g me (Pending.Clearing l x w) → s.tags x ≡ purged_word w → Going n s g me Event.Clear (clearing_row l x w Event.Clear)
   clear_goes l x w t victim = record {
     home = tt;
     after = g;

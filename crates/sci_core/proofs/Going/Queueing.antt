@@ -5,10 +5,10 @@ use Rattle.sci_words.specs.Tag.{link_below}
 use Rattle.sci_core.specs.declared.lines.Line.{Line}
 use Rattle.sci_core.specs.declared.pending.Pending.{Pending}
 use Rattle.sci_core.specs.declared.events.Event.{Event}
-use Rattle.sci_core.specs.State.{State, lent, unlent, update}
+use Rattle.sci_core.specs.State.{State, lent_word, unlent_word, update}
 use Rattle.sci_core.specs.Shape.{shape}
 use Rattle.sci_core.specs.Law.{Witness, Law, Below}
-use Rattle.sci_core.specs.Row.{queued, listed, home}
+use Rattle.sci_core.specs.Row.{queued_word, listed, home}
 use Rattle.sci_core.specs.Step.{line_in}
 use Rattle.sci_core.specs.Table.Queueing.{queueing_allows, queueing_row, fetching_allows, fetching_row}
 use Rattle.sci_core.proofs.Going.Forms.{Going, Turn, FindsRow}
@@ -23,7 +23,7 @@ module _ (n : ℕ) (s : State) (g : Witness) (me : ℕ) where
   slot_home : {p : Pending} → Turn n s g me p → (m : Mem) → s.memory ≡ m → m.lent ≡ false → s.memory_slot ≡ Some (line_in s.memory_slot)
   slot_home t m word u = memory_home s g t.law (subst (λ (x : Mem). x.lent ≡ false) (sym word) u)
 
-  requeue_goes : (f h : Option ℕ) → Turn n s g me (Pending.Queueing f) → link_below n h ≡ true → s.tags me ≡ queued f → Going n s g me (Event.Requeue h) (queueing_row me (Event.Requeue h) f)
+  requeue_goes : (f h : Option ℕ) → Turn n s g me (Pending.Queueing f) → link_below n h ≡ true → s.tags me ≡ queued_word f → Going n s g me (Event.Requeue h) (queueing_row me (Event.Requeue h) f)
   requeue_goes f h t allowed word = record {
     home = tt;
     after = g;
@@ -37,7 +37,7 @@ module _ (n : ℕ) (s : State) (g : Witness) (me : ℕ) where
       let has : s.memory_slot ≡ Some (line_in s.memory_slot) = slot_home t home word refl in
       record {
         home = has;
-        after = record g { rank = update g.rank me 1; last_front = me; lender = me };
+        after = record g { rank = update g.rank me 1; last_front = me; borrower = me };
         law = prepend_valid_home_keeps_law s g t.law me (line_in s.memory_slot) t.pending word has;
         links = prepend_valid_home_keeps_links n s t.links me t.below (line_in s.memory_slot) t.pending word;
         value = refl;
@@ -48,7 +48,7 @@ module _ (n : ℕ) (s : State) (g : Witness) (me : ℕ) where
       let has : s.memory_slot ≡ Some (line_in s.memory_slot) = slot_home t (listed false x) word refl in
       record {
         home = has;
-        after = record g { rank = update g.rank me (g.rank x + 1); lender = me };
+        after = record g { rank = update g.rank me (g.rank x + 1); borrower = me };
         law = prepend_valid_listed_keeps_law s g t.law me x (line_in s.memory_slot) t.pending word has;
         links = prepend_valid_listed_keeps_links n s t.links me t.below x (line_in s.memory_slot) t.pending word;
         value = refl;
@@ -71,10 +71,10 @@ module _ (n : ℕ) (s : State) (g : Witness) (me : ℕ) where
   queueing_goes None Event.PrependGone t allowed finds = absurd (cc)
   queueing_goes f _ t allowed finds = absurd (cc)
 
-  return_memory_goes : (f : Option ℕ) (d : Bool) (l : Line) → Turn n s g me (Pending.Fetching f d l) → s.memory ≡ lent (listed d me) → Going n s g me Event.ReturnMemory (fetching_row me f d l Event.ReturnMemory)
+  return_memory_goes : (f : Option ℕ) (d : Bool) (l : Line) → Turn n s g me (Pending.Fetching f d l) → s.memory ≡ lent_word (listed d me) → Going n s g me Event.ReturnMemory (fetching_row me f d l Event.ReturnMemory)
   return_memory_goes f d l t word =
       let after : Mem → State = λ m. record s { memory = m; steps = update s.steps me (Pending.InQueue f d (Some l)); memory_slot = Some l } in
-      let rest : unlent s.memory ≡ listed d me = ap unlent word in
+      let rest : unlent_word s.memory ≡ listed d me = ap unlent_word word in
       let lawful : Mem → Type 0 = λ m. Law (shape (after m)) g in
       let below : Mem → Type 0 = λ m. Below n (shape (after m)) in
       record {

@@ -2,7 +2,7 @@ use Rattle.std.proofs.Common.{◌≡◌, ℕ, ◌<◌, true, false, Some, None, 
 use Rattle.std.proofs.lemmas.Bool.Decides.{nat_tests}
 use Rattle.sci_core.specs.declared.lines.Line.{Line}
 use Rattle.sci_core.specs.declared.pending.Pending.{Pending}
-use Rattle.sci_core.specs.State.{State, update, held}
+use Rattle.sci_core.specs.State.{State, update, held_word}
 use Rattle.sci_core.specs.Shape.{shape}
 use Rattle.sci_core.specs.Law.{Witness, Law, Below, can_be_held}
 use Rattle.sci_core.proofs.Fields.{StepFields, step_fields}
@@ -10,7 +10,7 @@ use Rattle.sci_core.proofs.Fields.{StepFields, step_fields}
 -- The node takes its own line behind the held bit, to read it.
 abbrev pub after_hold : State → ℕ → Line → State
 after_hold s me line = record s {
-  tags = update s.tags me (held (s.tags me));
+  tags = update s.tags me (held_word (s.tags me));
   steps = update s.steps me (Pending.Holding (s.tags me) line);
   slots = update s.slots me None;
 }
@@ -46,7 +46,7 @@ hold_keeps_law s g o me line pending me_valid me_unheld me_slot =
         memory_home = let c = o.slots.memory_home in let o : ℕ = 0 in grind (arith, nat_tests, c);
         lends = let c = o.slots.lends in let o : ℕ = 0 in grind (arith, nat_tests, c);
         lends_one = let c = o.slots.lends_one in let o : ℕ = 0 in grind (arith, nat_tests, c);
-        lender_has = let c = o.slots.lender_has in let o : ℕ = 0 in grind (arith, nat_tests, c);
+        borrower_has = let c = o.slots.borrower_has in let o : ℕ = 0 in grind (arith, nat_tests, c);
         fetching = let c = o.slots.fetching in let o : ℕ = 0 in grind (arith, nat_tests, c);
         writing = let c = o.slots.writing in let o : ℕ = 0 in grind (arith, nat_tests, c);
         in_hand = let c = o.slots.in_hand in let o : ℕ = 0 in grind (arith, nat_tests, c);

@@ -4,7 +4,7 @@ use Rattle.sci_words.specs.declared.memory.Mem.{Mem}
 use Rattle.sci_words.specs.declared.memory.MemState.{MemState}
 use Rattle.sci_core.specs.declared.lines.Line.{Line}
 use Rattle.sci_core.specs.declared.pending.Pending.{Pending}
-use Rattle.sci_core.specs.State.{State, update, memory_word, lent}
+use Rattle.sci_core.specs.State.{State, update, memory_word, lent_word}
 use Rattle.sci_core.specs.Shape.{link, shape}
 use Rattle.sci_core.specs.Law.{Witness, Law, Below}
 use Rattle.sci_core.proofs.Order.{push_first, push_next}
@@ -13,7 +13,7 @@ use Rattle.sci_core.proofs.Fields.{StepFields, MemFields, step_fields, mem_field
 -- The home is HOME: the node is the only entry, with memory's slot in hand.
 abbrev pub after_prepend_valid_home : State → ℕ → Line → State
 after_prepend_valid_home s me line = record s {
-  memory = lent (memory_word MemState.Fresh (Some me));
+  memory = lent_word (memory_word MemState.Fresh (Some me));
   steps = update s.steps me (Pending.Fetching None false line);
   memory_slot = None;
 }
@@ -22,7 +22,7 @@ pub prepend_valid_home_keeps_law : (s : State) (g : Witness) (o : Law (shape s) 
     → (pending : s.steps me ≡ Pending.Queueing None)
     → (memory_word_is : s.memory ≡ memory_word MemState.Home None)
     → (memory_has : s.memory_slot ≡ Some line)
-    → Law (shape (after_prepend_valid_home s me line)) (record g { rank = update g.rank me 1; last_front = me; lender = me })
+    → Law (shape (after_prepend_valid_home s me line)) (record g { rank = update g.rank me 1; last_front = me; borrower = me })
 prepend_valid_home_keeps_law s g o me line pending memory_word_is memory_has =
     let memory_forw : s.memory.forw ≡ None = ap (λ (m : Mem). m.forw) memory_word_is in
     let pending : StepFields (s.steps me) (Pending.Queueing None) = step_fields pending in
@@ -90,7 +90,7 @@ prepend_valid_home_keeps_law s g o me line pending memory_word_is memory_has =
         memory_home = let c = o.slots.memory_home in let o : ℕ = 0 in grind (arith, nat_tests, c);
         lends = let c = o.slots.lends in let o : ℕ = 0 in grind (arith, nat_tests, c);
         lends_one = λ i h1. let c0 = o.slots.lends i in let o : ℕ = 0 in grind (arith, nat_tests, c0);
-        lender_has = let c = o.slots.lender_has in let o : ℕ = 0 in grind (arith, nat_tests, c);
+        borrower_has = let c = o.slots.borrower_has in let o : ℕ = 0 in grind (arith, nat_tests, c);
         fetching = let c = o.slots.fetching in let o : ℕ = 0 in grind (arith, nat_tests, c);
         writing = λ i h1. let c0 = o.slots.lends i in let o : ℕ = 0 in grind (arith, nat_tests, c0);
         in_hand = let c = o.slots.in_hand in let o : ℕ = 0 in grind (arith, nat_tests, c);
@@ -135,7 +135,7 @@ prepend_valid_home_keeps_links n s b me me_below line pending memory_word_is =
 -- The home is FRESH: the node is the head before the old one, with memory's slot in hand.
 abbrev pub after_prepend_valid_listed : State → ℕ → ℕ → Line → State
 after_prepend_valid_listed s me target line = record s {
-  memory = lent (memory_word MemState.Fresh (Some me));
+  memory = lent_word (memory_word MemState.Fresh (Some me));
   steps = update s.steps me (Pending.Fetching (Some target) false line);
   memory_slot = None;
 }
@@ -144,7 +144,7 @@ pub prepend_valid_listed_keeps_law : (s : State) (g : Witness) (o : Law (shape s
     → (pending : s.steps me ≡ Pending.Queueing (Some target))
     → (memory_word_is : s.memory ≡ memory_word MemState.Fresh (Some target))
     → (memory_has : s.memory_slot ≡ Some line)
-    → Law (shape (after_prepend_valid_listed s me target line)) (record g { rank = update g.rank me (g.rank target + 1); lender = me })
+    → Law (shape (after_prepend_valid_listed s me target line)) (record g { rank = update g.rank me (g.rank target + 1); borrower = me })
 prepend_valid_listed_keeps_law s g o me target line pending memory_word_is memory_has =
     let memory_forw : s.memory.forw ≡ (Some target) = ap (λ (m : Mem). m.forw) memory_word_is in
     let pending : StepFields (s.steps me) (Pending.Queueing (Some target)) = step_fields pending in
@@ -230,7 +230,7 @@ prepend_valid_listed_keeps_law s g o me target line pending memory_word_is memor
         memory_home = let c = o.slots.memory_home in let o : ℕ = 0 in grind (arith, nat_tests, c);
         lends = let c = o.slots.lends in let o : ℕ = 0 in grind (arith, nat_tests, c);
         lends_one = λ i h1. let c0 = o.slots.lends i in let o : ℕ = 0 in grind (arith, nat_tests, c0);
-        lender_has = let c = o.slots.lender_has in let o : ℕ = 0 in grind (arith, nat_tests, c);
+        borrower_has = let c = o.slots.borrower_has in let o : ℕ = 0 in grind (arith, nat_tests, c);
         fetching = λ i h1. let c0 = o.slots.lends i in let o : ℕ = 0 in grind (arith, nat_tests, c0);
         writing = let c = o.slots.writing in let o : ℕ = 0 in grind (arith, nat_tests, c);
         in_hand = let c = o.slots.in_hand in let o : ℕ = 0 in grind (arith, nat_tests, c);

@@ -4,7 +4,7 @@ use Rattle.sci_words.specs.declared.tags.Kind.{Kind}
 use Rattle.sci_words.specs.declared.tags.Tag.{Tag}
 use Rattle.sci_core.specs.declared.lines.Line.{Line}
 use Rattle.sci_core.specs.declared.pending.Pending.{Pending}
-use Rattle.sci_core.specs.State.{State, update, unheld}
+use Rattle.sci_core.specs.State.{State, update, unheld_word}
 use Rattle.sci_core.specs.Shape.{shape}
 use Rattle.sci_core.specs.Law.{Witness, Law, Below}
 use Rattle.sci_core.proofs.Fields.{StepFields, TagFields, step_fields, tag_fields}
@@ -12,7 +12,7 @@ use Rattle.sci_core.proofs.Fields.{StepFields, TagFields, step_fields, tag_field
 -- The node has copied the old head's line, and gives its slot back.
 abbrev pub after_return_copy : State → ℕ → ℕ → Line → Tag → State
 after_return_copy s me target line kept = record s {
-  tags = update s.tags target (unheld kept);
+  tags = update s.tags target (unheld_word kept);
   steps = update s.steps me (Pending.Ready (Some target) true line);
   slots = update s.slots target (Some line);
 }
@@ -52,7 +52,7 @@ return_copy_keeps_law s g o me target line kept pending target_word =
         memory_home = let c = o.slots.memory_home in let o : ℕ = 0 in grind (arith, nat_tests, c);
         lends = let c = o.slots.lends in let o : ℕ = 0 in grind (arith, nat_tests, c);
         lends_one = let c = o.slots.lends_one in let o : ℕ = 0 in grind (arith, nat_tests, c);
-        lender_has = let c = o.slots.lender_has in let o : ℕ = 0 in grind (arith, nat_tests, c);
+        borrower_has = let c = o.slots.borrower_has in let o : ℕ = 0 in grind (arith, nat_tests, c);
         fetching = let c = o.slots.fetching in let o : ℕ = 0 in grind (arith, nat_tests, c);
         writing = let c = o.slots.writing in let o : ℕ = 0 in grind (arith, nat_tests, c);
         in_hand = λ i h1. let c0 = o.slots.in_hand i in let c1 = o.slots.copied_idle me target in let o : ℕ = 0 in

@@ -5,7 +5,7 @@ use Rattle.sci_words.specs.declared.memory.Mem.{Mem}
 use Rattle.sci_words.specs.declared.memory.MemState.{MemState}
 use Rattle.sci_core.specs.declared.lines.Line.{Line}
 use Rattle.sci_core.specs.declared.pending.Pending.{Pending}
-use Rattle.sci_core.specs.State.{State, update, memory_word, lent}
+use Rattle.sci_core.specs.State.{State, update, memory_word, lent_word}
 use Rattle.sci_core.specs.Shape.{shape}
 use Rattle.sci_core.specs.Law.{Witness, Law, Below}
 use Rattle.sci_core.proofs.Order.{pop}
@@ -14,7 +14,7 @@ use Rattle.sci_core.proofs.Fields.{StepFields, MemFields, step_fields, mem_field
 -- The node was the only entry, dirty, and is outside then: it takes memory's slot, to write its line back.
 abbrev pub after_return_home_dirty : State → ℕ → Line → State
 after_return_home_dirty s me line = record s {
-  memory = lent (memory_word MemState.Home None);
+  memory = lent_word (memory_word MemState.Home None);
   steps = update s.steps me (Pending.WritingBack line);
   memory_slot = None;
 }
@@ -22,7 +22,7 @@ after_return_home_dirty s me line = record s {
 pub return_home_dirty_keeps_law : (s : State) (g : Witness) (o : Law (shape s) g) (me : ℕ) (line : Line)
     → (pending : s.steps me ≡ Pending.Leaving true line (Some None))
     → (memory_word_is : s.memory ≡ memory_word MemState.Gone (Some me))
-    → Law (shape (after_return_home_dirty s me line)) (record g { rank = update g.rank me 0; lender = me })
+    → Law (shape (after_return_home_dirty s me line)) (record g { rank = update g.rank me 0; borrower = me })
 return_home_dirty_keeps_law s g o me line pending memory_word_is =
     let memory_forw : s.memory.forw ≡ (Some me) = ap (λ (m : Mem). m.forw) memory_word_is in
     let pending : StepFields (s.steps me) (Pending.Leaving true line (Some None)) = step_fields pending in
@@ -87,7 +87,7 @@ return_home_dirty_keeps_law s g o me line pending memory_word_is =
         memory_home = let c = o.slots.memory_home in let o : ℕ = 0 in grind (arith, nat_tests, c);
         lends = let c = o.slots.lends in let o : ℕ = 0 in grind (arith, nat_tests, c);
         lends_one = λ i h1. let c0 = o.slots.lends i in let o : ℕ = 0 in grind (arith, nat_tests, c0);
-        lender_has = let c = o.slots.lender_has in let o : ℕ = 0 in grind (arith, nat_tests, c);
+        borrower_has = let c = o.slots.borrower_has in let o : ℕ = 0 in grind (arith, nat_tests, c);
         fetching = let c = o.slots.fetching in let o : ℕ = 0 in grind (arith, nat_tests, c);
         writing = let c = o.slots.writing in let o : ℕ = 0 in grind (arith, nat_tests, c);
         in_hand = let c = o.slots.in_hand in let o : ℕ = 0 in grind (arith, nat_tests, c);

@@ -3,7 +3,7 @@ use Rattle.std.proofs.lemmas.Bool.Decides.{nat_tests}
 use Rattle.sci_words.specs.declared.tags.Kind.{Kind}
 use Rattle.sci_core.specs.declared.lines.Line.{Line}
 use Rattle.sci_core.specs.declared.pending.Pending.{Pending}
-use Rattle.sci_core.specs.State.{State, update, unlent}
+use Rattle.sci_core.specs.State.{State, update, unlent_word}
 use Rattle.sci_core.specs.Shape.{shape}
 use Rattle.sci_core.specs.Law.{Witness, Law, Below}
 use Rattle.sci_core.proofs.Fields.{StepFields, step_fields}
@@ -11,7 +11,7 @@ use Rattle.sci_core.proofs.Fields.{StepFields, step_fields}
 -- The node has copied memory's line, and gives memory's slot back.
 abbrev pub after_return_memory_fetching : State → ℕ → Option ℕ → Bool → Line → State
 after_return_memory_fetching s me forw dirty line = record s {
-  memory = unlent s.memory;
+  memory = unlent_word s.memory;
   steps = update s.steps me (Pending.InQueue forw dirty (Some line));
   memory_slot = (Some line);
 }
@@ -36,7 +36,7 @@ return_memory_fetching_keeps_law s g o me forw dirty line pending =
         memory_home = let c = o.slots.memory_home in let o : ℕ = 0 in grind (arith, nat_tests, c);
         lends = λ i h1. let c0 = o.slots.lends_one me in let c1 = o.slots.lends_one i in let o : ℕ = 0 in grind (arith, nat_tests, c0, c1);
         lends_one = let c = o.slots.lends_one in let o : ℕ = 0 in grind (arith, nat_tests, c);
-        lender_has = let c = o.slots.lender_has in let o : ℕ = 0 in grind (arith, nat_tests, c);
+        borrower_has = let c = o.slots.borrower_has in let o : ℕ = 0 in grind (arith, nat_tests, c);
         fetching = let c = o.slots.fetching in let o : ℕ = 0 in grind (arith, nat_tests, c);
         writing = let c = o.slots.writing in let o : ℕ = 0 in grind (arith, nat_tests, c);
         in_hand = let c = o.slots.in_hand in let o : ℕ = 0 in grind (arith, nat_tests, c);
@@ -64,7 +64,7 @@ return_memory_fetching_keeps_links n s b me me_below forw dirty line pending =
 -- The node has written its line back, gives memory's slot back, and is to leave.
 abbrev pub after_return_memory_writing_back : State → ℕ → Line → State
 after_return_memory_writing_back s me line = record s {
-  memory = unlent s.memory;
+  memory = unlent_word s.memory;
   steps = update s.steps me (Pending.Parted None);
   memory_slot = (Some line);
 }
@@ -114,7 +114,7 @@ return_memory_writing_back_keeps_law s g o me line pending =
         memory_home = let c = o.slots.memory_home in let o : ℕ = 0 in grind (arith, nat_tests, c);
         lends = λ i h1. let c0 = o.slots.lends_one me in let c1 = o.slots.lends_one i in let o : ℕ = 0 in grind (arith, nat_tests, c0, c1);
         lends_one = let c = o.slots.lends_one in let o : ℕ = 0 in grind (arith, nat_tests, c);
-        lender_has = let c = o.slots.lender_has in let o : ℕ = 0 in grind (arith, nat_tests, c);
+        borrower_has = let c = o.slots.borrower_has in let o : ℕ = 0 in grind (arith, nat_tests, c);
         fetching = let c = o.slots.fetching in let o : ℕ = 0 in grind (arith, nat_tests, c);
         writing = let c = o.slots.writing in let o : ℕ = 0 in grind (arith, nat_tests, c);
         in_hand = let c = o.slots.in_hand in let o : ℕ = 0 in grind (arith, nat_tests, c);

@@ -146,7 +146,7 @@ tell_predecessor_keeps_law s g o me target forw told pending in_turn target_forw
         memory_home = let c = o.slots.memory_home in let o : ℕ = 0 in grind (arith, nat_tests, c);
         lends = let c = o.slots.lends in let o : ℕ = 0 in grind (arith, nat_tests, c);
         lends_one = let c = o.slots.lends_one in let o : ℕ = 0 in grind (arith, nat_tests, c);
-        lender_has = let c = o.slots.lender_has in let o : ℕ = 0 in grind (arith, nat_tests, c);
+        borrower_has = let c = o.slots.borrower_has in let o : ℕ = 0 in grind (arith, nat_tests, c);
         fetching = let c = o.slots.fetching in let o : ℕ = 0 in grind (arith, nat_tests, c);
         writing = let c = o.slots.writing in let o : ℕ = 0 in grind (arith, nat_tests, c);
         in_hand = let c = o.slots.in_hand in let o : ℕ = 0 in grind (arith, nat_tests, c);

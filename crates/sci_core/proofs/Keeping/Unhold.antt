@@ -3,7 +3,7 @@ use Rattle.std.proofs.lemmas.Bool.Decides.{nat_tests}
 use Rattle.sci_words.specs.declared.tags.Tag.{Tag}
 use Rattle.sci_core.specs.declared.lines.Line.{Line}
 use Rattle.sci_core.specs.declared.pending.Pending.{Pending}
-use Rattle.sci_core.specs.State.{State, update, held, unheld}
+use Rattle.sci_core.specs.State.{State, update, held_word, unheld_word}
 use Rattle.sci_core.specs.Shape.{shape}
 use Rattle.sci_core.specs.Law.{Witness, Law, Below}
 use Rattle.sci_core.proofs.Fields.{StepFields, TagFields, step_fields, tag_fields}
@@ -11,18 +11,18 @@ use Rattle.sci_core.proofs.Fields.{StepFields, TagFields, step_fields, tag_field
 -- The node has read its line, gives its slot back, and is not held.
 abbrev pub after_unhold : State → ℕ → Line → Tag → State
 after_unhold s me line kept = record s {
-  tags = update s.tags me (unheld kept);
+  tags = update s.tags me (unheld_word kept);
   steps = update s.steps me Pending.Idle;
   slots = update s.slots me (Some line);
 }
 
 pub unhold_keeps_law : (s : State) (g : Witness) (o : Law (shape s) g) (me : ℕ) (line : Line) (kept : Tag)
     → (pending : s.steps me ≡ Pending.Holding kept line)
-    → (me_word : s.tags me ≡ held kept)
+    → (me_word : s.tags me ≡ held_word kept)
     → Law (shape (after_unhold s me line kept)) g
 unhold_keeps_law s g o me line kept pending me_word =
     let pending : StepFields (s.steps me) (Pending.Holding kept line) = step_fields pending in
-    let me_word : TagFields (s.tags me) (held kept) = tag_fields me_word in
+    let me_word : TagFields (s.tags me) (held_word kept) = tag_fields me_word in
     record {
       order = let c = o.order in let o : ℕ = 0 in grind (arith, nat_tests, c);
       fronts = let c = o.fronts in let o : ℕ = 0 in grind (arith, nat_tests, c);
@@ -46,7 +46,7 @@ unhold_keeps_law s g o me line kept pending me_word =
         memory_home = let c = o.slots.memory_home in let o : ℕ = 0 in grind (arith, nat_tests, c);
         lends = let c = o.slots.lends in let o : ℕ = 0 in grind (arith, nat_tests, c);
         lends_one = let c = o.slots.lends_one in let o : ℕ = 0 in grind (arith, nat_tests, c);
-        lender_has = let c = o.slots.lender_has in let o : ℕ = 0 in grind (arith, nat_tests, c);
+        borrower_has = let c = o.slots.borrower_has in let o : ℕ = 0 in grind (arith, nat_tests, c);
         fetching = let c = o.slots.fetching in let o : ℕ = 0 in grind (arith, nat_tests, c);
         writing = let c = o.slots.writing in let o : ℕ = 0 in grind (arith, nat_tests, c);
         in_hand = let c = o.slots.in_hand in let o : ℕ = 0 in grind (arith, nat_tests, c);
@@ -66,9 +66,9 @@ unhold_keeps_law s g o me line kept pending me_word =
 
 pub unhold_keeps_links : (n : ℕ) (s : State) (b : Below n (shape s)) (me : ℕ) (me_below : me < n) (line : Line) (kept : Tag)
     → (pending : s.steps me ≡ Pending.Holding kept line)
-    → (me_word : s.tags me ≡ held kept)
+    → (me_word : s.tags me ≡ held_word kept)
     → Below n (shape (after_unhold s me line kept))
 unhold_keeps_links n s b me me_below line kept pending me_word =
     let pending : StepFields (s.steps me) (Pending.Holding kept line) = step_fields pending in
-    let me_word : TagFields (s.tags me) (held kept) = tag_fields me_word in
+    let me_word : TagFields (s.tags me) (held_word kept) = tag_fields me_word in
     grind (arith, nat_tests, b.head, b.forw, b.back, b.kept, b.word_forw, b.seen_forw, b.seen_back)

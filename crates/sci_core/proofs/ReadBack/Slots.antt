@@ -77,7 +77,7 @@ module _ (s : State) (g : Witness) (o : Law (shape s) g) where
   pub slots_of_law : HasSlotsInHands s
   slots_of_law = record {
     memory_out = (o.slots.memory_out, memory_lent);
-    memory_in_hand = ((λ h. (g.lender, o.slots.lender_has h)), (λ h. o.slots.lends h.0 h.1));
+    memory_in_hand = ((λ h. (g.borrower, o.slots.borrower_has h)), (λ h. o.slots.lends h.0 h.1));
     memory_in_one = λ j k a b. sym (o.slots.lends_one j a) ∙ o.slots.lends_one k b;
     out = λ i. (in_hand i, (λ h. hand_out h.0 i h.1));
     in_one = in_one;

@@ -83,7 +83,7 @@ module _ (s : State) (g : Witness) (o : Law (shape s) g) where
   sharer_copy i (Some l) e v = inl (e ∙ ap (λ x. Some x) (o.values.sharer i l v e))
 
   memory_copy : (c : Option Line) → s.memory_slot ≡ c → s.memory.state ≢ MemState.Gone → IsMemoryCopy s g.value
-  memory_copy None e n = let h = o.slots.lender_has (memory_lent s g o e) in inr (e, (g.lender, h, kept_value g.lender (memory_keeps _ h) (o.values.lent_line g.lender h)))
+  memory_copy None e n = let h = o.slots.borrower_has (memory_lent s g o e) in inr (e, (g.borrower, h, kept_value g.borrower (memory_keeps _ h) (o.values.lent_line g.borrower h)))
   memory_copy (Some l) e n = inl (e ∙ ap (λ x. Some x) (o.values.memory l n e))
 
   own_copy : (i : ℕ) (q : Phase) → phase_of (s.steps i) ≡ q → has_slot q ≡ true → keeps_line q ≡ true → line_of (s.steps i) ≡ g.value → IsCopy s i g.value

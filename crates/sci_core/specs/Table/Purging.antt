@@ -9,7 +9,7 @@ use Rattle.sci_core.specs.declared.rows.Change.TheVariants.{OfTag}
 use Rattle.sci_core.specs.declared.rows.Place.TheVariants.{Node}
 use Rattle.sci_core.specs.State.{invalid, word}
 use Rattle.sci_core.specs.Found.{names, is_settled_body, is_rolling, is_found}
-use Rattle.sci_core.specs.Row.{Row, stays, gives, purging, purged, settled, no_row}
+use Rattle.sci_core.specs.Row.{Row, stays, gives, purging_word, purged_word, settled_word, no_row}
 
 -- the stamp can count one more write
 abbrev pub can_count : Line → Bool
@@ -36,8 +36,8 @@ purging_allows me l (Event.Adopt t) seen = (saw_entry seen && is_found is_rollin
 purging_allows me l _ seen = false
 
 abbrev pub purging_row : ℕ → Line → Event → Option (Option ℕ) → Row
-purging_row me l (Event.Written words) seen = gives (OfTag me (purging None) (settled true None)) (Node me) (written l words) Pending.Idle
-purging_row me l (Event.PurgeOne t) (Some (Some x)) = stays (OfTag x t (purged t)) (Pending.Advancing l x (purged t))
+purging_row me l (Event.Written words) seen = gives (OfTag me (purging_word None) (settled_word true None)) (Node me) (written l words) Pending.Idle
+purging_row me l (Event.PurgeOne t) (Some (Some x)) = stays (OfTag x t (purged_word t)) (Pending.Advancing l x (purged_word t))
 purging_row me l (Event.Adopt t) (Some (Some x)) = stays (OfTag x t (word Kind.Roll t.forw (Some me))) (Pending.Purging l (Some (Some x)))
 purging_row me l _ seen = no_row
 
@@ -46,7 +46,7 @@ advancing_allows Event.Advance = true
 advancing_allows _ = false
 
 abbrev pub advancing_row : ℕ → Line → ℕ → Tag → Event → Row
-advancing_row me l x w Event.Advance = stays (OfTag me (purging (Some x)) (purging w.forw)) (Pending.Clearing l x w)
+advancing_row me l x w Event.Advance = stays (OfTag me (purging_word (Some x)) (purging_word w.forw)) (Pending.Clearing l x w)
 advancing_row me l x w _ = no_row
 
 abbrev pub clearing_allows : Event → Bool
@@ -54,5 +54,5 @@ clearing_allows Event.Clear = true
 clearing_allows _ = false
 
 abbrev pub clearing_row : Line → ℕ → Tag → Event → Row
-clearing_row l x w Event.Clear = stays (OfTag x (purged w) invalid) (Pending.Purging l None)
+clearing_row l x w Event.Clear = stays (OfTag x (purged_word w) invalid) (Pending.Purging l None)
 clearing_row l x w _ = no_row

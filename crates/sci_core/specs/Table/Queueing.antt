@@ -5,9 +5,9 @@ use Rattle.sci_core.specs.declared.pending.Pending.{Pending}
 use Rattle.sci_core.specs.declared.events.Event.{Event}
 use Rattle.sci_core.specs.declared.rows.Change.TheVariants.{OfMemory, OfTag}
 use Rattle.sci_core.specs.declared.rows.Place.TheVariants.{Memory}
-use Rattle.sci_core.specs.State.{lent}
+use Rattle.sci_core.specs.State.{lent_word}
 use Rattle.sci_words.specs.Tag.{link_below}
-use Rattle.sci_core.specs.Row.{Row, stays, takes, gives, queued, listed, home_or_listed, no_row}
+use Rattle.sci_core.specs.Row.{Row, stays, takes, gives, queued_word, listed, home_or_listed, no_row}
 
 abbrev pub queueing_allows : ℕ → Option ℕ → Event → Bool
 queueing_allows n f (Event.Requeue g) = link_below n g
@@ -16,8 +16,8 @@ queueing_allows n f Event.PrependGone = is_some f
 queueing_allows n f _ = false
 
 abbrev pub queueing_row : ℕ → Event → Option ℕ → Row
-queueing_row me (Event.Requeue g) f = stays (OfTag me (queued f) (queued g)) (Pending.Queueing g)
-queueing_row me Event.PrependValid f = takes (OfMemory (home_or_listed f) (lent (listed false me))) Memory (λ y. Pending.Fetching f false y)
+queueing_row me (Event.Requeue g) f = stays (OfTag me (queued_word f) (queued_word g)) (Pending.Queueing g)
+queueing_row me Event.PrependValid f = takes (OfMemory (home_or_listed f) (lent_word (listed false me))) Memory (λ y. Pending.Fetching f false y)
 queueing_row me Event.PrependGone (Some x) = stays (OfMemory (listed true x) (listed true me)) (Pending.InQueue (Some x) true None)
 queueing_row me _ f = no_row
 
@@ -26,5 +26,5 @@ fetching_allows Event.ReturnMemory = true
 fetching_allows _ = false
 
 abbrev pub fetching_row : ℕ → Option ℕ → Bool → Line → Event → Row
-fetching_row me f d l Event.ReturnMemory = gives (OfMemory (lent (listed d me)) (listed d me)) Memory l (Pending.InQueue f d (Some l))
+fetching_row me f d l Event.ReturnMemory = gives (OfMemory (lent_word (listed d me)) (listed d me)) Memory l (Pending.InQueue f d (Some l))
 fetching_row me f d l _ = no_row

@@ -8,7 +8,8 @@ use crate::lines::Line;
 use crate::pending::Pending;
 use crate::rows::{Exchange, Place};
 use crate::table::shorthand::{
-    answering, listed, memory, no_exchange, purging, settled, stays, tag, takes, word,
+    answering, listed, memory, no_exchange, purges, purging_word, settled_word, stays, tag, takes,
+    word,
 };
 use sci_words::{Kind, NodeId};
 
@@ -39,16 +40,12 @@ pub fn converting_exchange(
             stays(memory(listed(false, me), listed(true, me)), after)
         }
         Event::Converted => {
-            let after = Pending::Purging {
-                line: *taken,
-                seen: None,
-            };
-            let change = tag(me, word(Kind::Convert, *forw, None), purging(*forw));
-            answering(takes(change, Place::Node(me), after), taken)
+            let change = tag(me, word(Kind::Convert, *forw, None), purging_word(*forw));
+            answering(takes(change, Place::Node(me), purges(taken)), taken)
         }
         Event::Unconverted => {
-            let change = tag(me, word(Kind::Convert, *forw, None), settled(false, *forw));
-            stays(change, Pending::Idle)
+            let before = word(Kind::Convert, *forw, None);
+            stays(tag(me, before, settled_word(false, *forw)), Pending::Idle)
         }
         _ => no_exchange(),
     }

@@ -10,8 +10,8 @@ use crate::pending::Pending;
 use crate::rows::{Exchange, Place};
 use crate::table::found;
 use crate::table::shorthand::{
-    answering, gives, held, invalid, leaving, no_exchange, purging, queued, stays, tag, takes,
-    unheld, word,
+    answering, gives, held_word, invalid, leaving_word, no_exchange, purges, purging_word,
+    queued_word, stays, tag, takes, unheld_word, word,
 };
 use sci_words::{Kind, NodeId, Tag};
 
@@ -36,14 +36,14 @@ pub fn idle_exchange(me: NodeId, event: &Event, taken: &Line) -> Exchange
     match event {
         Event::Queue(forw) => {
             let after = Pending::Queueing { forw: *forw };
-            takes(tag(me, invalid(), queued(*forw)), mine, after)
+            takes(tag(me, invalid(), queued_word(*forw)), mine, after)
         }
         Event::Hold(own) => {
             let after = Pending::Holding {
                 word: *own,
                 line: *taken,
             };
-            takes(tag(me, *own, held(own)), mine, after)
+            takes(tag(me, *own, held_word(own)), mine, after)
         }
         Event::Convert(own) => {
             let after = Pending::Converting {
@@ -53,11 +53,8 @@ pub fn idle_exchange(me: NodeId, event: &Event, taken: &Line) -> Exchange
             stays(tag(me, *own, word(Kind::Convert, own.forw, None)), after)
         }
         Event::BeginPurge(own) => {
-            let after = Pending::Purging {
-                line: *taken,
-                seen: None,
-            };
-            answering(takes(tag(me, *own, purging(own.forw)), mine, after), taken)
+            let change = tag(me, *own, purging_word(own.forw));
+            answering(takes(change, mine, purges(taken)), taken)
         }
         Event::Roll(own) => {
             let after = Pending::Rolling {
@@ -72,7 +69,7 @@ pub fn idle_exchange(me: NodeId, event: &Event, taken: &Line) -> Exchange
                 line: *taken,
                 seen: None,
             };
-            takes(tag(me, *own, leaving(own.forw)), mine, after)
+            takes(tag(me, *own, leaving_word(own.forw)), mine, after)
         }
         _ => no_exchange(),
     }
@@ -89,7 +86,7 @@ pub fn holding_exchange(me: NodeId, kept: &Tag, line: &Line, event: &Event) -> E
 {
     match event {
         Event::Unhold => {
-            let change = tag(me, held(kept), unheld(kept));
+            let change = tag(me, held_word(kept), unheld_word(kept));
             answering(gives(change, Place::Node(me), line, Pending::Idle), line)
         }
         _ => no_exchange(),

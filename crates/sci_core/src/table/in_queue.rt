@@ -10,7 +10,8 @@ use crate::pending::Pending;
 use crate::rows::{Exchange, Place};
 use crate::table::found;
 use crate::table::shorthand::{
-    answering, attached, gives, held, no_exchange, queued, settled, stays, tag, takes, unheld,
+    answering, attached, gives, held_word, no_exchange, queued_word, settled_word, stays, tag,
+    takes, unheld_word,
 };
 use sci_words::{NodeId, Tag};
 
@@ -56,14 +57,14 @@ pub fn in_queue_exchange(
         (Event::AttachDirty(found), Some(head), None) => {
             let after = Pending::Copying {
                 forw: *head,
-                word: held(&attached(me, found)),
+                word: held_word(&attached(me, found)),
                 line: *taken,
             };
-            let copied = tag(*head, *found, held(&attached(me, found)));
+            let copied = tag(*head, *found, held_word(&attached(me, found)));
             takes(copied, Place::Node(*head), after)
         }
         (Event::Settle, None, Some(line)) => {
-            let change = tag(me, queued(None), settled(dirty, None));
+            let change = tag(me, queued_word(None), settled_word(dirty, None));
             answering(gives(change, Place::Node(me), line, Pending::Idle), line)
         }
         _ => no_exchange(),
@@ -87,7 +88,7 @@ pub fn copying_exchange(head: NodeId, kept: &Tag, line: &Line, event: &Event) ->
                 line: *line,
             };
             gives(
-                tag(head, *kept, unheld(kept)),
+                tag(head, *kept, unheld_word(kept)),
                 Place::Node(head),
                 line,
                 after,
@@ -114,7 +115,7 @@ pub fn ready_exchange(
 {
     match event {
         Event::Settle => {
-            let change = tag(me, queued(*forw), settled(dirty, *forw));
+            let change = tag(me, queued_word(*forw), settled_word(dirty, *forw));
             answering(gives(change, Place::Node(me), line, Pending::Idle), line)
         }
         _ => no_exchange(),

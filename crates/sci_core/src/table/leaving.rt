@@ -10,8 +10,8 @@ use crate::pending::Pending;
 use crate::rows::{Exchange, Place};
 use crate::table::found;
 use crate::table::shorthand::{
-    gives, home, invalid, leaving, lent, listed, memory, no_exchange, queued, settled, stays, tag,
-    takes,
+    gives, home, invalid, leaving_word, lent_word, listed, memory, no_exchange, queued_word,
+    settled_word, stays, tag, takes,
 };
 use sci_words::NodeId;
 
@@ -45,10 +45,10 @@ pub fn leaving_exchange(
                 line: *line,
                 succ: *next,
             };
-            stays(tag(*next, *found, settled(dirty, found.forw)), after)
+            stays(tag(*next, *found, settled_word(dirty, found.forw)), after)
         }
         (Event::Stay, Some(forw)) => {
-            let change = tag(me, leaving(*forw), settled(dirty, *forw));
+            let change = tag(me, leaving_word(*forw), settled_word(dirty, *forw));
             gives(change, Place::Node(me), line, Pending::Idle)
         }
         (Event::ReturnHomeFresh, Some(None)) => {
@@ -58,7 +58,7 @@ pub fn leaving_exchange(
             )
         }
         (Event::ReturnHomeDirty, Some(None)) => {
-            let change = memory(listed(true, me), lent(&home()));
+            let change = memory(listed(true, me), lent_word(&home()));
             takes(change, Place::Memory, Pending::WritingBack { line: *line })
         }
         _ => no_exchange(),
@@ -91,7 +91,10 @@ pub fn promoted_exchange(
                 dirty,
                 copy: if dirty { None } else { Some(*line) },
             };
-            stays(tag(me, leaving(Some(succ)), queued(Some(succ))), after)
+            stays(
+                tag(me, leaving_word(Some(succ)), queued_word(Some(succ))),
+                after,
+            )
         }
         _ => no_exchange(),
     }
@@ -109,7 +112,12 @@ pub fn writing_back_exchange(line: &Line, event: &Event) -> Exchange
     match event {
         Event::ReturnMemory => {
             let after = Pending::Parted { forw: None };
-            gives(memory(lent(&home()), home()), Place::Memory, line, after)
+            gives(
+                memory(lent_word(&home()), home()),
+                Place::Memory,
+                line,
+                after,
+            )
         }
         _ => no_exchange(),
     }
@@ -126,7 +134,7 @@ pub fn parted_exchange(me: NodeId, forw: &Option<NodeId>, event: &Event) -> Exch
 {
     match event {
         Event::Left => {
-            let change = tag(me, leaving(*forw), invalid());
+            let change = tag(me, leaving_word(*forw), invalid());
             gives(change, Place::Node(me), &Line::ZERO, Pending::Idle)
         }
         _ => no_exchange(),

@@ -11,7 +11,7 @@ use crate::pending::Pending;
 use crate::rows::{Exchange, Place};
 use crate::table::found;
 use crate::table::shorthand::{
-    gives, invalid, no_exchange, purged, purging, settled, stays, tag, word,
+    gives, invalid, no_exchange, purged_word, purges, purging_word, settled_word, stays, tag, word,
 };
 use sci_words::{Kind, NodeId, Tag};
 
@@ -72,7 +72,7 @@ pub fn purging_exchange(
 {
     match (event, seen) {
         (Event::Written(words), _) => {
-            let change = tag(me, purging(None), settled(true, None));
+            let change = tag(me, purging_word(None), settled_word(true, None));
             gives(
                 change,
                 Place::Node(me),
@@ -84,9 +84,9 @@ pub fn purging_exchange(
             let after = Pending::Advancing {
                 line: *line,
                 victim: *next,
-                word: purged(found),
+                word: purged_word(found),
             };
-            stays(tag(*next, *found, purged(found)), after)
+            stays(tag(*next, *found, purged_word(found)), after)
         }
         (Event::Adopt(found), Some(Some(next))) => {
             let after = Pending::Purging {
@@ -122,7 +122,8 @@ pub fn advancing_exchange(
                 victim,
                 word: *kept,
             };
-            stays(tag(me, purging(Some(victim)), purging(kept.forw)), after)
+            let change = tag(me, purging_word(Some(victim)), purging_word(kept.forw));
+            stays(change, after)
         }
         _ => no_exchange(),
     }
@@ -138,13 +139,7 @@ pub fn clearing_exchange(line: &Line, victim: NodeId, kept: &Tag, event: &Event)
     ensures { (y : a_line.Line) → result ≡ exchange_with y (clearing_row line.now victim kept.now event.now) }
 {
     match event {
-        Event::Clear => {
-            let after = Pending::Purging {
-                line: *line,
-                seen: None,
-            };
-            stays(tag(victim, purged(kept), invalid()), after)
-        }
+        Event::Clear => { stays(tag(victim, purged_word(kept), invalid()), purges(line)) }
         _ => no_exchange(),
     }
 }

@@ -10,7 +10,7 @@ use crate::pending::Pending;
 use crate::rows::{Exchange, Place};
 use crate::table::found;
 use crate::table::shorthand::{
-    gives, home_or_listed, lent, listed, memory, no_exchange, queued, stays, tag, takes,
+    gives, home_or_listed, lent_word, listed, memory, no_exchange, queued_word, stays, tag, takes,
 };
 use sci_words::NodeId;
 
@@ -31,7 +31,7 @@ pub fn queueing_exchange(me: NodeId, forw: &Option<NodeId>, event: &Event, taken
     match event {
         Event::Requeue(next) => {
             let after = Pending::Queueing { forw: *next };
-            stays(tag(me, queued(*forw), queued(*next)), after)
+            stays(tag(me, queued_word(*forw), queued_word(*next)), after)
         }
         Event::PrependValid => {
             let after = Pending::Fetching {
@@ -39,7 +39,7 @@ pub fn queueing_exchange(me: NodeId, forw: &Option<NodeId>, event: &Event, taken
                 dirty: false,
                 line: *taken,
             };
-            let change = memory(home_or_listed(forw), lent(&listed(false, me)));
+            let change = memory(home_or_listed(forw), lent_word(&listed(false, me)));
             takes(change, Place::Memory, after)
         }
         Event::PrependGone => match forw {
@@ -79,7 +79,7 @@ pub fn fetching_exchange(
                 dirty,
                 copy: Some(*line),
             };
-            let change = memory(lent(&listed(dirty, me)), listed(dirty, me));
+            let change = memory(lent_word(&listed(dirty, me)), listed(dirty, me));
             gives(change, Place::Memory, line, after)
         }
         _ => no_exchange(),

@@ -1,7 +1,7 @@
 //! Short ways to write the words and the exchanges of the table.
 ghost use Rattle.std.specs.Prelude.{◌≡◌};
-ghost use Rattle.sci_core.specs.State.{word, held, unheld, lent, memory_word, invalid};
-ghost use Rattle.sci_core.specs.Row.{exchange_with, stays, takes, takes_and_answers, gives, gives_and_answers, queued, purging, leaving, attached, purged, settled, listed, home, home_or_listed, no_row};
+ghost use Rattle.sci_core.specs.State.{word, held_word, unheld_word, lent_word, memory_word, invalid};
+ghost use Rattle.sci_core.specs.Row.{exchange_with, stays, takes, takes_and_answers, gives, gives_and_answers, queued_word, purging_word, leaving_word, attached, purged_word, settled_word, listed, home, home_or_listed, no_row};
 
 use crate::lines::Line;
 use crate::pending::Pending;
@@ -25,20 +25,20 @@ pub fn invalid() -> Tag
     word(Kind::Invalid, None, None)
 }
 
-pub fn queued(forw: Option<NodeId>) -> Tag
-    ensures { result ≡ queued forw }
+pub fn queued_word(forw: Option<NodeId>) -> Tag
+    ensures { result ≡ queued_word forw }
 {
     word(Kind::Queued, forw, None)
 }
 
-pub fn purging(forw: Option<NodeId>) -> Tag
-    ensures { result ≡ purging forw }
+pub fn purging_word(forw: Option<NodeId>) -> Tag
+    ensures { result ≡ purging_word forw }
 {
     word(Kind::Purging, forw, None)
 }
 
-pub fn leaving(forw: Option<NodeId>) -> Tag
-    ensures { result ≡ leaving forw }
+pub fn leaving_word(forw: Option<NodeId>) -> Tag
+    ensures { result ≡ leaving_word forw }
 {
     word(Kind::Leaving, forw, None)
 }
@@ -51,27 +51,27 @@ pub fn attached(me: NodeId, found: &Tag) -> Tag
 }
 
 /// The victim's word.
-pub fn purged(found: &Tag) -> Tag
-    ensures { result ≡ purged found.now }
+pub fn purged_word(found: &Tag) -> Tag
+    ensures { result ≡ purged_word found.now }
 {
     word(Kind::Purged, found.forw, found.back)
 }
 
 /// A settled front.
-pub fn settled(dirty: bool, forw: Option<NodeId>) -> Tag
-    ensures { result ≡ settled dirty forw }
+pub fn settled_word(dirty: bool, forw: Option<NodeId>) -> Tag
+    ensures { result ≡ settled_word dirty forw }
 {
     word(if dirty { Kind::Dirty } else { Kind::Fresh }, forw, None)
 }
 
-pub fn held(tag: &Tag) -> Tag
-    ensures { result ≡ held tag.now }
+pub fn held_word(tag: &Tag) -> Tag
+    ensures { result ≡ held_word tag.now }
 {
     Tag { held: true, ..*tag }
 }
 
-pub fn unheld(tag: &Tag) -> Tag
-    ensures { result ≡ unheld tag.now }
+pub fn unheld_word(tag: &Tag) -> Tag
+    ensures { result ≡ unheld_word tag.now }
 {
     Tag {
         held: false,
@@ -115,8 +115,8 @@ pub fn home_or_listed(head: &Option<NodeId>) -> Mem
     }
 }
 
-pub fn lent(mem: &Mem) -> Mem
-    ensures { result ≡ lent mem.now }
+pub fn lent_word(mem: &Mem) -> Mem
+    ensures { result ≡ lent_word mem.now }
 {
     Mem { lent: true, ..*mem }
 }
@@ -172,6 +172,16 @@ pub fn gives(change: Change, place: Place, line: &Line, after: Pending) -> Excha
         carry: Carry::Gives(place, *line),
         after,
         answer: None,
+    }
+}
+
+/// The step that purges, just entered: nothing was seen yet.
+pub fn purges(line: &Line) -> Pending
+    ensures { result ≡ Pending.Purging line.now None }
+{
+    Pending::Purging {
+        line: *line,
+        seen: None,
     }
 }
 

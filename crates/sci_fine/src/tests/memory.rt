@@ -1,15 +1,18 @@
-//! Seats and their ports take no memory, as turns by chance show. The gate runs these tests with allocation 32 refused, and wants
+//! Seats, their ports and banks of them take no memory, as turns by chance show. The gate runs these tests with allocation 32 refused, and wants
 //! each to fail in its last line, and there alone.
 ghost use Rattle.std.specs.Prelude.{◌≡◌, All};
 ghost use Rattle.sci_fine.specs.Seats.{IsSeatOf};
 
+use super::banks::pair_of;
 use super::replays::opened;
 use super::turn;
-use crate::{FineLine, FinePort, Seat};
+use crate::{FineBank, FineLine, FinePort, Seat};
 use sci_core::{AnyWords, Event, Line, Outcome};
 use sci_ops::{Op, Turn};
-use sci_port::Port;
+use sci_port::{At, Bank, Port};
+use sci_words::LineNo;
 use std::alloc::{AllocError, Global};
+use std::test::Fail;
 
 const TURNS: u32 = 100_000;
 
@@ -112,4 +115,60 @@ fn seats_and_ports_take_no_memory(rt: HostRuntime) {
     let ended = turns(&line, seats.as_mut_slice());
     assert!(rt; matches!(ended, Some(1_000..)));
     assert!(rt; spend(rt.alloc(), 1).is_ok(), "allocation 32 is refused");
+}
+
+/// One turn on a line of a bank, behind a look and loads. None: there is no such line, or the bank says something else of it.
+#[tactic(auto, using(sci_core::proofs::Fitting::any_event_fits, sci_ops::proofs::Storing::any_store_fits))]
+fn turn_in(bank: &mut FineBank<'_, AnyWords>, line: LineNo, op: &mut Op) -> Option<Turn> {
+    if line >= bank.lines() {
+        return None;
+    }
+    let node = bank.node();
+    let pending = *bank.pending(line);
+    let _ = (bank.mem(line)?, bank.tag(line, node)?);
+    let is_same = bank.number(line) == line && bank.nodes(line) == 2;
+    if !is_same || pending != *bank.pending(line) {
+        return None;
+    }
+    let looked = bank.step(line, Event::Look);
+    if bank.own(line).is_none() || looked != Outcome::Done(None) {
+        return None;
+    }
+    Some(op.turn(&mut At::new(bank, line)))
+}
+
+/// Turns by chance on two lines of a bank, each with one operation after the other: how many of them ended.
+fn turns_in(bank: &mut FineBank<'_, AnyWords>) -> Option<u32> {
+    let mut ops = [Op::load(); 2];
+    let mut ended: u32 = 0;
+    let mut chance = 1;
+    for _ in 0..TURNS {
+        chance = next(chance);
+        let line = (chance >> 16) as u16 % 2;
+        let mut at_work = ops[usize::from(line)];
+        if let Turn::Done(_) = turn_in(bank, line, &mut at_work)? {
+            at_work = op(chance >> 20);
+            ended = ended.saturating_add(1);
+        }
+        ops[usize::from(line)] = at_work;
+    }
+    Some(ended)
+}
+
+#[test]
+#[tactic(auto, using(crate::proofs::TwoLines::two_lines))]
+fn banks_take_no_memory(rt: HostRuntime) -> Result<(), Fail> {
+    // A line and its seats take five, and the list of the seats one.
+    assert!(rt; spend(rt.alloc(), 20).is_ok());
+    let (first, seat, _) = pair_of(rt.alloc(), 0, AnyWords).ok_or("no line")?;
+    let (second, other, _) = pair_of(rt.alloc(), 1, AnyWords).ok_or("no line")?;
+    let lines = [first, second];
+    let seats = vec![in rt.alloc(); seat, other]?;
+    let Ok(mut bank) = FineBank::new(lines.as_slice(), seats) else {
+        panic!(rt; "it was refused")
+    };
+    assert!(rt; matches!(turns_in(&mut bank), Some(1_000..)));
+    assert_eq!(rt; bank.into_seats().len(), 2);
+    assert!(rt; spend(rt.alloc(), 1).is_ok(), "allocation 32 is refused");
+    Ok(())
 }

@@ -10,8 +10,8 @@ use Rattle.sci_core.specs.declared.rows.Change.{Change}
 use Rattle.sci_core.specs.declared.rows.Carry.{Carry}
 use Rattle.sci_core.specs.declared.rows.Place.{Place}
 use Rattle.sci_core.specs.declared.rows.Exchange.{Exchange}
-use Rattle.sci_core.specs.State.{State, unheld, held, update}
-use Rattle.sci_core.specs.Row.{listed, queued, settled, attached, exchange_with}
+use Rattle.sci_core.specs.State.{State, unheld_word, held_word, update}
+use Rattle.sci_core.specs.Row.{listed, queued_word, settled_word, attached, exchange_with}
 use Rattle.sci_core.specs.Step.{stepped}
 use Rattle.sci_core.specs.Table.{row_of}
 use Rattle.sci_ops.specs.declared.goals.Goal.{Goal}
@@ -29,9 +29,9 @@ use Rattle.sci_ops.proofs.Ending.Moving.{unchanged, moves, ends_idle}
 
 -- the row by which a node settles at the front
 abbrev pub settling : ℕ → Option ℕ → Bool → Line → Exchange
-settling me f d l = record { change = Change.OfTag me (queued f) (settled d f); carry = Carry.Gives (Place.Node me) l; after = Pending.Idle; answer = Some l }
+settling me f d l = record { change = Change.OfTag me (queued_word f) (settled_word d f); carry = Carry.Gives (Place.Node me) l; after = Pending.Idle; answer = Some l }
 
-settled_left : (write : Write) (b : ℕ) (d : Bool) (f : Option ℕ) → left_idle (Goal.Write write) b (settled d f).kind < 3 * b + 6 + 1
+settled_left : (write : Write) (b : ℕ) (d : Bool) (f : Option ℕ) → left_idle (Goal.Write write) b (settled_word d f).kind < 3 * b + 6 + 1
 settled_left write b true f = omega arith
 settled_left write b false f = omega arith
 
@@ -46,10 +46,10 @@ module _ (n : ℕ) (fits : List ℕ → Type 0) (me : ℕ) where
       → r ≡ ended (seen_end goal) (Some l) → t ≡ stepped s me (settling me f d l) → Falls n goal me s r t
   settles Goal.Load s t r p f d l a is rest less turn to = ends_idle n Goal.Load me s s t r p (settling me f d l) (Answer.Seen l.words l.stamp) is rest turn to refl less
   settles (Goal.Write write) s t r p f d l a is rest less turn to =
-      let kind : (update s.tags me (settled d f) me).kind ≡ (settled d f).kind = ap (λ (x : Tag). x.kind) (updated s.tags me (settled d f)) in
+      let kind : (update s.tags me (settled_word d f) me).kind ≡ (settled_word d f).kind = ap (λ (x : Tag). x.kind) (updated s.tags me (settled_word d f)) in
       let b : ℕ = others me s.tags n in
-      let more : left_idle (Goal.Write write) b (settled d f).kind < turns_left (Goal.Write write) b (s.tags me).kind p = omega (arith, settled_left write b d f, less) in
-      moves n (Goal.Write write) me s s t r p (settling me f d l) is rest turn to tt (own_same me s.tags (settled d f) n) (rw kind more)
+      let more : left_idle (Goal.Write write) b (settled_word d f).kind < turns_left (Goal.Write write) b (s.tags me).kind p = omega (arith, settled_left write b d f, less) in
+      moves n (Goal.Write write) me s s t r p (settling me f d l) is rest turn to tt (own_same me s.tags (settled_word d f) n) (rw kind more)
   settles Goal.Evict s t r p f d l a is rest less turn to = absurd a
 
   pub holding_falls : (goal : Goal) (s t : State) (r : Turn) (w : Tag) (l : Line) → s.steps me ≡ Pending.Holding w l → OthersRest me s → AloneIn n goal me s (Pending.Holding w l) → Takes (on_line n fits me) (turn_in goal me (Pending.Holding w l)) s r t → Falls n goal me s r t
@@ -106,7 +106,7 @@ module _ (n : ℕ) (fits : List ℕ → Type 0) (me : ℕ) where
       moves n goal me s s t r p (exchange_with m.taken (row_of me p (Event.AttachFresh (s.tags x)))) is rest m.turn m.next a.0 (listed_same me s.tags x (attached me (s.tags x)) n (rw a.1.0.0 refl) refl) (omega arith)
   in_queue_falls goal s t r (Some x) true None is rest a h =
       let p : Pending = Pending.InQueue (Some x) true None in
-      let w : Tag = held (attached me (s.tags x)) in
+      let w : Tag = held_word (attached me (s.tags x)) in
       let y : Tag = s.tags x in
       let dirty : may_attach_dirty true None y ≡ true = rw (a.1.0.0, a.1.0.1) refl in
       let plan : Takes (on_line n fits me) (move (Event.AttachDirty y)) s r t = chosen (may_attach_dirty true None y) (move (Event.AttachDirty y)) wait dirty (of_tag n fits me h) in
@@ -119,7 +119,7 @@ module _ (n : ℕ) (fits : List ℕ → Type 0) (me : ℕ) where
   copying_falls goal s t r x w l is rest a h =
       let p : Pending = Pending.Copying x w l in
       let m = made n fits me p is refl a.1 (of_exchange n fits me h) in
-      moves n goal me s s t r p (exchange_with m.taken (row_of me p Event.ReturnCopy)) is rest m.turn m.next a.0 (listed_same me s.tags x (unheld w) n (ap (λ (y : Tag). is_listed y.kind) a.1 ∙ a.2) a.2) (omega arith)
+      moves n goal me s s t r p (exchange_with m.taken (row_of me p Event.ReturnCopy)) is rest m.turn m.next a.0 (listed_same me s.tags x (unheld_word w) n (ap (λ (y : Tag). is_listed y.kind) a.1 ∙ a.2) a.2) (omega arith)
 
   pub ready_falls : (goal : Goal) (s t : State) (r : Turn) (f : Option ℕ) (d : Bool) (l : Line) → s.steps me ≡ Pending.Ready f d l → OthersRest me s → AloneIn n goal me s (Pending.Ready f d l) → Takes (on_line n fits me) (turn_in goal me (Pending.Ready f d l)) s r t → Falls n goal me s r t
   ready_falls goal s t r f d l is rest a h =

@@ -5,9 +5,9 @@ use Rattle.sci_words.specs.declared.tags.Kind.{Kind}
 use Rattle.sci_words.specs.declared.tags.Tag.{Tag}
 use Rattle.sci_core.specs.declared.lines.Line.{Line}
 use Rattle.sci_core.specs.declared.pending.Pending.{Pending}
-use Rattle.sci_core.specs.State.{State, lent}
+use Rattle.sci_core.specs.State.{State, lent_word}
 use Rattle.sci_core.specs.Found.{can_be_told}
-use Rattle.sci_core.specs.Row.{home, listed, purged}
+use Rattle.sci_core.specs.Row.{home, listed, purged_word}
 use Rattle.sci_ops.specs.declared.goals.Goal.{Goal}
 use Rattle.sci_ops.specs.declared.answers.Turn.{Turn}
 use Rattle.sci_ops.specs.Alone.{IsAtRest}
@@ -61,17 +61,17 @@ abbrev pub AloneIn : ℕ → Goal → ℕ → State → Pending → Type 0
 AloneIn n goal me s Pending.Idle = Unit {0}
 AloneIn n goal me s (Pending.Holding w l) = Loads goal
 AloneIn n goal me s (Pending.Queueing f) = Enters goal × FrontIs s f
-AloneIn n goal me s (Pending.Fetching f d l) = Enters goal × (d ≡ false) × (s.memory ≡ lent (listed false me)) × MayAttach s f false (Some l)
+AloneIn n goal me s (Pending.Fetching f d l) = Enters goal × (d ≡ false) × (s.memory ≡ lent_word (listed false me)) × MayAttach s f false (Some l)
 AloneIn n goal me s (Pending.InQueue f d c) = Enters goal × MayAttach s f d c
 AloneIn n goal me s (Pending.Copying x w l) = Enters goal × (s.tags x ≡ w) × (is_listed w.kind ≡ true)
 AloneIn n goal me s (Pending.Ready f d l) = Enters goal
 AloneIn n goal me s (Pending.Converting f turned) = Writes goal × (turned ≡ false → s.memory ≡ listed false me)
 AloneIn n goal me s (Pending.Purging l seen) = Writes goal
-AloneIn n goal me s (Pending.Advancing l x w) = Writes goal × (x < n) × (s.tags x ≡ purged w)
-AloneIn n goal me s (Pending.Clearing l x w) = Writes goal × (x < n) × (s.tags x ≡ purged w)
+AloneIn n goal me s (Pending.Advancing l x w) = Writes goal × (x < n) × (s.tags x ≡ purged_word w)
+AloneIn n goal me s (Pending.Clearing l x w) = Writes goal × (x < n) × (s.tags x ≡ purged_word w)
 AloneIn n goal me s (Pending.Leaving d l seen) = Evicts goal × (s.memory ≡ listed d me) × ((x : ℕ) → (s.tags me).forw ≡ Some x → IsNext me (s.tags x))
 AloneIn n goal me s (Pending.Promoted d l x) = Evicts goal × (s.memory ≡ listed d me)
-AloneIn n goal me s (Pending.WritingBack l) = Evicts goal × (s.memory ≡ lent home)
+AloneIn n goal me s (Pending.WritingBack l) = Evicts goal × (s.memory ≡ lent_word home)
 AloneIn n goal me s (Pending.Parted f) = Evicts goal
 -- the back link of the entry behind a node that rolls out is the node, until that entry is told
 AloneIn n goal me s (Pending.Rolling told seen) = Rolls goal × (told ≡ false → (x : ℕ) → (s.tags me).forw ≡ Some x → IsNext me (s.tags x)) × ((b : ℕ) × ((s.tags me).back ≡ Some b) × IsPrevious me (s.tags b))

@@ -8,11 +8,11 @@ use Rattle.sci_words.specs.Tag.{tag_well_formed}
 use Rattle.sci_core.specs.declared.lines.Line.{Line}
 use Rattle.sci_core.specs.declared.pending.Pending.{Pending}
 use Rattle.sci_core.specs.declared.events.Event.{Event}
-use Rattle.sci_core.specs.State.{State, word, invalid, held, update}
+use Rattle.sci_core.specs.State.{State, word, invalid, held_word, update}
 use Rattle.sci_core.specs.Found.{names, is_dirty, is_settled_front}
 use Rattle.sci_core.specs.Law.{is_valid}
 use Rattle.sci_core.specs.PendingStep.{is_at_rest}
-use Rattle.sci_core.specs.Row.{listed, queued, purging, leaving, exchange_with}
+use Rattle.sci_core.specs.Row.{listed, queued_word, purging_word, leaving_word, exchange_with}
 use Rattle.sci_core.specs.Run.{HasValue}
 use Rattle.sci_core.specs.declared.rows.Exchange.{Exchange}
 use Rattle.sci_core.specs.Step.{looked, stepped}
@@ -83,13 +83,13 @@ module _ (n : ℕ) (fits : List ℕ → Type 0) (me : ℕ) (s t : State) (r : Tu
       let f : Option ℕ = s.memory.forw in
       let m = made n fits me Pending.Idle own_idle refl (invalid_word (s.tags me) k (free_at_rest n fits (looked s me) v o idle me) form) (of_exchange n fits me (of_mem n fits me h)) in
       let x : Exchange = exchange_with m.taken (row_of me Pending.Idle (Event.Queue f)) in
-      moves n goal me s (looked s me) t r Pending.Idle x is others_rest m.turn m.next (a, front_kept (looked s me) (stepped (looked s me) me x) me (queued f) refl refl k f (front n fits (looked s me) v o idle)) (own_same me s.tags (queued f) n) less
+      moves n goal me s (looked s me) t r Pending.Idle x is others_rest m.turn m.next (a, front_kept (looked s me) (stepped (looked s me) me x) me (queued_word f) refl refl k f (front n fits (looked s me) v o idle)) (own_same me s.tags (queued_word f) n) less
 
   holds : (k : Kind) → (s.tags me).kind ≡ k → 1 < left_idle Goal.Load (others me s.tags n) k → Takes (on_line n fits me) (move (Event.Hold (s.tags me))) (looked s me) r t → Falls n Goal.Load me s r t
   holds k e less h =
       let m = made n fits me Pending.Idle own_idle refl refl (of_exchange n fits me h) in
       let more : 1 < left_idle Goal.Load (others me s.tags n) (s.tags me).kind = rw e less in
-      moves n Goal.Load me s (looked s me) t r Pending.Idle (exchange_with m.taken (row_of me Pending.Idle (Event.Hold (s.tags me)))) is others_rest m.turn m.next tt (own_same me s.tags (held (s.tags me)) n) more
+      moves n Goal.Load me s (looked s me) t r Pending.Idle (exchange_with m.taken (row_of me Pending.Idle (Event.Hold (s.tags me)))) is others_rest m.turn m.next tt (own_same me s.tags (held_word (s.tags me)) n) more
 
   -- the node is the head
   as_front : (d : Bool) (this : Plan) → s.memory ≡ listed d me → Takes (on_line n fits me) (if_front me this wait) (looked s me) r t → Takes (on_line n fits me) this (looked s me) r t
@@ -111,14 +111,14 @@ module _ (n : ℕ) (fits : List ℕ → Type 0) (me : ℕ) (s t : State) (r : Tu
       let b : ℕ = others me s.tags n in
       let m = made n fits me Pending.Idle own_idle refl refl (of_exchange n fits me h) in
       let more : 3 * b + 3 < left_idle (Goal.Write w) b (s.tags me).kind = rw k (omega arith) in
-      moves n (Goal.Write w) me s (looked s me) t r Pending.Idle (exchange_with m.taken (row_of me Pending.Idle (Event.BeginPurge (s.tags me)))) is others_rest m.turn m.next tt (own_same me s.tags (purging (s.tags me).forw) n) more
+      moves n (Goal.Write w) me s (looked s me) t r Pending.Idle (exchange_with m.taken (row_of me Pending.Idle (Event.BeginPurge (s.tags me)))) is others_rest m.turn m.next tt (own_same me s.tags (purging_word (s.tags me).forw) n) more
 
   leaves : is_settled_front (s.tags me).kind ≡ true → is_valid (s.tags me).kind ≡ true → 3 < left_idle Goal.Evict (others me s.tags n) (s.tags me).kind → Takes (on_line n fits me) (if_front me (move (Event.Leave (s.tags me))) wait) (looked s me) r t → Falls n Goal.Evict me s r t
   leaves k valid more h =
       let d : Bool = is_dirty (s.tags me).kind in
       let mine : s.memory ≡ listed d me = own_front n fits (looked s me) v o idle me k in
       let m = made n fits me Pending.Idle own_idle refl refl (of_exchange n fits me (as_front d (move (Event.Leave (s.tags me))) mine h)) in
-      moves n Goal.Evict me s (looked s me) t r Pending.Idle (exchange_with m.taken (row_of me Pending.Idle (Event.Leave (s.tags me)))) is others_rest m.turn m.next (tt, mine, next_kept (leaving (s.tags me).forw) refl valid) (own_same me s.tags (leaving (s.tags me).forw) n) more
+      moves n Goal.Evict me s (looked s me) t r Pending.Idle (exchange_with m.taken (row_of me Pending.Idle (Event.Leave (s.tags me)))) is others_rest m.turn m.next (tt, mine, next_kept (leaving_word (s.tags me).forw) refl valid) (own_same me s.tags (leaving_word (s.tags me).forw) n) more
 
   rolls : (goal : Goal) → Rolls goal → (s.tags me).kind ≡ Kind.Valid → turns_left goal (others me s.tags n) (s.tags me).kind (Pending.Rolling false None) < turns_left goal (others me s.tags n) (s.tags me).kind Pending.Idle → Takes (on_line n fits me) (move (Event.Roll (s.tags me))) (looked s me) r t → Falls n goal me s r t
   rolls goal a k more h =

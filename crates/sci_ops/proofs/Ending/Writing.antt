@@ -14,7 +14,7 @@ use Rattle.std.specs.Prelude.{if◌then◌else◌}
 use Rattle.sci_core.specs.Shape.{phase_of}
 use Rattle.sci_core.specs.Law.{is_front, is_valid}
 use Rattle.sci_core.specs.PendingStep.{IsOwnWord}
-use Rattle.sci_core.specs.Row.{listed, purging, purged, exchange_with}
+use Rattle.sci_core.specs.Row.{listed, purging_word, purged_word, exchange_with}
 use Rattle.sci_core.specs.Run.{HasValue}
 use Rattle.sci_core.specs.Step.{looked}
 use Rattle.sci_core.specs.Table.{row_of}
@@ -43,7 +43,7 @@ module _ (n : ℕ) (fits : List ℕ → Type 0) (me : ℕ) where
       let p : Pending = Pending.Converting f true in
       let tried = of_exchange n fits me h in
       let m = made n fits me p is refl (own_of n fits me p is tried) tried in
-      moves n goal me s s t r p (exchange_with m.taken (row_of me p Event.Converted)) is rest m.turn m.next a.0 (own_same me s.tags (purging f) n) (omega arith)
+      moves n goal me s s t r p (exchange_with m.taken (row_of me p Event.Converted)) is rest m.turn m.next a.0 (own_same me s.tags (purging_word f) n) (omega arith)
   converting_falls goal s t r f false is rest a h =
       let p : Pending = Pending.Converting f false in
       let front : s.memory ≡ listed false me = a.1 refl in
@@ -56,26 +56,26 @@ module _ (n : ℕ) (fits : List ℕ → Type 0) (me : ℕ) where
   advancing_falls goal s t r l x w is rest a h =
       let p : Pending = Pending.Advancing l x w in
       let tried = of_exchange n fits me h in
-      let own : s.tags me ≡ purging (Some x) = own_of n fits me p is tried in
+      let own : s.tags me ≡ purging_word (Some x) = own_of n fits me p is tried in
       let apart : x ≢ me = λ e. purged_not (s.tags me) (s.tags x) (ap (λ (y : Tag). y.kind) own) (ap (λ (y : Tag). y.kind) a.2) (ap s.tags e) in
       let m = made n fits me p is refl own tried in
-      moves n goal me s s t r p (exchange_with m.taken (row_of me p Event.Advance)) is rest m.turn m.next (a.0, a.1, not_updated s.tags me (purging w.forw) x apart ∙ a.2) (own_same me s.tags (purging w.forw) n) (omega arith)
+      moves n goal me s s t r p (exchange_with m.taken (row_of me p Event.Advance)) is rest m.turn m.next (a.0, a.1, not_updated s.tags me (purging_word w.forw) x apart ∙ a.2) (own_same me s.tags (purging_word w.forw) n) (omega arith)
 
   pub clearing_falls : (goal : Goal) (s t : State) (r : Turn) (l : Line) (x : ℕ) (w : Tag) → s.steps me ≡ Pending.Clearing l x w → OthersRest me s → AloneIn n goal me s (Pending.Clearing l x w) → Takes (on_line n fits me) (turn_in goal me (Pending.Clearing l x w)) s r t → Falls n goal me s r t
   clearing_falls goal s t r l x w is rest a h =
       let p : Pending = Pending.Clearing l x w in
       let tried = of_exchange n fits me h in
-      let own : s.tags me ≡ purging (s.tags me).forw = own_of n fits me p is tried in
+      let own : s.tags me ≡ purging_word (s.tags me).forw = own_of n fits me p is tried in
       let apart : x ≢ me = λ e. purged_not (s.tags me) (s.tags x) (ap (λ (y : Tag). y.kind) own) (ap (λ (y : Tag). y.kind) a.2) (ap s.tags e) in
       let m = made n fits me p is refl a.2 tried in
       let less : others me (update s.tags x invalid) n < others me s.tags n = one_less me s.tags x invalid n a.1 apart (ap (λ (y : Tag). is_listed y.kind) a.2) refl in
       moves_to n goal me s s t r p (exchange_with m.taken (row_of me p Event.Clear)) is rest m.turn m.next a.0 (omega (arith, less))
 
   -- nobody is behind it: it writes
-  own_last : (u : State) (l : Line) {e : Event} {end : End} {r : Turn} {t : State} → u.steps me ≡ Pending.Purging l (Some None) → (u.tags me).forw ≡ None → Tried n fits me e end u r t → u.tags me ≡ purging None
+  own_last : (u : State) (l : Line) {e : Event} {end : End} {r : Turn} {t : State} → u.steps me ≡ Pending.Purging l (Some None) → (u.tags me).forw ≡ None → Tried n fits me e end u r t → u.tags me ≡ purging_word None
   own_last u l now last tried =
-      let own : u.tags me ≡ purging (u.tags me).forw = own_of n fits me (Pending.Purging l (Some None)) now tried in
-      subst (λ (f : Option ℕ). u.tags me ≡ purging f) last own
+      let own : u.tags me ≡ purging_word (u.tags me).forw = own_of n fits me (Pending.Purging l (Some None)) now tried in
+      subst (λ (f : Option ℕ). u.tags me ≡ purging_word f) last own
 
   written_by : (w : Write) (s u t : State) (r : Turn) (l : Line) (seen : Option (Option ℕ)) (b : Bool) → s.steps me ≡ Pending.Purging l seen → u.steps me ≡ Pending.Purging l (Some None) → OthersRest me u → (u.tags me).forw ≡ None
       → Takes (on_line n fits me) (if b then exchange (Event.Written (Some (change w l.words))) (End.Wrote l.words (l.stamp + 1)) else exchange (Event.Written None) End.Spent) u r t → Falls n (Goal.Write w) me s r t
@@ -107,7 +107,7 @@ module _ (n : ℕ) (fits : List ℕ → Type 0) (me : ℕ) where
       let test : is_free is_settled_body y ≡ true = rw (valid, free) refl in
       let plan : Takes (on_line n fits me) (move (Event.PurgeOne y)) u r t = chosen (is_free is_settled_body y) (move (Event.PurgeOne y)) (if may_adopt me y then move (Event.Adopt y) else wait) test (of_tag n fits me h) in
       let m = made n fits me q now refl refl (of_exchange n fits me plan) in
-      moves n goal me s u t r p (exchange_with m.taken (row_of me q (Event.PurgeOne (u.tags x)))) is rest m.turn m.next (a, below, updated u.tags x (purged (u.tags x))) (listed_same me u.tags x (purged (u.tags x)) n (rw valid refl) refl ∙ same) (omega arith)
+      moves n goal me s u t r p (exchange_with m.taken (row_of me q (Event.PurgeOne (u.tags x)))) is rest m.turn m.next (a, below, updated u.tags x (purged_word (u.tags x))) (listed_same me u.tags x (purged_word (u.tags x)) n (rw valid refl) refl ∙ same) (omega arith)
 
   link_falls : (goal : Goal) (s u t : State) (r : Turn) (l v : Line) (seen : Option (Option ℕ)) (f : Option ℕ) → HasValue n fits u v → s.steps me ≡ Pending.Purging l seen → u.steps me ≡ Pending.Purging l (Some f) → OthersRest me u → Writes goal → others me u.tags n ≡ others me s.tags n → (u.tags me).forw ≡ f → Takes (on_line n fits me) (purging_at goal me l f) u r t → Falls n goal me s r t
   link_falls (Goal.Write w) s u t r l v seen None o is now rest a same e h = written_by w s u t r l seen (can_count l) is now rest e h

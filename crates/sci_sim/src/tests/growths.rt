@@ -1,5 +1,5 @@
-//! Each growth may be refused: the command `check` then answers 7, nothing is written, and a second try has the memory. With ample
-//! memory these tests pass. tools/growths runs them once more with allocation LAST refused: that is growth K of test K, which has
+//! Each growth may be refused: the command `check`, or the reader of settings, then answers 7, nothing is written, and a second try
+//! has the memory. With ample memory these tests pass. tools/growths runs them once more with allocation LAST refused: that is growth K of test K, which has
 //! spent LAST - K before, and the test ends by saying which call answered it. Where a call makes up for a refused growth by a later
 //! one, it answers Ok.
 ghost use Rattle.std.specs.Prelude.{None};
@@ -7,6 +7,7 @@ ghost use Rattle.std.specs.Prelude.{None};
 use super::checks::{LAWFUL, SHARED};
 use crate::checking::serve_check;
 use crate::faults::SimFault;
+use crate::settings::{Settings, SettingsRefusal, read_settings};
 use sci_script::ScriptRefusal;
 use std::alloc::{AllocError, Global};
 use std::io;
@@ -14,7 +15,7 @@ use std::io::Write;
 use std::process::Abort;
 use std::test::Fail;
 
-const LAST: u16 = 12;
+const LAST: u16 = 21;
 
 /// A writer that takes no memory.
 #[derive(Drop)]
@@ -81,11 +82,37 @@ fn checks(rt: &impl Abort, alloc: Global) -> Result<(), Fail> {
     Err(Fail::new("serve_check answered 7"))
 }
 
+const RING: &str = "work = \"ring\"\nlines = 2\ncapacity = 1\nitems = [0, 3, 6]\n";
+
+// Whether the settings are read as what they say.
+fn are_read(alloc: Global) -> Result<bool, SettingsRefusal> {
+    match read_settings(alloc, RING.as_bytes())? {
+        Settings::Ring {
+            lines: 2,
+            capacity: 1,
+            items,
+            dump: false,
+        } => Ok(items.as_slice() == [0, 3, 6].as_slice()),
+        _ => Ok(false),
+    }
+}
+
+fn reads(rt: &impl Abort, alloc: Global) -> Result<(), Fail> {
+    let read = are_read(alloc);
+    if read == Ok(true) {
+        return Ok(());
+    }
+    assert_eq!(rt; read, Err(SettingsRefusal::OutOfMemory));
+    assert_eq!(rt; are_read(alloc), Ok(true));
+    Err(Fail::new("read_settings answered 7"))
+}
+
 fn refuses(rt: &impl Abort, alloc: Global, spent: u16) -> Result<(), Fail> {
     if spend(alloc, spent).is_err() {
         return Err(Fail::new("spending answered 7"));
     }
     checks(rt, alloc)?;
+    reads(rt, alloc)?;
     if spend(alloc, 1).is_err() {
         return Err(Fail::new("nothing answered 7"));
     }
@@ -153,6 +180,51 @@ fn growth_11_of_serve_check(rt: HostRuntime) -> Result<(), Fail> {
 }
 
 #[test]
-fn growth_12_of_nothing(rt: HostRuntime) -> Result<(), Fail> {
+fn growth_12_of_read_settings(rt: HostRuntime) -> Result<(), Fail> {
+    refuses(&rt, rt.alloc(), LAST - 12)
+}
+
+#[test]
+fn growth_13_of_read_settings(rt: HostRuntime) -> Result<(), Fail> {
+    refuses(&rt, rt.alloc(), LAST - 13)
+}
+
+#[test]
+fn growth_14_of_read_settings(rt: HostRuntime) -> Result<(), Fail> {
+    refuses(&rt, rt.alloc(), LAST - 14)
+}
+
+#[test]
+fn growth_15_of_read_settings(rt: HostRuntime) -> Result<(), Fail> {
+    refuses(&rt, rt.alloc(), LAST - 15)
+}
+
+#[test]
+fn growth_16_of_read_settings(rt: HostRuntime) -> Result<(), Fail> {
+    refuses(&rt, rt.alloc(), LAST - 16)
+}
+
+#[test]
+fn growth_17_of_read_settings(rt: HostRuntime) -> Result<(), Fail> {
+    refuses(&rt, rt.alloc(), LAST - 17)
+}
+
+#[test]
+fn growth_18_of_read_settings(rt: HostRuntime) -> Result<(), Fail> {
+    refuses(&rt, rt.alloc(), LAST - 18)
+}
+
+#[test]
+fn growth_19_of_read_settings(rt: HostRuntime) -> Result<(), Fail> {
+    refuses(&rt, rt.alloc(), LAST - 19)
+}
+
+#[test]
+fn growth_20_of_read_settings(rt: HostRuntime) -> Result<(), Fail> {
+    refuses(&rt, rt.alloc(), LAST - 20)
+}
+
+#[test]
+fn growth_21_of_nothing(rt: HostRuntime) -> Result<(), Fail> {
     refuses(&rt, rt.alloc(), 0)
 }

@@ -1,4 +1,5 @@
 use Rattle.std.proofs.Common.{rules, refl, ◌≡◌}
+use Rattle.sci_cache.proofs.Leaving.{ends_idle}
 use Rattle.sci_cache.proofs.Through.{turn_through, answer_through, chain_keeps, shows_answer, owes_fit}
 use Rattle.sci_cache.proofs.ports.turn_at.Goals as goal
 
@@ -30,3 +31,10 @@ returns-clause-content g c = λ ends.
     let h = answer_through _ g.B.Bank.gives (λ x. x.bank.now) (λ x. x.line) (λ s call t h. (h.0, h.2)) (λ u. (g.B.Bank.way u).node) g.B.Bank.at_step c.args.op.now c.turn.result c.args.line c.new.result c.turn.new.port c.args.bank.now c.turn.new.port.bank.now c.new.ensures.line c.new.ensures.same_bank refl c.turn.ensures.answers in
     shows_answer (λ u call v. g.B.Bank.gives u c.args.line call v) (λ u. g.B.Bank.at_step u c.args.line) g.B.Bank.keep (λ k. g.B.Keep.Keeps.fits k c.args.line) (λ u call v k. g.met.B.Bank.same_fact u c.args.line call v k)
     (λ u call v k. owes_fit _ _ _ _ call _ (g.met.B.Bank.owes u c.args.line call v k)) c.args.op.now (g.B.Bank.way c.args.bank.now).node c.args.bank.now c.turn.result c.turn.new.port.bank.now h ends
+
+pub returns-clause-idle : goal.returns-clause-idle
+returns-clause-idle g c = λ ends.
+    ends_idle (λ u call v. g.B.Bank.gives u c.args.line call v) (λ u. g.B.Bank.at_step u c.args.line) (λ u. g.B.Bank.nodes_on u c.args.line) (λ u. (g.B.Bank.way u).node) (λ u. g.B.Keep.Keeps.fits (g.B.Bank.keep u) c.args.line)
+    (λ u call v k. g.met.B.Bank.owes u c.args.line call v k) c.args.op.now (g.B.Bank.way c.args.bank.now).node c.args.bank.now c.turn.result _
+    (answer_through _ g.B.Bank.gives (λ x. x.bank.now) (λ x. x.line) (λ s call t h. (h.0, h.2)) (λ u. (g.B.Bank.way u).node) g.B.Bank.at_step c.args.op.now c.turn.result c.args.line c.new.result c.turn.new.port c.args.bank.now _ c.new.ensures.line c.new.ensures.same_bank (search rules) c.turn.ensures.answers)
+    ends

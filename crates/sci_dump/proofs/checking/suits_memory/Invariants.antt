@@ -1,4 +1,4 @@
-use Rattle.std.proofs.Common.{◌≡◌, ◌<◌, ℕ}
+use Rattle.std.proofs.Common.{◌<◌, ℕ}
 use Rattle.sci_dump.specs.Rules.{tag}
 use Rattle.sci_dump.proofs.Deciding.{IsSuitedTag}
 use Rattle.sci_dump.proofs.checking.suits_memory.Given as goal

@@ -1,4 +1,4 @@
-use Rattle.std.proofs.Common.{rules, arith}
+use Rattle.std.proofs.Common.{arith}
 use Rattle.sci_dump.proofs.Deciding.{not_all_exact, exact_more}
 use Rattle.sci_dump.proofs.checking.verdict_of.Goals as goal
 

@@ -1,4 +1,4 @@
-use Rattle.std.proofs.Common.{◌≡◌, ◌-◌, ◌+◌, ◌≤◌, ◌<◌, true, All, length}
+use Rattle.std.proofs.Common.{◌≡◌, ◌-◌, ◌+◌, ◌≤◌, true, All, length}
 use Rattle.sci_words.specs.Tag.{tag_well_formed}
 use Rattle.sci_dump.specs.Reading.{entries_at}
 use Rattle.sci_dump.proofs.Looping.{with_nodes}

@@ -1,4 +1,4 @@
-use Rattle.std.proofs.Common.{◌≡◌, ◌-◌, ◌+◌, ◌*◌, ◌≤◌, ◌<◌, true, All, length}
+use Rattle.std.proofs.Common.{◌≡◌, ◌-◌, ◌+◌, ◌*◌, ◌≤◌, All, length}
 use Rattle.sci_dump.specs.Reading.{lines_at}
 use Rattle.sci_dump.proofs.Looping.{with_lines}
 use Rattle.sci_dump.proofs.reader.read_lines.Given as goal

@@ -1,4 +1,4 @@
-use Rattle.std.proofs.Common.{rules, append_assoc, arith, length}
+use Rattle.std.proofs.Common.{rules, append_assoc}
 use Rattle.sci_dump.proofs.Writing.{nodes_more, nodes_end}
 use Rattle.sci_dump.proofs.texts.push_nodes.Goals as goal
 

@@ -1,4 +1,4 @@
-use Rattle.std.proofs.Common.{ℕ, ◌+◌, List, [], ◌∷◌, ◌++◌, sym, subst, arith}
+use Rattle.std.proofs.Common.{◌+◌, [], ◌∷◌, ◌++◌, sym, subst, arith}
 use Rattle.sci_words.specs.declared.tags.Tag.{Tag}
 use Rattle.sci_sim.proofs.Listing.{Listed, listed_more, listed_end, listed_full}
 use Rattle.sci_sim.proofs.verdicts.entries.Goals as goal

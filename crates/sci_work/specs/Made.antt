@@ -1,0 +1,36 @@
+-- What a worker has done through its node and its bank: calls that waited for their end, one after another.
+use Rattle.std.specs.Prelude.{◌≡◌, ℕ, ◌≤◌, Result, Ok, Err, None, List, [], ◌∷◌}
+use Rattle.sci_core.specs.declared.pending.Pending.{Pending}
+use Rattle.sci_port.specs.declared.calls.Call.{Call}
+use Rattle.sci_port.specs.Banks.{BankWay}
+use Rattle.sci_ops.specs.declared.answers.Answer.{Answer}
+use Rattle.sci_cache.specs.declared.refusals.NodeRefusal.{NodeRefusal}
+use Rattle.sci_cache.specs.declared.requests.Request.{Request}
+use Rattle.sci_cache.specs.Nodes.{NodeState, Waits}
+use Rattle.sci_work.specs.declared.refusals.WorkRefusal.{WorkRefusal}
+
+-- the bank is the node's, and the node has no call open
+pub record IsBankOf (way : BankWay) (n : NodeState) : Type 0 where
+  pub node : way.node ≡ n.id
+  pub lines : way.lines ≡ n.lines
+  pub closed : n.call ≡ None
+
+-- a worker that has begun refuses with 7, 11, 19, 20 or 25
+abbrev pub ComesInWork : WorkRefusal → Type 0
+ComesInWork WorkRefusal.BadSettings = ⊥
+ComesInWork WorkRefusal.NoThread = ⊥
+ComesInWork refusal = Unit {0}
+
+module _ {U : Type 0} (gives : U → ℕ → Call → U → Type 0) (step : U → ℕ → Pending) where
+  -- calls that waited, of which these were writes that ended, the last in front: the line, and its words
+  pub data Made : List (ℕ × List ℕ) → NodeState → U → NodeState → U → Type 0 where
+    none : {n : NodeState} {u : U} → Made [] n u n u
+    load : {ws : List (ℕ × List ℕ)} {n k m : NodeState} {u w v : U} → (line : ℕ) → (result : Result Answer NodeRefusal) → Made ws n u k w → Waits gives step k (Request.Load line) w result v m → Made ws n u m v
+    write : {ws : List (ℕ × List ℕ)} {n k m : NodeState} {u w v : U} → (line : ℕ) → (words : List ℕ) → (answer : Answer) → Made ws n u k w → Waits gives step k (Request.WriteLine line words) w (Ok answer) v m → Made ((line, words) ∷ ws) n u m v
+    refused : {ws : List (ℕ × List ℕ)} {n k m : NodeState} {u w v : U} → (line : ℕ) → (words : List ℕ) → (refusal : NodeRefusal) → Made ws n u k w → Waits gives step k (Request.WriteLine line words) w (Err refusal) v m → Made ws n u m v
+
+  -- calls that waited, of which the writes that ended are the first of these, up to so many
+  pub record MadeSome (writes : ℕ → List (ℕ × List ℕ)) (most : ℕ) (n : NodeState) (u : U) (m : NodeState) (v : U) : Type 0 where
+    pub count : ℕ
+    pub within : count ≤ most
+    pub made : Made (writes count) n u m v

@@ -1,0 +1,26 @@
+-- What a stencil's lines hold: tile t stands in the lines 2t and 2t + 1, seven cells a tile. This project's own.
+use Rattle.std.specs.Prelude.{◌≡◌, ℕ, ◌+◌, ◌*◌, ◌/◌, ◌%◌, ◌<◌, ◌≤◌, ◌⊎◌, ◌==◌, if◌then◌else◌, List, length, replicate, slice_index}
+use Rattle.sci_work.specs.Plain.{plain}
+
+-- words 1 to 7 are this tile of the cells
+abbrev pub HoldsTile : List ℕ → ℕ → List ℕ → Type 0
+HoldsTile cells tile words = (j : ℕ) → j < 7 → slice_index words (j + 1) ≡ slice_index cells (7 * tile + j)
+
+-- the line shows its tile as it is after this phase, and the phase's number and one in word 0
+pub record ShowsPhase (cells : List ℕ) (phases line : ℕ) (words : List ℕ) (phase : ℕ) : Type 0 where
+  pub within : phase ≤ phases
+  pub parity : phase % 2 ≡ line % 2
+  pub inside : 7 * (line / 2) < length cells
+  pub number : slice_index words 0 ≡ phase + 1
+  pub cells_are : HoldsTile (plain cells phase) (line / 2) words
+
+-- a line of a stencil: all zeros, or its tile after some phase
+unfoldable pub FitsStencil : List ℕ → ℕ → ℕ → List ℕ → Type 0
+FitsStencil cells phases line words = (words ≡ replicate 8 0) ⊎ ((phase : ℕ) × ShowsPhase cells phases line words phase)
+
+-- the cell before cell j of a tile with these words, where left is the cell before the tile; and the cell behind it
+abbrev pub before : ℕ → List ℕ → ℕ → ℕ
+before left words j = if j == 0 then left else slice_index words j
+
+abbrev pub behind : ℕ → List ℕ → ℕ → ℕ
+behind right words j = if j == 6 then right else slice_index words (j + 2)

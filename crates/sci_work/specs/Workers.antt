@@ -1,0 +1,18 @@
+-- A node at work on a bank, between two of its calls. This project's profile.
+use Rattle.std.specs.Prelude.{◌≡◌, ℕ, None}
+use Rattle.sci_core.specs.declared.pending.Pending.{Pending}
+use Rattle.sci_port.specs.declared.calls.Call.{Call}
+use Rattle.sci_port.specs.Banks.{BankWay}
+use Rattle.sci_cache.specs.Nodes.{NodeState}
+
+-- the bank is this node's and has its lines, no call is open, and the node is Idle on every line
+pub record IsReady {U : Type 0} (step : U → ℕ → Pending) (way : BankWay) (n : NodeState) (u : U) : Type 0 where
+  pub node : way.node ≡ n.id
+  pub lines : way.lines ≡ n.lines
+  pub free : n.call ≡ None
+  pub idle : (line : ℕ) → step u line ≡ Pending.Idle
+
+-- calls on lines led from the one to the other
+pub data Led {U : Type 0} (gives : U → ℕ → Call → U → Type 0) : U → U → Type 0 where
+  stays : {u : U} → Led gives u u
+  goes : {u w v : U} → (line : ℕ) → (call : Call) → gives u line call w → Led gives w v → Led gives u v

@@ -1,0 +1,100 @@
+//! A node's calls, each through its door.
+ghost use Rattle.std.specs.Prelude.{◌≡◌, ℕ, ◌<◌, IfOk};
+ghost use Rattle.sci_ops.specs.declared.goals.Goal as goal;
+ghost use Rattle.sci_ops.specs.declared.goals.Write as write;
+ghost use Rattle.sci_ops.specs.Change.{StoresFitting};
+ghost use Rattle.sci_work.specs.Workers.{IsReady, Led};
+
+use crate::doors::Door;
+use crate::gates::Gate;
+use crate::refusals::WorkRefusal;
+use sci_cache::{Node, NodeRefusal};
+use sci_ops::Answer;
+use sci_port::Bank;
+use sci_words::LineNo;
+use std::sync::Wait;
+
+// The refusals that a call has on a line that there is, where none is open.
+fn refused(refusal: NodeRefusal) -> WorkRefusal {
+    match refusal {
+        NodeRefusal::StampsSpent => WorkRefusal::StampsSpent,
+        _ => WorkRefusal::OutOfMemory,
+    }
+}
+
+/// The words of a line. The refusals: 25 and 20 before the call, then 7.
+pub(crate) fn loaded<R: Wait, G: Gate, B: Bank>(
+    rt: &R,
+    door: &mut Door<'_, G>,
+    node: &mut Node,
+    bank: &mut B,
+    line: LineNo,
+) -> Result<[u64; 8], WorkRefusal>
+    requires ready { IsReady B.at_step (B.way bank.old) node.old bank.old }
+    requires line { line < (B.way bank.old).lines }
+    ensures fits { IfOk result (λ words. B.Keep.fits (B.keep bank.old) line words) }
+    ensures ready { IsReady B.at_step (B.way bank.new) node.new bank.new }
+    ensures led { Led B.gives bank.old bank.new }
+    ensures same_way { B.way bank.new ≡ B.way bank.old }
+    ensures same_fact { B.keep bank.new ≡ B.keep bank.old }
+{
+    door.enter()?;
+    let answer = node.load(rt, bank, line);
+    door.leave();
+    match answer {
+        Ok(Answer::Seen { words, .. }) => Ok(words),
+        Ok(_) => unreachable!(),
+        Err(refusal) => Err(refused(refusal)),
+    }
+}
+
+/// Replaces a line's words. The refusals: 25 and 20 before the call, then 7 and 11.
+pub(crate) fn written<R: Wait, G: Gate, B: Bank>(
+    rt: &R,
+    door: &mut Door<'_, G>,
+    node: &mut Node,
+    bank: &mut B,
+    line: LineNo,
+    words: [u64; 8],
+) -> Result<(), WorkRefusal>
+    requires ready { IsReady B.at_step (B.way bank.old) node.old bank.old }
+    requires line { line < (B.way bank.old).lines }
+    requires fits { B.Keep.fits (B.keep bank.old) line words }
+    ensures ready { IsReady B.at_step (B.way bank.new) node.new bank.new }
+    ensures led { Led B.gives bank.old bank.new }
+    ensures same_way { B.way bank.new ≡ B.way bank.old }
+    ensures same_fact { B.keep bank.new ≡ B.keep bank.old }
+{
+    door.enter()?;
+    let answer = node.write_line(rt, bank, line, words);
+    door.leave();
+    match answer {
+        Ok(_) => Ok(()),
+        Err(refusal) => Err(refused(refusal)),
+    }
+}
+
+/// Adds 1 to word 0 of a line. The refusals: 25 and 20 before the call, then 7 and 11.
+pub(crate) fn added<R: Wait, G: Gate, B: Bank>(
+    rt: &R,
+    door: &mut Door<'_, G>,
+    node: &mut Node,
+    bank: &mut B,
+    line: LineNo,
+) -> Result<(), WorkRefusal>
+    requires ready { IsReady B.at_step (B.way bank.old) node.old bank.old }
+    requires line { line < (B.way bank.old).lines }
+    requires fits { StoresFitting (B.Keep.fits (B.keep bank.old) line) (goal.Goal.Write (write.Write.Add 0 1)) }
+    ensures ready { IsReady B.at_step (B.way bank.new) node.new bank.new }
+    ensures led { Led B.gives bank.old bank.new }
+    ensures same_way { B.way bank.new ≡ B.way bank.old }
+    ensures same_fact { B.keep bank.new ≡ B.keep bank.old }
+{
+    door.enter()?;
+    let answer = node.add(rt, bank, line, 0, 1);
+    door.leave();
+    match answer {
+        Ok(_) => Ok(()),
+        Err(refusal) => Err(refused(refusal)),
+    }
+}

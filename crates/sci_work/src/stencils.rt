@@ -1,0 +1,3 @@
+//! A stencil: cells that take in their neighbours, phase by phase.
+mod tiles;
+mod worker;

@@ -1,0 +1,231 @@
+//! What each node does of a stencil.
+ghost use Rattle.std.specs.Prelude.{◌≡◌, ◌∷◌, ℕ, ◌+◌, ◌-◌, ◌*◌, ◌/◌, ◌%◌, ◌^◌, ◌<◌, ◌≤◌, IfOk, length, slice_index, vec_len, false};
+ghost use Rattle.sci_work.specs.Plain.{plain};
+ghost use Rattle.sci_work.specs.Shares.{IsShare, IsWork};
+ghost use Rattle.sci_work.specs.Stencil.{HoldsTile};
+ghost use Rattle.sci_work.specs.Workers.{IsReady, Led};
+
+use crate::calls::{loaded, written};
+use crate::doors::Door;
+use crate::gates::Gate;
+use crate::refusals::WorkRefusal;
+use crate::stencils::tiles::{advanced, opening};
+use crossbeam_utils::Backoff;
+use sci_cache::Node;
+use sci_port::Bank;
+use std::alloc::Global;
+use std::sync::Wait;
+
+/// What all nodes work on.
+#[derive(Clone, Copy)]
+pub(crate) struct Work<'a> {
+    pub(crate) cells: &'a [u64],
+    pub(crate) phases: u64,
+    pub(crate) tiles: u16,
+    pub(crate) nodes: u16,
+}
+
+/// The words of a tile once it stands at this phase. Refusal 19 where it is found at a later one.
+#[tactic(auto, using(crate::proofs::Rests::led_then, crate::proofs::Rests::led_not))]
+fn awaited<R: Wait, G: Gate, B: Bank>(
+    rt: &R,
+    door: &mut Door<'_, G>,
+    node: &mut Node,
+    bank: &mut B,
+    work: Work<'_>,
+    tile: u16,
+    phase: u64,
+) -> Result<[u64; 8], WorkRefusal>
+    requires ready { IsReady B.at_step (B.way bank.old) node.old bank.old }
+    requires work { IsWork (B.Keep.fits (B.keep bank.old)) work.cells.now work.phases work.tiles (B.way bank.old).lines }
+    requires tile { tile < work.tiles }
+    requires phase { phase ≤ work.phases }
+    ensures number { IfOk result (λ words. slice_index words 0 ≡ phase + 1) }
+    ensures cells { IfOk result (λ words. HoldsTile (plain work.entry.cells.now phase) tile words) }
+    ensures ready { IsReady B.at_step (B.way bank.new) node.new bank.new }
+    ensures led { Led B.gives bank.old bank.new }
+    ensures same_way { B.way bank.new ≡ B.way bank.old }
+    ensures same_fact { B.keep bank.new ≡ B.keep bank.old }
+{
+    let line = 2 * tile + (phase % 2) as u16;
+    let backoff = Backoff::new();
+    for _ in rt.forever() {
+        let words = loaded(rt, door, node, bank, line)?;
+        if words[0] == phase + 1 {
+            return Ok(words);
+        }
+        if words[0] > phase + 1 {
+            return Err(WorkRefusal::Overrun);
+        }
+        backoff.snooze();
+    }
+    unreachable!()
+}
+
+/// The cell before a tile after a phase: that of the tile before it, or 0.
+#[tactic(auto, using(crate::proofs::Rests::led_not))]
+fn cell_before<R: Wait, G: Gate, B: Bank>(
+    rt: &R,
+    door: &mut Door<'_, G>,
+    node: &mut Node,
+    bank: &mut B,
+    work: Work<'_>,
+    tile: u16,
+    phase: u64,
+) -> Result<u64, WorkRefusal>
+    requires ready { IsReady B.at_step (B.way bank.old) node.old bank.old }
+    requires work { IsWork (B.Keep.fits (B.keep bank.old)) work.cells.now work.phases work.tiles (B.way bank.old).lines }
+    requires tile { tile < work.tiles }
+    requires phase { phase ≤ work.phases }
+    ensures cell { IfOk result (λ x. x ≡ slice_index (0 ∷ plain work.entry.cells.now phase) (7 * tile)) }
+    ensures ready { IsReady B.at_step (B.way bank.new) node.new bank.new }
+    ensures led { Led B.gives bank.old bank.new }
+    ensures same_way { B.way bank.new ≡ B.way bank.old }
+    ensures same_fact { B.keep bank.new ≡ B.keep bank.old }
+{
+    if tile == 0 {
+        return Ok(0);
+    }
+    let words = awaited(rt, door, node, bank, work, tile - 1, phase)?;
+    Ok(words[7])
+}
+
+/// The cell behind a tile after a phase: that of the tile behind it, or 0.
+#[tactic(auto, using(crate::proofs::Rests::led_not))]
+fn cell_behind<R: Wait, G: Gate, B: Bank>(
+    rt: &R,
+    door: &mut Door<'_, G>,
+    node: &mut Node,
+    bank: &mut B,
+    work: Work<'_>,
+    tile: u16,
+    phase: u64,
+) -> Result<u64, WorkRefusal>
+    requires ready { IsReady B.at_step (B.way bank.old) node.old bank.old }
+    requires work { IsWork (B.Keep.fits (B.keep bank.old)) work.cells.now work.phases work.tiles (B.way bank.old).lines }
+    requires tile { tile < work.tiles }
+    requires phase { phase ≤ work.phases }
+    ensures cell { IfOk result (λ x. x ≡ slice_index (plain work.entry.cells.now phase) (7 * tile + 7)) }
+    ensures ready { IsReady B.at_step (B.way bank.new) node.new bank.new }
+    ensures led { Led B.gives bank.old bank.new }
+    ensures same_way { B.way bank.new ≡ B.way bank.old }
+    ensures same_fact { B.keep bank.new ≡ B.keep bank.old }
+{
+    if tile + 1 == work.tiles {
+        return Ok(0);
+    }
+    let words = awaited(rt, door, node, bank, work, tile + 1, phase)?;
+    Ok(words[1])
+}
+
+/// Takes a tile one phase on.
+#[tactic(auto, using(crate::proofs::Rests::led_then, crate::proofs::Rests::led_not))]
+fn advance<R: Wait, G: Gate, B: Bank>(
+    rt: &R,
+    door: &mut Door<'_, G>,
+    node: &mut Node,
+    bank: &mut B,
+    work: Work<'_>,
+    tile: u16,
+    phase: u64,
+) -> Result<(), WorkRefusal>
+    requires ready { IsReady B.at_step (B.way bank.old) node.old bank.old }
+    requires work { IsWork (B.Keep.fits (B.keep bank.old)) work.cells.now work.phases work.tiles (B.way bank.old).lines }
+    requires tile { tile < work.tiles }
+    requires phase { phase < work.phases }
+    ensures ready { IsReady B.at_step (B.way bank.new) node.new bank.new }
+    ensures led { Led B.gives bank.old bank.new }
+    ensures same_way { B.way bank.new ≡ B.way bank.old }
+    ensures same_fact { B.keep bank.new ≡ B.keep bank.old }
+{
+    let own = awaited(rt, door, node, bank, work, tile, phase)?;
+    let left = cell_before(rt, door, node, bank, work, tile, phase)?;
+    let right = cell_behind(rt, door, node, bank, work, tile, phase)?;
+    let line = 2 * tile + ((phase + 1) % 2) as u16;
+    written(rt, door, node, bank, line, advanced(left, &own, right))
+}
+
+/// Writes the node's tiles as they open.
+#[tactic(auto, using(crate::proofs::Rests::led_then, crate::proofs::Rests::led_not))]
+fn open_all<R: Wait, G: Gate, B: Bank>(
+    rt: &R,
+    door: &mut Door<'_, G>,
+    node: &mut Node,
+    bank: &mut B,
+    work: Work<'_>,
+    number: u16,
+) -> Result<(), WorkRefusal>
+    requires ready { IsReady B.at_step (B.way bank.old) node.old bank.old }
+    requires work { IsWork (B.Keep.fits (B.keep bank.old)) work.cells.now work.phases work.tiles (B.way bank.old).lines }
+    requires nodes { (number < work.nodes) × (work.nodes ≤ 64) }
+    ensures ready { IsReady B.at_step (B.way bank.new) node.new bank.new }
+    ensures led { Led B.gives bank.old bank.new }
+    ensures same_way { B.way bank.new ≡ B.way bank.old }
+    ensures same_fact { B.keep bank.new ≡ B.keep bank.old }
+{
+    let mut tile = number;
+    while tile < work.tiles {
+        let words = opening(work.cells, 7 * usize::from(tile));
+        written(rt, door, node, bank, 2 * tile, words)?;
+        tile += work.nodes;
+    }
+    Ok(())
+}
+
+/// Takes the node's tiles one phase on.
+#[tactic(auto, using(crate::proofs::Rests::led_then, crate::proofs::Rests::led_not))]
+fn advance_all<R: Wait, G: Gate, B: Bank>(
+    rt: &R,
+    door: &mut Door<'_, G>,
+    node: &mut Node,
+    bank: &mut B,
+    work: Work<'_>,
+    number: u16,
+    phase: u64,
+) -> Result<(), WorkRefusal>
+    requires ready { IsReady B.at_step (B.way bank.old) node.old bank.old }
+    requires work { IsWork (B.Keep.fits (B.keep bank.old)) work.cells.now work.phases work.tiles (B.way bank.old).lines }
+    requires nodes { (number < work.nodes) × (work.nodes ≤ 64) }
+    requires phase { phase < work.phases }
+    ensures ready { IsReady B.at_step (B.way bank.new) node.new bank.new }
+    ensures led { Led B.gives bank.old bank.new }
+    ensures same_way { B.way bank.new ≡ B.way bank.old }
+    ensures same_fact { B.keep bank.new ≡ B.keep bank.old }
+{
+    let mut tile = number;
+    while tile < work.tiles {
+        advance(rt, door, node, bank, work, tile, phase)?;
+        tile += work.nodes;
+    }
+    Ok(())
+}
+
+/// The cells of the node's tiles after the last phase.
+#[tactic(auto, using(crate::proofs::Rests::led_then, crate::proofs::Rests::led_not))]
+fn collect<R: Wait, G: Gate, B: Bank>(
+    rt: &R,
+    alloc: Global,
+    door: &mut Door<'_, G>,
+    node: &mut Node,
+    bank: &mut B,
+    work: Work<'_>,
+    number: u16,
+) -> Result<Vec<u64>, WorkRefusal>
+    requires ready { IsReady B.at_step (B.way bank.old) node.old bank.old }
+    requires work { IsWork (B.Keep.fits (B.keep bank.old)) work.cells.now work.phases work.tiles (B.way bank.old).lines }
+    requires nodes { (number < work.nodes) × (work.nodes ≤ 64) }
+    ensures share { IfOk result (λ v. IsShare (plain work.entry.cells.now work.entry.phases) work.entry.nodes number work.entry.tiles v.items) }
+    ensures ready { IsReady B.at_step (B.way bank.new) node.new bank.new }
+    ensures led { Led B.gives bank.old bank.new }
+    ensures same_way { B.way bank.new ≡ B.way bank.old }
+    ensures same_fact { B.keep bank.new ≡ B.keep bank.old }
+{
+    let mut share = Vec::new(alloc);
+    let mut tile = number;
+    while tile < work.tiles {
+        let words = awaited(rt, door, node, bank, work, tile, work.phases)?;
+        share.extend_from_slice(&words[1..])?;
+        tile += work.nodes;
+    }
+    Ok(share)
+}
