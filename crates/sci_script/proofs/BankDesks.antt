@@ -14,6 +14,7 @@ use Rattle.sci_port.specs.Owes.{IsMem, IsTag}
 use Rattle.sci_port.specs.declared.calls.Call.{Call}
 use Rattle.sci_ops.specs.declared.answers.Turn.{Turn}
 use Rattle.sci_cache.specs.Nodes.{NodeState, TurnsBy}
+use Rattle.sci_script.specs.declared.commands.Size.{Size}
 use Rattle.sci_script.specs.BankDesks.{Banked, IsBanked, IsBankOf, AreBanksOf, Asks, TurnsNode, banked, node_at}
 use Rattle.sci_script.specs.Nodes.{AreNodesOf}
 
@@ -107,3 +108,12 @@ mem_link n k (Some m) e h = link_is_below n k m.forw e h.1
 pub tag_link : (n k : ℕ) (answer : Option Tag) → n ≡ k → IfSome answer (λ (t : Tag). IsTag n t) → IfSome answer (λ t. IfSome t.forw (λ x. x < k))
 tag_link n k None e h = tt
 tag_link n k (Some t) e h = link_is_below n k t.forw e (first_holds (link_below n t.forw) (link_below n t.back) h.1)
+
+-- the bank of a desk of one node
+module _ {B : Type 0} (way : B → BankWay) (nodes_on : B → ℕ → ℕ) (fits : B → ℕ → List ℕ → Type 0) (size : Size) (b : B) (one : size.nodes ≡ 1) (is : IsBankOf way nodes_on fits size 0 b) where
+  the_bank : (node : ℕ) (x : B) → slice_get (b ∷ []) node ≡ Some x → IsBankOf way nodes_on fits size node x
+  the_bank zero x e = subst (λ (y : B). IsBankOf way nodes_on fits size 0 y) (let z = e in cc) is
+  the_bank (suc k) x e = absurd (let z = e in cc)
+
+  pub only_bank : AreBanksOf way nodes_on fits size (b ∷ [])
+  only_bank = record { count = sym one; each = the_bank }

@@ -10,3 +10,4 @@ pub mod Desks
 pub mod Through
 pub mod Extended
 pub mod BankDesks
+pub mod Unheard

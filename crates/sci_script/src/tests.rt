@@ -1,6 +1,7 @@
 //! Scripts, their runner, and the lines that it prints.
 ghost use Rattle.std.specs.Prelude.{◌≡◌, ◌<◌};
 
+mod banks;
 mod desks;
 mod extremes;
 mod faltering;

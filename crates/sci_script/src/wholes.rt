@@ -28,7 +28,7 @@ pub struct WholeDesk {
 }
 
 /// The lines of a script with what they open with, which nobody has used.
-fn unused(alloc: Global, script: &Script) -> Result<Vec<Whole<AnyWords>>, AllocError>
+pub(crate) fn unused(alloc: Global, script: &Script) -> Result<Vec<Whole<AnyWords>>, AllocError>
     ensures count { IfOk result (λ wholes. length wholes.items ≡ script.now.size.lines) }
     ensures opened { IfOk result (λ wholes. AreOpened script.now.size.nodes script.now.openings.items script.now.size.lines wholes.items) }
 {

@@ -4,8 +4,10 @@
 //! Where a call makes up for a refused growth by a later one, it answers Ok.
 ghost use Rattle.std.specs.Prelude.{None};
 
+use super::banks::{Unheard, is_bank, unheard_bank};
 use super::{node, tag};
-use crate::{Script, ScriptRefusal, WholeDesk, list_text, read_script, tag_text};
+use crate::{BankDesk, Script, ScriptRefusal, WholeDesk, list_text, read_script, tag_text};
+use sci_port::Bank;
 use sci_words::{Kind, Mem, MemState};
 use std::alloc::{AllocError, Global};
 use std::io;
@@ -13,7 +15,7 @@ use std::io::Write;
 use std::process::Abort;
 use std::test::Fail;
 
-const LAST: u16 = 34;
+const LAST: u16 = 42;
 
 const SCRIPT: &str = "memory 1 1\nload 0 0 0\ndone 0\nlist 0\nresidents 0\n";
 
@@ -139,6 +141,41 @@ fn shows(rt: &impl Abort, alloc: Global) -> Result<(), Fail> {
     Err(Fail::new("tag_text answered 7"))
 }
 
+/// Whether they are the banks that a desk was to be made of.
+fn are_banks(banks: &[Unheard]) -> bool {
+    match banks {
+        [only] => only.lines() == 1,
+        _ => false,
+    }
+}
+
+#[tactic(auto, using(crate::proofs::BankDesks::only_bank))]
+fn seats(rt: &impl Abort, alloc: Global, script: &Script) -> Result<(), Fail> {
+    let bank = unheard_bank(script.lines());
+    if script.nodes() != 1 || !is_bank(script, &bank, 0) {
+        return Err(Fail::new("it is not its bank"));
+    }
+    let mut banks = Vec::new(alloc);
+    if banks.push(bank).is_err() {
+        return Err(Fail::new("push answered 7"));
+    }
+    match BankDesk::new(alloc, script, banks) {
+        Ok(desk) => {
+            assert!(rt; are_banks(&desk.into_banks()));
+            Ok(())
+        }
+        Err(none) => {
+            assert_eq!(rt; none.number(), 7);
+            assert!(rt; are_banks(&none.banks));
+            if let Ok(desk) = BankDesk::new(alloc, script, none.banks) {
+                assert!(rt; are_banks(&desk.into_banks()));
+                return Err(Fail::new("new answered 7"));
+            }
+            Err(Fail::new("new answered 7 twice"))
+        }
+    }
+}
+
 fn refuses(rt: &impl Abort, alloc: Global, spent: u16) -> Result<(), Fail> {
     if spend(alloc, spent).is_err() {
         return Err(Fail::new("spending answered 7"));
@@ -149,6 +186,7 @@ fn refuses(rt: &impl Abort, alloc: Global, spent: u16) -> Result<(), Fail> {
     runs(rt, alloc, &script)?;
     lists(rt, alloc)?;
     shows(rt, alloc)?;
+    seats(rt, alloc, &script)?;
     if spend(alloc, 1).is_err() {
         return Err(Fail::new("nothing answered 7"));
     }
@@ -326,6 +364,46 @@ fn growth_33_of_tag_text(rt: HostRuntime) -> Result<(), Fail> {
 }
 
 #[test]
-fn growth_34_of_nothing(rt: HostRuntime) -> Result<(), Fail> {
+fn growth_34_of_push(rt: HostRuntime) -> Result<(), Fail> {
+    refuses(&rt, rt.alloc(), LAST - 34)
+}
+
+#[test]
+fn growth_35_of_new(rt: HostRuntime) -> Result<(), Fail> {
+    refuses(&rt, rt.alloc(), LAST - 35)
+}
+
+#[test]
+fn growth_36_of_new(rt: HostRuntime) -> Result<(), Fail> {
+    refuses(&rt, rt.alloc(), LAST - 36)
+}
+
+#[test]
+fn growth_37_of_new(rt: HostRuntime) -> Result<(), Fail> {
+    refuses(&rt, rt.alloc(), LAST - 37)
+}
+
+#[test]
+fn growth_38_of_new(rt: HostRuntime) -> Result<(), Fail> {
+    refuses(&rt, rt.alloc(), LAST - 38)
+}
+
+#[test]
+fn growth_39_of_new(rt: HostRuntime) -> Result<(), Fail> {
+    refuses(&rt, rt.alloc(), LAST - 39)
+}
+
+#[test]
+fn growth_40_of_new(rt: HostRuntime) -> Result<(), Fail> {
+    refuses(&rt, rt.alloc(), LAST - 40)
+}
+
+#[test]
+fn growth_41_of_new(rt: HostRuntime) -> Result<(), Fail> {
+    refuses(&rt, rt.alloc(), LAST - 41)
+}
+
+#[test]
+fn growth_42_of_nothing(rt: HostRuntime) -> Result<(), Fail> {
     refuses(&rt, rt.alloc(), 0)
 }
