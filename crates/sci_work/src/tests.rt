@@ -1,4 +1,5 @@
-//! The numbers of refusals, and the open gate.
+//! The numbers of refusals, the open gate, a ring, and a node over separate words.
 mod gates;
+mod nodes;
 mod refusals;
 mod rings;
