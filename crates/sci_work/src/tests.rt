@@ -1,4 +1,7 @@
-//! The numbers of refusals, and the open gate.
+//! The workloads.
+mod counts;
 mod gates;
+mod growths;
+mod meeting;
 mod refusals;
 mod rings;
