@@ -1,8 +1,11 @@
 pub mod Calling
+pub mod Handed
 pub mod Making
 pub mod Plain
+pub mod Refusing
 pub mod Rests
 pub mod Rings
+pub mod Seated
 pub mod Sharing
 pub mod Showing
 pub mod Words

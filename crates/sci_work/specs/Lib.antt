@@ -1,7 +1,11 @@
+pub mod Ended
+pub mod Hands
 pub mod Made
 pub mod Plain
+pub mod Programs
 pub mod Refusals
 pub mod Ring
 pub mod Shares
+pub mod Starts
 pub mod Stencil
 pub mod Workers

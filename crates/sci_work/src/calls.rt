@@ -1,8 +1,9 @@
 //! A node's calls, each through its door.
-ghost use Rattle.std.specs.Prelude.{◌≡◌, ℕ, ◌<◌, IfOk};
+ghost use Rattle.std.specs.Prelude.{◌≡◌, ℕ, ◌<◌, IfOk, IfErr};
 ghost use Rattle.sci_ops.specs.declared.goals.Goal as goal;
 ghost use Rattle.sci_ops.specs.declared.goals.Write as write;
 ghost use Rattle.sci_ops.specs.Change.{StoresFitting};
+ghost use Rattle.sci_work.specs.Made.{ComesInWork};
 ghost use Rattle.sci_work.specs.Workers.{IsReady, Led};
 
 use crate::doors::Door;
@@ -15,7 +16,9 @@ use sci_words::LineNo;
 use std::sync::Wait;
 
 // The refusals that a call has on a line that there is, where none is open.
-fn refused(refusal: NodeRefusal) -> WorkRefusal {
+fn refused(refusal: NodeRefusal) -> WorkRefusal
+    ensures { ComesInWork result }
+{
     match refusal {
         NodeRefusal::StampsSpent => WorkRefusal::StampsSpent,
         _ => WorkRefusal::OutOfMemory,
@@ -33,6 +36,7 @@ pub(crate) fn loaded<R: Wait, G: Gate, B: Bank>(
     requires ready { IsReady B.at_step (B.way bank.old) node.old bank.old }
     requires line { line < (B.way bank.old).lines }
     ensures fits { IfOk result (λ words. B.Keep.fits (B.keep bank.old) line words) }
+    ensures err { IfErr result ComesInWork }
     ensures ready { IsReady B.at_step (B.way bank.new) node.new bank.new }
     ensures led { Led B.gives bank.old bank.new }
     ensures same_way { B.way bank.new ≡ B.way bank.old }
@@ -60,6 +64,7 @@ pub(crate) fn written<R: Wait, G: Gate, B: Bank>(
     requires ready { IsReady B.at_step (B.way bank.old) node.old bank.old }
     requires line { line < (B.way bank.old).lines }
     requires fits { B.Keep.fits (B.keep bank.old) line words }
+    ensures err { IfErr result ComesInWork }
     ensures ready { IsReady B.at_step (B.way bank.new) node.new bank.new }
     ensures led { Led B.gives bank.old bank.new }
     ensures same_way { B.way bank.new ≡ B.way bank.old }
@@ -85,6 +90,7 @@ pub(crate) fn added<R: Wait, G: Gate, B: Bank>(
     requires ready { IsReady B.at_step (B.way bank.old) node.old bank.old }
     requires line { line < (B.way bank.old).lines }
     requires fits { StoresFitting (B.Keep.fits (B.keep bank.old) line) (goal.Goal.Write (write.Write.Add 0 1)) }
+    ensures err { IfErr result ComesInWork }
     ensures ready { IsReady B.at_step (B.way bank.new) node.new bank.new }
     ensures led { Led B.gives bank.old bank.new }
     ensures same_way { B.way bank.new ≡ B.way bank.old }

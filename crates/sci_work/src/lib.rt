@@ -2,15 +2,21 @@
 #![tactic(auto)]
 
 mod calls;
+mod counting;
 mod doors;
 mod facts;
 mod gates;
+mod programs;
 mod refusals;
 mod ring;
+mod seating;
+mod starting;
 mod stencils;
 #[cfg(test)]
 mod tests;
+mod values;
 
+pub use counting::count;
 pub use facts::{RingFact, StencilFact};
 pub use gates::{Gate, OpenGate};
 pub use refusals::WorkRefusal;

@@ -48,6 +48,11 @@ impl WorkRefusal {
 }
 
 impl From<AllocError> for WorkRefusal {
+    ghost use Rattle.std.specs.Prelude.{◌≡◌};
+    ghost use Rattle.sci_work.specs.declared.refusals.WorkRefusal.TheVariants.{OutOfMemory};
+
+    ghost from_gives = { λ _ r. r ≡ OutOfMemory };
+
     fn from(_refused: AllocError) -> WorkRefusal {
         WorkRefusal::OutOfMemory
     }

@@ -1,5 +1,8 @@
-//! The numbers of refusals, the open gate, a ring, and a node over separate words.
+//! The workloads, and a node over separate words.
+mod counts;
 mod gates;
+mod growths;
+mod meeting;
 mod nodes;
 mod refusals;
 mod rings;

@@ -1,5 +1,6 @@
 //! What each node does of a stencil.
-ghost use Rattle.std.specs.Prelude.{◌≡◌, ◌∷◌, ℕ, ◌+◌, ◌-◌, ◌*◌, ◌/◌, ◌%◌, ◌^◌, ◌<◌, ◌≤◌, IfOk, length, slice_index, vec_len, false};
+ghost use Rattle.std.specs.Prelude.{◌≡◌, ◌∷◌, ℕ, ◌+◌, ◌-◌, ◌*◌, ◌/◌, ◌%◌, ◌^◌, ◌<◌, ◌≤◌, IfOk, length, slice_index, vec_len, false, IfErr};
+ghost use Rattle.sci_work.specs.Made.{ComesInWork};
 ghost use Rattle.sci_work.specs.Plain.{plain};
 ghost use Rattle.sci_work.specs.Shares.{IsShare, IsWork};
 ghost use Rattle.sci_work.specs.Stencil.{HoldsTile};
@@ -42,6 +43,7 @@ fn awaited<R: Wait, G: Gate, B: Bank>(
     requires phase { phase ≤ work.phases }
     ensures number { IfOk result (λ words. slice_index words 0 ≡ phase + 1) }
     ensures cells { IfOk result (λ words. HoldsTile (plain work.entry.cells.now phase) tile words) }
+    ensures err { IfErr result ComesInWork }
     ensures ready { IsReady B.at_step (B.way bank.new) node.new bank.new }
     ensures led { Led B.gives bank.old bank.new }
     ensures same_way { B.way bank.new ≡ B.way bank.old }
@@ -78,6 +80,7 @@ fn cell_before<R: Wait, G: Gate, B: Bank>(
     requires tile { tile < work.tiles }
     requires phase { phase ≤ work.phases }
     ensures cell { IfOk result (λ x. x ≡ slice_index (0 ∷ plain work.entry.cells.now phase) (7 * tile)) }
+    ensures err { IfErr result ComesInWork }
     ensures ready { IsReady B.at_step (B.way bank.new) node.new bank.new }
     ensures led { Led B.gives bank.old bank.new }
     ensures same_way { B.way bank.new ≡ B.way bank.old }
@@ -106,6 +109,7 @@ fn cell_behind<R: Wait, G: Gate, B: Bank>(
     requires tile { tile < work.tiles }
     requires phase { phase ≤ work.phases }
     ensures cell { IfOk result (λ x. x ≡ slice_index (plain work.entry.cells.now phase) (7 * tile + 7)) }
+    ensures err { IfErr result ComesInWork }
     ensures ready { IsReady B.at_step (B.way bank.new) node.new bank.new }
     ensures led { Led B.gives bank.old bank.new }
     ensures same_way { B.way bank.new ≡ B.way bank.old }
@@ -133,6 +137,7 @@ fn advance<R: Wait, G: Gate, B: Bank>(
     requires work { IsWork (B.Keep.fits (B.keep bank.old)) work.cells.now work.phases work.tiles (B.way bank.old).lines }
     requires tile { tile < work.tiles }
     requires phase { phase < work.phases }
+    ensures err { IfErr result ComesInWork }
     ensures ready { IsReady B.at_step (B.way bank.new) node.new bank.new }
     ensures led { Led B.gives bank.old bank.new }
     ensures same_way { B.way bank.new ≡ B.way bank.old }
@@ -158,6 +163,7 @@ fn open_all<R: Wait, G: Gate, B: Bank>(
     requires ready { IsReady B.at_step (B.way bank.old) node.old bank.old }
     requires work { IsWork (B.Keep.fits (B.keep bank.old)) work.cells.now work.phases work.tiles (B.way bank.old).lines }
     requires nodes { (number < work.nodes) × (work.nodes ≤ 64) }
+    ensures err { IfErr result ComesInWork }
     ensures ready { IsReady B.at_step (B.way bank.new) node.new bank.new }
     ensures led { Led B.gives bank.old bank.new }
     ensures same_way { B.way bank.new ≡ B.way bank.old }
@@ -187,6 +193,7 @@ fn advance_all<R: Wait, G: Gate, B: Bank>(
     requires work { IsWork (B.Keep.fits (B.keep bank.old)) work.cells.now work.phases work.tiles (B.way bank.old).lines }
     requires nodes { (number < work.nodes) × (work.nodes ≤ 64) }
     requires phase { phase < work.phases }
+    ensures err { IfErr result ComesInWork }
     ensures ready { IsReady B.at_step (B.way bank.new) node.new bank.new }
     ensures led { Led B.gives bank.old bank.new }
     ensures same_way { B.way bank.new ≡ B.way bank.old }
@@ -215,6 +222,7 @@ fn collect<R: Wait, G: Gate, B: Bank>(
     requires work { IsWork (B.Keep.fits (B.keep bank.old)) work.cells.now work.phases work.tiles (B.way bank.old).lines }
     requires nodes { (number < work.nodes) × (work.nodes ≤ 64) }
     ensures share { IfOk result (λ v. IsShare (plain work.entry.cells.now work.entry.phases) work.entry.nodes number work.entry.tiles v.items) }
+    ensures err { IfErr result ComesInWork }
     ensures ready { IsReady B.at_step (B.way bank.new) node.new bank.new }
     ensures led { Led B.gives bank.old bank.new }
     ensures same_way { B.way bank.new ≡ B.way bank.old }
@@ -228,4 +236,32 @@ fn collect<R: Wait, G: Gate, B: Bank>(
         tile += work.nodes;
     }
     Ok(share)
+}
+
+/// All that a node does of a stencil: its tiles' cells after the last phase.
+#[tactic(auto, using(crate::proofs::Rests::led_then, crate::proofs::Rests::led_not))]
+pub(crate) fn worked<R: Wait, G: Gate, B: Bank>(
+    rt: &R,
+    alloc: Global,
+    door: &mut Door<'_, G>,
+    node: &mut Node,
+    bank: &mut B,
+    work: Work<'_>,
+    number: u16,
+) -> Result<Vec<u64>, WorkRefusal>
+    requires ready { IsReady B.at_step (B.way bank.old) node.old bank.old }
+    requires work { IsWork (B.Keep.fits (B.keep bank.old)) work.cells.now work.phases work.tiles (B.way bank.old).lines }
+    requires nodes { (number < work.nodes) × (work.nodes ≤ 64) }
+    ensures share { IfOk result (λ v. IsShare (plain work.entry.cells.now work.entry.phases) work.entry.nodes number work.entry.tiles v.items) }
+    ensures err { IfErr result ComesInWork }
+    ensures ready { IsReady B.at_step (B.way bank.new) node.new bank.new }
+    ensures led { Led B.gives bank.old bank.new }
+    ensures same_way { B.way bank.new ≡ B.way bank.old }
+    ensures same_fact { B.keep bank.new ≡ B.keep bank.old }
+{
+    open_all(rt, door, node, bank, work, number)?;
+    for phase in 0..work.phases {
+        advance_all(rt, door, node, bank, work, number, phase)?;
+    }
+    collect(rt, alloc, door, node, bank, work, number)
 }

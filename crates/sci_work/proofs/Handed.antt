@@ -1,0 +1,58 @@
+-- A node's hand, as the seats of its bank before the node works and after.
+use Rattle.std.proofs.Common.{◌≡◌, ℕ, zero, suc, List, [], ◌∷◌, length, map, get_or, refl, sym, subst, arith}
+use Rattle.std.proofs.lemmas.List.{length-map}
+use mathlib.Core.Option.{some, some-injective, some-ne-none}
+use lib.ListN.{get_elem?}
+use Rattle.sci_core.specs.declared.keeps.Keeps as keeps
+use Rattle.sci_core.specs.declared.pending.Pending.{Pending}
+use Rattle.sci_port.proofs.Seated.{at_place}
+use Rattle.sci_fine.specs.declared.line.FineLine.{FineLine}
+use Rattle.sci_fine.specs.declared.seats.Seat.{Seat}
+use Rattle.sci_fine.specs.Banks.{AreLines, AreSeatsAt, IsLine}
+use Rattle.sci_work.specs.declared.programs.Program.{Program}
+use Rattle.sci_work.specs.Hands.{IsHandOf}
+use Rattle.sci_work.specs.Programs.{Suits}
+use Rattle.sci_work.proofs.Seated.{all_idle, fact_is, hand_again, node_is}
+
+module _ {K : Type 0} {g : keeps.Ghosts K} where
+  abbrev pub steps_of : List (Seat K g) → List Pending
+  steps_of seats = map (λ (s : Seat K g). s.standing.pending) seats
+
+  -- a bank at these lines, by a hand at them, is Idle on every line
+  pub idle_before : (lines : List (FineLine K)) (number : ℕ) → AreLines lines → (hand seats : List (Seat K g)) → seats ≡ hand → IsHandOf lines number hand → (line : ℕ) → get_or (steps_of seats) line Pending.Idle ≡ Pending.Idle
+  idle_before lines number are hand seats is h line = subst (λ (z : List (Seat K g)). get_or (steps_of z) line Pending.Idle ≡ Pending.Idle) (sym is) (all_idle lines number are hand h line)
+
+  -- and its seats are a hand again where it is Idle on every line after
+  pub hand_after : (lines ls : List (FineLine K)) (number node : ℕ) (keep : K) (seats back : List (Seat K g)) → ls ≡ lines → node ≡ number → back ≡ seats → AreSeatsAt keep node ls seats → ((line : ℕ) → get_or (steps_of seats) line Pending.Idle ≡ Pending.Idle) → IsHandOf lines number back
+  hand_after lines ls number node keep seats back same mine is of idle =
+      subst (λ (z : List (Seat K g)). IsHandOf lines number z) (sym is)
+      (subst (λ (z : List (FineLine K)). IsHandOf z number seats) same
+      (subst (λ (n : ℕ). IsHandOf ls n seats) mine (hand_again ls node keep seats of idle)))
+
+  -- a bank at these lines, by a hand at them
+  module _ (lines : List (FineLine K)) (number : ℕ) (are : AreLines lines) (hand : List (Seat K g)) (h : IsHandOf lines number hand)
+      (ls : List (FineLine K)) (seats : List (Seat K g)) (same : ls ≡ lines) (is : seats ≡ hand) (keep : K) (node : ℕ) (of : AreSeatsAt keep node ls seats) where
+    at_these : AreSeatsAt keep node lines hand
+    at_these = subst (λ (z : List (Seat K g)). AreSeatsAt keep node lines z) is (subst (λ (z : List (FineLine K)). AreSeatsAt keep node z seats) same of)
+
+    -- is that node's
+    pub bank_node : node ≡ number
+    bank_node = node_is lines number are keep node hand at_these h
+
+    -- and what suits the first line's fact suits the bank's
+    pub suits_bank : (fits : K → ℕ → List ℕ → Type 0) (program : Program) → ((l : FineLine K) → get_elem? lines 0 ≡ some l → Suits program (fits l.terms.keep) (length lines) number)
+        → Suits program (fits keep) (length (map (λ (l : FineLine K). l.terms.nodes) ls)) number
+    suits_bank fits program suits =
+        let l = at_place lines 0 are.some_are in
+        let fact = fact_is lines number are keep node hand at_these h l.0 l.1 in
+        subst (λ (z : List (FineLine K)). Suits program (fits keep) (length (map (λ (x : FineLine K). x.terms.nodes) z)) number) (sym same)
+        (subst (λ (n : ℕ). Suits program (fits keep) n number) (sym (length-map lines (λ (x : FineLine K). x.terms.nodes)))
+        (subst (λ (k : K). Suits program (fits k) (length lines) number) fact (suits l.0 l.1)))
+
+-- one line, numbered 0, is a memory
+pub one_line : {K : Type 0} (l : FineLine K) → l.terms.number ≡ 0 → AreLines (l ∷ [])
+one_line {K} l number = record { some_are = omega arith; few = omega arith; nodes = l.terms.nodes; keep = l.terms.keep; each = places }
+  where
+    places : (k : ℕ) (m : FineLine K) → get_elem? (l ∷ []) k ≡ some m → IsLine l.terms.nodes l.terms.keep k m
+    places zero m at = subst (λ (x : FineLine K). IsLine l.terms.nodes l.terms.keep 0 x) (some-injective l m at) record { number = number; nodes_are = refl; fact = refl }
+    places (suc k) m at = absurd (some-ne-none m (sym at))

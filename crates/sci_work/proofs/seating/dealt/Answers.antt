@@ -1,0 +1,29 @@
+use Rattle.std.proofs.Common.{rules, ◌≡◌, ◌∷◌, ℕ, ◌+◌, List, [], length, vec_items, vec_len, arith, sym, subst, ◌∙◌}
+use Rattle.std.specs.Vec.Iter.{into_iter_items}
+use mathlib.Core.Option.{some, some-ne-none}
+use lib.ListN.{get_elem?}
+use Rattle.sci_work.specs.Hands.{IsHandOf, IsIdleSeat}
+use Rattle.sci_work.proofs.Seated.{at_first, at_more, one_hand}
+use Rattle.sci_work.proofs.seating.dealt.Goals as goal
+
+pub loop-seat-init : goal.loop-seat-init
+loop-seat-init g c = record {
+  rest = search rules;
+  left = λ k s e.
+      let h = c.requires k s (subst (λ (z : List _). get_elem? z k ≡ some s) c.into_iter-seat-iterator.ensures.into_iter_gives.0 e) in
+      let at : k + 0 ≡ k + vec_len c.new-hands.result = omega (arith, c.new-hands.ensures.len) in
+      record { of = h.0; node_is = h.1 ∙ at; idle = h.2 };
+  each = λ k x e. absurd (some-ne-none x (sym (subst (λ (z : List _). get_elem? z k ≡ some x) c.new-hands.ensures.items e)));
+}
+
+pub loop-seat-preserved : goal.loop-seat-preserved
+loop-seat-preserved g c =
+    let i = c.loop-seat.invariant in let step = c.in-Some.ensures.steps in let more = c.in-Ok-push.ensures in
+    let here : vec_len c.loop-seat.hands ≡ length c.loop-seat.hands.items = omega (arith, c.loop-seat.hands.ok) in
+    let f = at_first (λ k s. IsIdleSeat k c.args.line.now s) (into_iter_items c.loop-seat.seat-iterator) (into_iter_items c.next.new.self) c.in-Some.seat (vec_len c.loop-seat.hands) step.0 i.left in
+    record {
+      rest = omega (arith, i.rest, step.1, more.len);
+      left = λ k s e. subst (λ (z : ℕ). IsIdleSeat (k + z) c.args.line.now s) (sym more.len) (f.1 k s e);
+      each = at_more (λ k hand. IsHandOf (c.args.line.now ∷ []) k (vec_items hand)) c.loop-seat.hands.items c.push.new.self.items c.in-Ok.hand more.items i.each
+          (one_hand c.args.line.now (length c.loop-seat.hands.items) c.in-Some.seat c.in-Ok.hand.items c.in-Ok.ensures.ok (subst (λ (z : ℕ). IsIdleSeat z c.args.line.now c.in-Some.seat) here f.0));
+    }

@@ -1,0 +1,11 @@
+use Rattle.std.proofs.Common.{ℕ, ◌+◌, ◌∷◌, [], vec_items, vec_len}
+use Rattle.std.specs.Vec.Iter.{into_iter_items}
+use Rattle.sci_fine.specs.Seats.{AreIdle}
+use Rattle.sci_work.specs.Hands.{AtEach, IsHandOf}
+use Rattle.sci_work.proofs.seating.gathered.Given as goal
+
+abbrev pub invariant-loop-hand : goal.invariant-loop-hand
+invariant-loop-hand g l = record {
+  left : AtEach (λ k hand. IsHandOf (l.line ∷ []) (k + vec_len l.seats) (vec_items hand)) (into_iter_items l.hand-iterator);
+  all : AreIdle l.line (vec_items l.seats);
+}

@@ -1,0 +1,17 @@
+use Rattle.std.proofs.Common.{◌≡◌, ◌+◌, ◌≤◌, ℕ, vec_items, vec_len, vec_capacity}
+use Rattle.std.specs.Vec.Iter.{into_iter_items, into_iter_len}
+use Rattle.sci_work.specs.Hands.{AtEach, IsHandOf}
+use Rattle.sci_work.specs.Programs.{IsShareOf}
+use Rattle.sci_work.specs.Starts.{IsPartDone}
+use Rattle.sci_work.proofs.starting.parted.Given as goal
+
+abbrev pub invariant-loop-one : goal.invariant-loop-one
+invariant-loop-one g l = record {
+  rest : vec_len l.hands + into_iter_len l.one-iterator ≡ vec_len l.fn.done;
+  same : vec_len l.shares ≡ vec_len l.hands;
+  room : vec_len l.fn.done ≤ vec_capacity l.hands;
+  share_room : vec_len l.fn.done ≤ vec_capacity l.shares;
+  left : AtEach (λ k one. IsPartDone l.lines l.fn.program (k + vec_len l.hands) (vec_items one.hand) one.share) (into_iter_items l.one-iterator);
+  hands : AtEach (λ k hand. IsHandOf l.lines k (vec_items hand)) (vec_items l.hands);
+  shares : AtEach (λ k share. IsShareOf l.fn.program k (vec_items share)) (vec_items l.shares);
+}

@@ -1,0 +1,16 @@
+-- What a program asks of its lines, and what is true of a node's share. This project's own.
+use Rattle.std.specs.Prelude.{ℕ, ◌<◌, ◌≤◌, List}
+use Rattle.sci_ops.specs.declared.goals.Goal.{Goal}
+use Rattle.sci_ops.specs.declared.goals.Write.{Write}
+use Rattle.sci_ops.specs.Change.{StoresFitting}
+use Rattle.sci_work.specs.declared.programs.Program.{Program}
+use Rattle.sci_work.specs.Plain.{plain}
+use Rattle.sci_work.specs.Shares.{IsShare, IsWork}
+
+abbrev pub Suits : Program → (ℕ → List ℕ → Type 0) → ℕ → ℕ → Type 0
+Suits (Program.Count adds) fits lines number = (0 < lines) × StoresFitting (fits 0) (Goal.Write (Write.Add 0 1))
+Suits (Program.Stencil work) fits lines number = IsWork fits work.cells.now work.phases work.tiles lines × (number < work.nodes) × (work.nodes ≤ 64)
+
+abbrev pub IsShareOf : Program → ℕ → List ℕ → Type 0
+IsShareOf (Program.Count adds) number share = Unit {0}
+IsShareOf (Program.Stencil work) number share = IsShare (plain work.cells.now work.phases) work.nodes number work.tiles share

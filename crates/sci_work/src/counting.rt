@@ -1,0 +1,87 @@
+//! Nodes that count on one line.
+ghost use Rattle.std.specs.Prelude.{◌≡◌, ◌≢◌, ◌<◌, ◌≤◌, ◌↔◌, Err, IfOk, IfErr, IsTrue};
+ghost use Rattle.sci_core.specs.Closed.{IsExactClosed};
+ghost use Rattle.sci_work.specs.Ended.{IsCounted, IsCountSize};
+ghost use Rattle.sci_work.specs.Starts.{ComesInStart};
+
+use crate::gates::Gate;
+use crate::programs::Program;
+use crate::refusals::WorkRefusal;
+use crate::seating::{dealt, gathered};
+use crate::starting::run_all;
+use crate::values::value_of;
+use sci_core::{AnyWords, Closed, Line, OpenRefusal};
+use sci_fine::FineLine;
+use std::alloc::Global;
+use std::slice;
+use std::sync::Wait;
+use std::thread::Threads;
+
+// 1 to 64 nodes, at most 1,000,000 adds each, and a capacity of 1 to 1,024.
+fn is_count_size(nodes: u16, adds: u64, capacity: u16) -> bool
+    ensures { IsTrue result ↔ IsCountSize nodes adds capacity }
+{
+    nodes >= 1 && nodes <= 64 && adds <= 1_000_000 && capacity >= 1 && capacity <= 1024
+}
+
+// The line as it is closed, once each node has ended its adds.
+fn counted<R: Threads + Wait + Sync, G: Gate>(
+    rt: &R,
+    alloc: Global,
+    nodes: u16,
+    adds: u64,
+    capacity: u16,
+    gate: &G,
+) -> Result<Closed, WorkRefusal>
+    requires { (0 < nodes) × (nodes ≤ 64) }
+    ensures ok { IfOk result (λ closed. IsExactClosed closed) }
+    ensures err { IfErr result ComesInStart }
+{
+    let (line, seats) = match FineLine::new(alloc, nodes, 0, Line::ZERO, AnyWords) {
+        Ok(made) => made,
+        Err(OpenRefusal::BadNodes) => unreachable!(),
+        Err(OpenRefusal::OutOfMemory) => return Err(WorkRefusal::OutOfMemory),
+    };
+    let hands = dealt(alloc, &line, seats)?;
+    let program = Program::Count { adds };
+    let (hands, _) = run_all(
+        rt,
+        alloc,
+        gate,
+        slice::from_ref(&line),
+        hands,
+        program,
+        capacity,
+    )?;
+    let seats = gathered(alloc, &line, hands)?;
+    match line.finish(alloc, seats) {
+        Ok(closed) => Ok(closed),
+        Err(_) => Err(WorkRefusal::OutOfMemory),
+    }
+}
+
+/// Each of 1 to 64 nodes, in a thread of its own, adds 1 to word 0 of line 0, at most 1,000,000 times. Gives the word once the
+/// line is closed, and the closed line, an exact sharing list. A node's table names up to 1,024 lines. It may wait for ever. The
+/// refusals: 22 for a number outside these limits; then that of the lowest node whose refusal isn't 25: 7, 11, 20 where the gate
+/// held a call back to its limit, and 26 where the node's thread couldn't be started. A refused growth outside the nodes is 7.
+pub fn count<R: Threads + Wait + Sync, G: Gate>(
+    rt: &R,
+    alloc: Global,
+    nodes: u16,
+    adds: u64,
+    capacity: u16,
+    gate: &G,
+) -> Result<(u64, Vec<Closed>), WorkRefusal>
+    ensures limits { (result ≡ Err WorkRefusal.BadSettings) ↔ (IsCountSize nodes adds capacity → ⊥) }
+    ensures ok { IfOk result (λ r. IsCounted r.0 r.1.items) }
+{
+    if !is_count_size(nodes, adds, capacity) {
+        return Err(WorkRefusal::BadSettings);
+    }
+    let closed = counted(rt, alloc, nodes, adds, capacity, gate)?;
+    let word = value_of(&closed).words[0];
+    let Ok(lines) = vec![in alloc; closed] else {
+        return Err(WorkRefusal::OutOfMemory);
+    };
+    Ok((word, lines))
+}

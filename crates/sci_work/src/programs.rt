@@ -1,0 +1,78 @@
+//! What each node runs.
+ghost use Rattle.std.specs.Prelude.{◌≡◌, ◌<◌, IfOk, IfErr};
+ghost use Rattle.sci_ops.specs.declared.goals.Goal as goal;
+ghost use Rattle.sci_ops.specs.declared.goals.Write as write;
+ghost use Rattle.sci_ops.specs.Change.{StoresFitting};
+ghost use Rattle.sci_work.specs.Made.{ComesInWork};
+ghost use Rattle.sci_work.specs.Programs.{IsShareOf, Suits};
+ghost use Rattle.sci_work.specs.Workers.{IsReady, Led};
+
+use crate::calls::added;
+use crate::doors::Door;
+use crate::gates::Gate;
+use crate::refusals::WorkRefusal;
+use crate::stencils::{Work, worked};
+use sci_cache::Node;
+use sci_port::Bank;
+use std::alloc::Global;
+use std::sync::Wait;
+
+/// A workload's program. Each node runs it with its own number, and gives its share of the result.
+#[derive(Clone, Copy)]
+pub(crate) enum Program<'a> {
+    /// Adds 1 to word 0 of line 0, so often.
+    Count { adds: u64 },
+    /// Its tiles of a stencil.
+    Stencil(Work<'a>),
+}
+
+#[tactic(auto, using(crate::proofs::Rests::led_then, crate::proofs::Rests::led_not))]
+fn counted<R: Wait, G: Gate, B: Bank>(
+    rt: &R,
+    door: &mut Door<'_, G>,
+    node: &mut Node,
+    bank: &mut B,
+    adds: u64,
+) -> Result<(), WorkRefusal>
+    requires ready { IsReady B.at_step (B.way bank.old) node.old bank.old }
+    requires line { 0 < (B.way bank.old).lines }
+    requires fits { StoresFitting (B.Keep.fits (B.keep bank.old) 0) (goal.Goal.Write (write.Write.Add 0 1)) }
+    ensures err { IfErr result ComesInWork }
+    ensures ready { IsReady B.at_step (B.way bank.new) node.new bank.new }
+    ensures led { Led B.gives bank.old bank.new }
+    ensures same_way { B.way bank.new ≡ B.way bank.old }
+    ensures same_fact { B.keep bank.new ≡ B.keep bank.old }
+{
+    for _ in 0..adds {
+        added(rt, door, node, bank, 0)?;
+    }
+    Ok(())
+}
+
+/// The node's part. It ends with no call open.
+pub(crate) fn run<R: Wait, G: Gate, B: Bank>(
+    rt: &R,
+    alloc: Global,
+    door: &mut Door<'_, G>,
+    node: &mut Node,
+    bank: &mut B,
+    program: Program<'_>,
+    number: u16,
+) -> Result<Vec<u64>, WorkRefusal>
+    requires ready { IsReady B.at_step (B.way bank.old) node.old bank.old }
+    requires suits { Suits program (B.Keep.fits (B.keep bank.old)) (B.way bank.old).lines number }
+    ensures share { IfOk result (λ share. IsShareOf program.entry number share.items) }
+    ensures err { IfErr result ComesInWork }
+    ensures ready { IsReady B.at_step (B.way bank.new) node.new bank.new }
+    ensures led { Led B.gives bank.old bank.new }
+    ensures same_way { B.way bank.new ≡ B.way bank.old }
+    ensures same_fact { B.keep bank.new ≡ B.keep bank.old }
+{
+    match program {
+        Program::Count { adds } => {
+            counted(rt, door, node, bank, adds)?;
+            Ok(Vec::new(alloc))
+        }
+        Program::Stencil(work) => worked(rt, alloc, door, node, bank, work, number),
+    }
+}

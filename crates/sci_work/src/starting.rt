@@ -1,0 +1,269 @@
+//! A thread a node.
+ghost use Rattle.std.specs.Prelude.{◌≡◌, ℕ, ◌<◌, ◌≤◌, All, IfOk, IfErr, slice_index_or, vec_capacity, vec_len};
+ghost use Rattle.std.specs.PromisedHandle.{KeepsEach};
+ghost use Rattle.sci_core.specs.declared.pending.Pending.TheVariants.{Idle};
+ghost use Rattle.sci_work.specs.Hands.{AtEach};
+ghost use Rattle.sci_work.specs.Made.{ComesInWork};
+ghost use Rattle.sci_work.specs.Programs.{IsShareOf, Suits};
+ghost use Rattle.sci_work.specs.Starts.{AreEnded, AreParts, ComesInStart, IsPart, IsPartDone};
+ghost use Rattle.sci_work.specs.Workers.{Led};
+
+use crate::doors::Door;
+use crate::gates::Gate;
+use crate::programs::{Program, run};
+use crate::refusals::WorkRefusal;
+use crate::seating::{Done, Hand};
+use sci_cache::Node;
+use sci_core::Keeps;
+use sci_fine::{FineBank, FineLine};
+use sci_port::Bank;
+use std::alloc::Global;
+use std::sync::Wait;
+use std::sync::atomic::{AtomicBool, Ordering};
+use std::thread;
+use std::thread::{Promise, PromisedHandle, Scope, Threads};
+
+/// What a node's thread promises of its end.
+#[derive(Clone, Copy)]
+struct PartOf<'s, 'a, K: Keeps> {
+    lines: &'s [FineLine<K>],
+    program: Program<'a>,
+    number: u16,
+}
+
+impl<'s, 'a, K: Keeps> Promise<Done<K, Vec<u64>>> for PartOf<'s, 'a, K> {
+    ghost use Rattle.sci_work.specs.Starts.{IsPartDone};
+
+    ghost kept_by = { λ p r. IsPartDone p.lines.now p.program p.number r.hand.items r.share };
+}
+
+/// A node's thread that runs.
+type Running<'s, 'a, K> = PromisedHandle<Done<K, Vec<u64>>, PartOf<'s, 'a, K>>;
+
+// The program, run by a node that names no line yet.
+fn share_of<R: Wait, G: Gate, B: Bank>(
+    rt: &R,
+    alloc: Global,
+    door: &mut Door<'_, G>,
+    bank: &mut B,
+    program: Program<'_>,
+    number: u16,
+    capacity: u16,
+) -> Result<Vec<u64>, WorkRefusal>
+    requires idle { (line : ℕ) → B.at_step bank.old line ≡ Idle }
+    requires suits { Suits program (B.Keep.fits (B.keep bank.old)) (B.way bank.old).lines number }
+    ensures share { IfOk result (λ share. IsShareOf program.entry number share.items) }
+    ensures err { IfErr result ComesInWork }
+    ensures idle { (line : ℕ) → B.at_step bank.new line ≡ Idle }
+    ensures led { Led B.gives bank.old bank.new }
+{
+    match Node::new(alloc, bank.node(), bank.lines(), capacity) {
+        Ok(mut node) => run(rt, alloc, door, &mut node, bank, program, number),
+        Err(_) => Err(WorkRefusal::OutOfMemory),
+    }
+}
+
+// A node's thread.
+fn run_node<R: Wait, G: Gate, K: Keeps>(
+    rt: &R,
+    alloc: Global,
+    gate: &G,
+    stop: &AtomicBool,
+    lines: &[FineLine<K>],
+    hand: Hand<K>,
+    program: Program<'_>,
+    number: u16,
+    capacity: u16,
+) -> Done<K, Vec<u64>>
+    requires { IsPart K.fits lines.now program number hand.items }
+    ensures { IsPartDone lines.now program.entry number result.hand.items result.share }
+{
+    let mut door = Door::new(gate, stop, number);
+    let Ok(mut bank) = FineBank::new(lines, hand) else {
+        unreachable!()
+    };
+    let share = share_of(rt, alloc, &mut door, &mut bank, program, number, capacity);
+    if share.is_err() {
+        door.raise();
+    }
+    let hand = bank.into_seats();
+    Done { hand, share }
+}
+
+// Starts each node in a thread of its own, up to the first that can't be started: there the mark is raised.
+fn start_each<'s, 'a: 's, E, R: Threads + Wait + Sync, G: Gate, K: Keeps + Send + Sync + 's>(
+    rt: &'s R,
+    scope: &'s Scope<'s, E>,
+    alloc: Global,
+    gate: &'s G,
+    stop: &'s AtomicBool,
+    lines: &'s [FineLine<K>],
+    hands: Vec<Hand<K>>,
+    program: Program<'a>,
+    capacity: u16,
+    room: Vec<Running<'s, 'a, K>>,
+) -> Vec<Running<'s, 'a, K>>
+    requires parts { AreParts K.fits lines.now program hands }
+    requires room { (vec_len room ≡ 0) × (vec_len hands ≤ vec_capacity room) }
+    ensures few { vec_len result ≤ vec_len hands }
+    ensures each { (k : ℕ) (d : _) → k < vec_len result → ((slice_index_or result.items k d).promise.lines.now ≡ lines.now) × ((slice_index_or result.items k d).promise.program ≡ program.entry) × ((slice_index_or result.items k d).promise.number ≡ k) }
+{
+    let mut handles = room;
+    let mut number = 0u16;
+    for hand in hands {
+        let promise = PartOf {
+            lines,
+            program,
+            number,
+        };
+        let started = scope.spawn_with(
+            promise,
+            move || -> Done<K, Vec<u64>>
+                requires { IsPart K.fits lines.now program number hand.items }
+            {
+                run_node(
+                    rt, alloc, gate, stop, lines, hand, program, number, capacity,
+                )
+            },
+        );
+        let Ok(handle) = started else {
+            stop.store(true, Ordering::SeqCst);
+            return handles;
+        };
+        let Ok(()) = handles.push(handle) else {
+            unreachable!()
+        };
+        number += 1;
+    }
+    handles
+}
+
+// Joins them all. What they end with goes into the room made before they were started.
+fn joined<R: Threads, T: Drop, P: Promise<T>>(
+    rt: &R,
+    handles: Vec<PromisedHandle<T, P>>,
+    room: Vec<T>,
+) -> Vec<T>
+    requires { (vec_len room ≡ 0) × (vec_len handles ≤ vec_capacity room) }
+    ensures len { vec_len result ≡ vec_len handles }
+    ensures each { KeepsEach P.Promise (vec_len handles) handles.items result.items }
+{
+    let mut all = room;
+    for handle in handles {
+        let Ok(()) = all.push(handle.join(rt)) else {
+            unreachable!()
+        };
+    }
+    all
+}
+
+// Starts the nodes, and joins those that were started. It takes memory only before the first start.
+#[tactic(auto, using(crate::proofs::Refusing::of_memory))]
+fn start_all<'s, 'a: 's, E, R: Threads + Wait + Sync, G: Gate, K: Keeps + Send + Sync + 's>(
+    rt: &'s R,
+    scope: &'s Scope<'s, E>,
+    alloc: Global,
+    gate: &'s G,
+    stop: &'s AtomicBool,
+    lines: &'s [FineLine<K>],
+    hands: Vec<Hand<K>>,
+    program: Program<'a>,
+    capacity: u16,
+) -> Result<Vec<Done<K, Vec<u64>>>, WorkRefusal>
+    requires { AreParts K.fits lines.now program hands }
+    ensures few { IfOk result (λ done. vec_len done ≤ vec_len hands) }
+    ensures each { IfOk result (λ done. AtEach (λ k one. IsPartDone lines.now program.entry k one.hand.items one.share) done.items) }
+    ensures err { IfErr result ComesInStart }
+{
+    let handles = Vec::with_capacity(alloc, hands.len())?;
+    let room = Vec::with_capacity(alloc, hands.len())?;
+    let handles = start_each(
+        rt, scope, alloc, gate, stop, lines, hands, program, capacity, handles,
+    );
+    Ok(joined(rt, handles, room))
+}
+
+// The refusal of the first node whose refusal isn't 25, if there is one.
+fn first_refusal<K: Keeps>(done: &[Done<K, Vec<u64>>]) -> Result<(), WorkRefusal>
+    requires { All (λ one. IfErr one.share ComesInWork) done.now }
+    ensures { IfErr result ComesInWork }
+{
+    for one in done {
+        if let Err(refusal) = &one.share {
+            if *refusal != WorkRefusal::Stopped {
+                return Err(*refusal);
+            }
+        }
+    }
+    Ok(())
+}
+
+// Each node's seats, and each node's share.
+#[tactic(auto, using(crate::proofs::Refusing::of_memory))]
+fn parted<K: Keeps>(
+    alloc: Global,
+    lines: &[FineLine<K>],
+    program: Program<'_>,
+    done: Vec<Done<K, Vec<u64>>>,
+) -> Result<(Vec<Hand<K>>, Vec<Vec<u64>>), WorkRefusal>
+    requires { AtEach (λ k one. IsPartDone lines.now program k one.hand.items one.share) done.items }
+    ensures ok { IfOk result (λ r. AreEnded lines.now program.entry (vec_len done) r.0 r.1) }
+    ensures err { IfErr result ComesInStart }
+{
+    let _ = lines;
+    let _ = program;
+    let mut hands = Vec::with_capacity(alloc, done.len())?;
+    let mut shares = Vec::with_capacity(alloc, done.len())?;
+    for one in done {
+        let Done { hand, share } = one;
+        match share {
+            Ok(share) => {
+                hands.push_reserved(hand);
+                shares.push_reserved(share);
+            }
+            Err(refusal) => return Err(refusal),
+        }
+    }
+    Ok((hands, shares))
+}
+
+/// Runs the program in a thread for each node, over these lines: their seats again, all Idle, and each node's share. The
+/// refusals: 7 before the first start, then that of the first node whose refusal isn't 25, then 26 where a node's thread
+/// couldn't be started.
+#[tactic(auto, using(crate::proofs::Refusing::of_worker))]
+pub(crate) fn run_all<R: Threads + Wait + Sync, G: Gate, K: Keeps + Send + Sync>(
+    rt: &R,
+    alloc: Global,
+    gate: &G,
+    lines: &[FineLine<K>],
+    hands: Vec<Hand<K>>,
+    program: Program<'_>,
+    capacity: u16,
+) -> Result<(Vec<Hand<K>>, Vec<Vec<u64>>), WorkRefusal>
+    requires { AreParts K.fits lines.now program hands }
+    ensures ok { IfOk result (λ r. AreEnded lines.now program.entry (vec_len hands) r.0 r.1) }
+    ensures err { IfErr result ComesInStart }
+{
+    let nodes = hands.len();
+    let stop = AtomicBool::new(false);
+    let mark = &stop;
+    let done = thread::scope(
+        thread::scope_env(),
+        rt,
+        |scope| -> Result<Vec<Done<K, Vec<u64>>>, WorkRefusal>
+            requires { AreParts K.fits lines.now program hands }
+            ensures few { IfOk result (λ done. vec_len done ≤ vec_len hands) }
+            ensures each { IfOk result (λ done. AtEach (λ k one. IsPartDone lines.entry.now program.entry k one.hand.items one.share) done.items) }
+            ensures err { IfErr result ComesInStart }
+        {
+            start_all(
+                rt, scope, alloc, gate, mark, lines, hands, program, capacity,
+            )
+        },
+    )?;
+    first_refusal(&done)?;
+    if done.len() < nodes {
+        return Err(WorkRefusal::NoThread);
+    }
+    parted(alloc, lines, program, done)
+}
