@@ -11,6 +11,7 @@ mod memory;
 mod residents;
 mod rows;
 mod sizes;
+mod watched;
 mod widths;
 mod writers;
 
