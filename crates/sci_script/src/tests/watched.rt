@@ -53,10 +53,8 @@ fn what_passes_in_loads(rt: HostRuntime) {
     let Ok(mut desk) = WholeDesk::open(rt.alloc(), &script) else {
         panic!(rt; "no desk")
     };
-    let line = Line {
-        words: [1, 2, 3, 4, 5, 6, 7, 8],
-        stamp: 4,
-    };
+    let words = [1, 2, 3, 4, 5, 6, 7, 8];
+    let line = Line { words, stamp: 4 };
     let home = Call::MemWas(Some(Mem {
         state: MemState::Home,
         lent: false,
@@ -68,10 +66,7 @@ fn what_passes_in_loads(rt: HostRuntime) {
         forw: None,
         back: None,
     };
-    let seen = Turn::Done(Answer::Seen {
-        words: line.words,
-        stamp: 4,
-    });
+    let seen = Turn::Done(Answer::Seen { words, stamp: 4 });
     let (done, told) = (Outcome::Done(None), Outcome::Done(Some(line)));
     let fetching = Pending::Fetching {
         forw: None,
