@@ -11,7 +11,6 @@ mod memory;
 mod residents;
 mod rows;
 mod sizes;
-mod watched;
 mod widths;
 mod writers;
 
