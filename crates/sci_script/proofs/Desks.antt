@@ -11,7 +11,9 @@ use Rattle.sci_cache.specs.declared.calls.OpenCall.{OpenCall}
 use Rattle.sci_cache.specs.Nodes.{NodeState, node_after, line_by, op_by}
 use Rattle.sci_script.specs.declared.commands.Size.{Size}
 use Rattle.sci_script.specs.declared.commands.Opening.{Opening}
+use Rattle.sci_script.specs.declared.watching.Passed.{Passed}
 use Rattle.sci_script.specs.Nodes.{TurnsOverOf, whole_of}
+use Rattle.sci_script.specs.Passed.{PassesOn, PassesOverOf, PassesTurnOf}
 use Rattle.sci_script.specs.Openings.{zeros, content_of}
 use Rattle.sci_script.specs.ScriptText.{Opens}
 use Rattle.sci_script.specs.Shared.{HasNode, TakesTurnOf}
@@ -44,6 +46,19 @@ module _ (width : ℕ) (wholes after : List (WholeLine AnyWords)) (nodes : List 
         shows = h.shows;
         after = has_node (node_after (get_or nodes node no_node) c h.turn) (h.node ∙ ap (λ (k : NodeState). node_after k c h.turn) (sym here));
       }
+
+-- what passes in a turn of the call of the node that stands at its number
+pub passes_turn : (width : ℕ) (wholes after : List (WholeLine AnyWords)) (nodes others : List NodeState) (node : ℕ) (p q : Passed) → All (λ w. nodes_of w ≡ width) wholes
+    → (n : NodeState) (call : Option OpenCall) → n.id ≡ node → n.lines ≡ length wholes → IfSome call (λ (c : OpenCall). line_by c.victim c.line < n.lines)
+    → PassesOverOf wholes n call after p q → PassesTurnOf (shared width wholes nodes) node call (shared width after others) p q
+passes_turn width wholes after nodes others node p q wide n None id count below h = h
+passes_turn width wholes after nodes others node p q wide n (Some c) id count below h =
+    let line = line_by c.victim c.line in
+    let op = op_by c.victim c.op in
+    let w = whole_of wholes line in
+    let v = whole_of after line in
+    subst (λ (k : ℕ). PassesOn k node line op (state_of w) (state_of v) p q) (wide line no_line (omega (arith, below, count)))
+    (subst (λ (k : ℕ). PassesOn (nodes_of w) k line op (state_of w) (state_of v) p q) id h)
 
 -- lines and nodes just opened
 pub opens : (size : Size) (capacity : ℕ) (openings : List Opening) (wholes : List (WholeLine AnyWords)) (nodes : List NodeState) → AreOpened size.nodes openings size.lines wholes → AreIdle size.lines capacity size.nodes nodes

@@ -6,6 +6,7 @@ pub mod Content
 pub mod Opened
 pub mod Followed
 pub mod Seated
+pub mod Kept
 pub mod Desks
 pub mod Through
 pub mod Extended

@@ -8,7 +8,7 @@ use Rattle.sci_script.specs.declared.refusals.ScriptRefusal.{ScriptRefusal}
 use Rattle.sci_script.specs.declared.refusals.ScriptRefusal.TheVariants.{OutOfMemory, BadCommand, BadNumber, NotDone, WriteFailed}
 use Rattle.sci_script.specs.Event.{Event, SawMem, SawTag}
 use Rattle.sci_script.specs.Request.{no_words, words_after}
-use Rattle.sci_script.specs.Run.{Unended, Repeats, Loads, Walked, Prints, PrintsAll, IsOutOfPlace, IsLost, IsUnended, WantsMemory, Leaves}
+use Rattle.sci_script.specs.Run.{Unended, Repeats, Loads, Walked, Prints, PrintsAll, IsOutOfPlace, IsLost, IsUnended, WantsMemory, StopsAt, Leaves}
 
 module _ {S T : Type 0} (f : S → T) (is_open : T → ℕ → Bool) (does : T → Event → T → Type 0) where
   abbrev open_seen : S → ℕ → Bool
@@ -37,7 +37,7 @@ module _ {S T : Type 0} (f : S → T) (is_open : T → ℕ → Bool) (does : T �
   walked line (Some node) (entry ∷ entries) next s t h =
       (f h.0, h.1, loads (SawTag line node None) (SawTag line node (Some h.1)) s h.0 h.2, h.3, walked line h.1.forw entries next h.0 t h.4)
 
-  prints : (words : List ℕ) (s : S) (command : Command) (text : List ℕ) (t : S) → Prints open_seen does_seen words s command text t → Prints is_open does words (f s) command text (f t)
+  pub prints : (words : List ℕ) (s : S) (command : Command) (text : List ℕ) (t : S) → Prints open_seen does_seen words s command text t → Prints is_open does words (f s) command text (f t)
   prints words s (Begin node line request) text t h = h
   prints words s (Turn node) text t h = h
   prints words s (Done node) text t h = (h.0, h.1, h.2, f h.3, unended node h.1 s h.3 h.4, h.5, h.6, h.7, h.8)
@@ -87,12 +87,20 @@ module _ {S T : Type 0} (f : S → T) (is_open : T → ℕ → Bool) (does : T �
   wants_memory s (ShowTag line node) t h = (h.0, loads (SawTag line node None) (SawTag line node (Some h.0)) s t h.1)
   wants_memory s (Residents node) t h = ap f h
 
+  -- how one command fails
+  pub stops_at : (nodes : ℕ) (s : S) (step : Step) (refusal : ScriptRefusal) (t : S) → StopsAt open_seen does_seen nodes s step refusal t → StopsAt is_open does nodes (f s) step refusal (f t)
+  stops_at nodes s step OutOfMemory t h = wants_memory s step.command t h
+  stops_at nodes s step (BadCommand n) t h = (h.0, out_of_place s step.command h.1, ap f h.2)
+  stops_at nodes s step (BadNumber n) t h = h
+  stops_at nodes s step (NotDone n) t h = (h.0, no_end nodes s step.command t h.1)
+  stops_at nodes s step WriteFailed t h = h
+
   pub leaves : (nodes : ℕ) (s : S) (steps : List Step) (refusal : ScriptRefusal) (written : List ℕ) (t : S) → Leaves open_seen does_seen nodes s steps refusal written t → Leaves is_open does nodes (f s) steps refusal written (f t)
   leaves nodes s steps OutOfMemory written t h =
-      (h.0, f h.1, h.2, prints_all no_words s (take h.0 steps) written h.1 h.3, h.4, wants_memory h.1 h.2.command t h.5)
+      (h.0, f h.1, h.2, prints_all no_words s (take h.0 steps) written h.1 h.3, h.4, stops_at nodes h.1 h.2 OutOfMemory t h.5)
   leaves nodes s steps (BadCommand n) written t h =
-      (h.0, f h.1, h.2, prints_all no_words s (take h.0 steps) written h.1 h.3, h.4, (h.5.0, out_of_place h.1 h.2.command h.5.1, ap f h.5.2))
+      (h.0, f h.1, h.2, prints_all no_words s (take h.0 steps) written h.1 h.3, h.4, stops_at nodes h.1 h.2 (BadCommand n) t h.5)
   leaves nodes s steps (BadNumber n) written t h = h
   leaves nodes s steps (NotDone n) written t h =
-      (h.0, f h.1, h.2, prints_all no_words s (take h.0 steps) written h.1 h.3, h.4, (h.5.0, no_end nodes h.1 h.2.command t h.5.1))
+      (h.0, f h.1, h.2, prints_all no_words s (take h.0 steps) written h.1 h.3, h.4, stops_at nodes h.1 h.2 (NotDone n) t h.5)
   leaves nodes s steps WriteFailed written t h = (h.0, h.1, h.2, prints_all no_words s (take h.0 steps) h.1 t h.3, h.4, h.5)

@@ -12,5 +12,6 @@ pub mod Unused
 pub mod Nodes
 pub mod Wholes
 pub mod BankDesks
+pub mod Passed
 pub mod ScriptText
 pub mod Refusals

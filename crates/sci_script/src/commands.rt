@@ -44,6 +44,7 @@ impl Request {
     }
 }
 
+/// What one line of a script asks for.
 #[derive(Clone, Copy, Debug, PartialEq, Eq)]
 pub enum Command {
     /// Begins a call of the node on the line.
@@ -126,6 +127,13 @@ impl Script {
         ensures range { (1 ≤ result) × (result ≤ 64) }
     {
         self.size.nodes
+    }
+
+    /// Its commands, in order.
+    pub fn steps(&self) -> &[Step]
+        ensures { result.now ≡ self.now.steps.items }
+    {
+        self.steps.as_slice()
     }
 
     /// How many lines its memory has, 1 to 1,024.

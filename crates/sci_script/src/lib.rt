@@ -15,14 +15,17 @@ mod running;
 #[cfg(test)]
 mod tests;
 mod texts;
+mod watching;
 mod wholes;
 mod writing;
 
 pub use banks::{BankDesk, NoDesk};
-pub use commands::Script;
+pub use commands::{Command, Script, Size, Step};
 pub use desk::Desk;
 pub use reader::read_script;
 pub use refusals::ScriptRefusal;
+pub use running::{note, perform};
 pub use texts::{list_text, tag_text};
+pub use watching::Passed;
 pub use wholes::WholeDesk;
 pub use writing::{WriteFailed, put};

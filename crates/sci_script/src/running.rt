@@ -91,7 +91,7 @@ fn list<D: Desk>(
 }
 
 /// One command: what it prints, behind an empty text. The words are those that the nodes' last loads are to show.
-fn perform<D: Desk>(
+pub fn perform<D: Desk>(
     alloc: Global,
     text: &mut String,
     desk: &mut D,
@@ -150,7 +150,7 @@ fn perform<D: Desk>(
 }
 
 /// The words that the nodes' last loads are to show, after a command.
-fn note(words: &mut [u8; 64], size: Size, command: Command)
+pub fn note(words: &mut [u8; 64], size: Size, command: Command)
     requires few { size.nodes ≤ 64 }
     requires command { IsIn size command }
     requires words { All (λ w. w < 8) words.old }

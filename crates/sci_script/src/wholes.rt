@@ -18,9 +18,9 @@ use std::alloc::{AllocError, Global};
 /// A `Whole` for each line, in a bank that each turn's node is seated at, and the nodes. A word of it is always to be had.
 #[derive(Drop)]
 pub struct WholeDesk {
-    size: Size,
-    bank: SoloBank<AnyWords>,
-    nodes: Vec<Node>,
+    pub(crate) size: Size,
+    pub(crate) bank: SoloBank<AnyWords>,
+    pub(crate) nodes: Vec<Node>,
     ghost lines: { length bank.wholes.items ≡ size.lines },
     ghost widths: { All (λ w. nodes_of w ≡ size.nodes) bank.wholes.items },
     ghost count: { vec_len nodes ≡ size.nodes },

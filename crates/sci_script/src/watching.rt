@@ -1,0 +1,174 @@
+//! A turn over a bank that keeps what passes on its way.
+ghost use Rattle.std.specs.Prelude.{◌≡◌, ◌<◌, ℕ, true, Some, length, is_some, IfSome};
+ghost use Rattle.sci_core.specs.Whole.{nodes_of};
+ghost use Rattle.sci_cache.specs.Nodes.{IsSameNode, line_by};
+ghost use Rattle.sci_script.specs.Nodes.{TurnsOverOf, whole_of};
+ghost use Rattle.sci_script.specs.Passed.{passed_by, PassesOverOf};
+
+use crate::wholes::WholeDesk;
+use sci_cache::Node;
+use sci_core::{AnyWords, Event, Outcome, Pending};
+use sci_ops::Turn;
+use sci_port::{Bank, Call, SoloBank};
+use sci_words::{LineNo, Mem, NodeId, Tag};
+
+/// What passed in a turn.
+#[derive(Clone, Copy, Debug, PartialEq, Eq)]
+pub struct Passed {
+    /// The line of the last call.
+    pub line: LineNo,
+    /// The last load, with its answer.
+    pub load: Option<Call>,
+    /// The exchange that was tried, with its outcome.
+    pub step: Option<(Event, Outcome)>,
+    /// The node's pending step there after the last call.
+    pub pending: Pending,
+}
+
+impl Passed {
+    /// Nothing has passed.
+    pub const NOTHING: Passed = Passed {
+        line: 0,
+        load: None,
+        step: None,
+        pending: Pending::Idle,
+    };
+
+    // Keeps a load.
+    fn load(&mut self, line: LineNo, call: Call, pending: Pending)
+        ensures { self.new ≡ record { line = line; load = Some call; step = self.old.step; pending = pending } }
+    {
+        self.line = line;
+        self.load = Some(call);
+        self.pending = pending;
+    }
+}
+
+/// A bank that is lent, and what passes through it. Its answers are those of the bank.
+#[derive(Drop)]
+pub(crate) struct Watched<'a, 'b, B: Bank> {
+    pub(crate) bank: &'a mut B,
+    pub(crate) passed: &'b mut Passed,
+}
+
+impl<B: Bank> Bank for Watched<'_, '_, B> {
+    type Keep = B::Keep;
+
+    ghost way = { λ s. B.way s.bank.now };
+
+    ghost nodes_on = { λ s line. B.nodes_on s.bank.now line };
+
+    ghost keep = { λ s. B.keep s.bank.now };
+
+    ghost at_step = { λ s line. B.at_step s.bank.now line };
+
+    ghost gives = { λ s line call t. B.gives s.bank.now line call t.bank.now × (t.passed.now ≡ passed_by s.passed.now line call (B.at_step t.bank.now line)) × (t.bank.ghost_name ≡ s.bank.ghost_name) × (t.passed.ghost_name ≡ s.passed.ghost_name) };
+
+    ghost same_way = { λ s line call t h. B.same_way s.bank.now line call t.bank.now h.0 };
+
+    ghost same_nodes = { λ s line call t h. B.same_nodes s.bank.now line call t.bank.now h.0 };
+
+    ghost same_fact = { λ s line call t h. B.same_fact s.bank.now line call t.bank.now h.0 };
+
+    ghost others = { λ s line call t h. B.others s.bank.now line call t.bank.now h.0 };
+
+    ghost owes = { λ s line call t h. B.owes s.bank.now line call t.bank.now h.0 };
+
+    fn node(&self) -> NodeId {
+        self.bank.node()
+    }
+
+    fn lines(&self) -> u16 {
+        self.bank.lines()
+    }
+
+    fn nodes(&self, line: LineNo) -> u16 {
+        self.bank.nodes(line)
+    }
+
+    fn number(&self, line: LineNo) -> LineNo {
+        self.bank.number(line)
+    }
+
+    fn pending(&self, line: LineNo) -> &Pending {
+        self.bank.pending(line)
+    }
+
+    fn own(&mut self, line: LineNo) -> Option<Tag> {
+        let own = self.bank.own(line);
+        let answer = own;
+        let pending = *self.bank.pending(line);
+        self.passed.load(line, Call::Own(answer), pending);
+        own
+    }
+
+    fn mem(&mut self, line: LineNo) -> Option<Mem> {
+        let mem = self.bank.mem(line);
+        let answer = mem;
+        let pending = *self.bank.pending(line);
+        self.passed.load(line, Call::MemWas(answer), pending);
+        mem
+    }
+
+    fn tag(&mut self, line: LineNo, node: NodeId) -> Option<Tag> {
+        let tag = self.bank.tag(line, node);
+        let answer = tag;
+        let pending = *self.bank.pending(line);
+        self.passed.load(line, Call::TagWas(node, answer), pending);
+        tag
+    }
+
+    fn step(&mut self, line: LineNo, event: Event) -> Outcome {
+        let passing = event;
+        let outcome = self.bank.step(line, event);
+        let answer = outcome;
+        let pending = *self.bank.pending(line);
+        self.passed.line = line;
+        self.passed.step = Some((passing, answer));
+        self.passed.pending = pending;
+        outcome
+    }
+}
+
+/// One turn of the node's call, over the bank that it is seated at, and what passed.
+#[tactic(auto, using(sci_ops::proofs::Storing::any_store_fits))]
+fn watched_turn_on(bank: &mut SoloBank<AnyWords>, node: &mut Node, passed: &mut Passed) -> Turn
+    requires seat { bank.old.node ≡ node.old.id }
+    requires lines { length bank.old.wholes.items ≡ node.old.lines }
+    requires open { is_some node.old.call ≡ true }
+    ensures turns { TurnsOverOf bank.old.wholes.items node.old node.old.call result bank.new.wholes.items node.new }
+    ensures passed { PassesOverOf bank.old.wholes.items node.old node.old.call bank.new.wholes.items passed.old passed.new }
+    ensures below { IfSome node.old.call (λ c. line_by c.victim c.line < node.old.lines) }
+    ensures same_node { IsSameNode node.old node.new }
+    ensures same_lines { length bank.new.wholes.items ≡ length bank.old.wholes.items }
+    ensures same_widths { (line : ℕ) → nodes_of (whole_of bank.new.wholes.items line) ≡ nodes_of (whole_of bank.old.wholes.items line) }
+{
+    match node.turn(&mut Watched { bank, passed }) {
+        Ok(turn) => turn,
+        Err(_) => unreachable!(),
+    }
+}
+
+impl WholeDesk {
+    ghost use Rattle.sci_script.specs.Event.{Turned, IsNoEnd};
+    ghost use Rattle.sci_script.specs.Passed.{shared_passes};
+    ghost use Rattle.sci_script.specs.Shared.{shared_is_open, shared_does};
+    ghost use Rattle.sci_script.specs.Wholes.{shared_of};
+
+    /// One turn of the node's open call, as `turn`, and what passed in it.
+    pub fn watched_turn(&mut self, node: NodeId, passed: &mut Passed) -> Turn
+        requires node { node < self.old.size.nodes }
+        requires open { shared_is_open (shared_of self.old) node ≡ true }
+        ensures turned { shared_does (shared_of self.old) (Turned node result) (shared_of self.new) }
+        ensures passed { shared_passes (shared_of self.old) node (shared_of self.new) passed.old passed.new }
+        ensures open { IsNoEnd result → shared_is_open (shared_of self.new) node ≡ true }
+        ensures size { self.new.size ≡ self.old.size }
+    {
+        self.bank.seat(node);
+        watched_turn_on(
+            &mut self.bank,
+            &mut self.nodes[usize::from(node.get())],
+            passed,
+        )
+    }
+}

@@ -1,0 +1,3 @@
+pub mod Weaving
+pub mod Tracing
+pub mod Same

@@ -1,0 +1,42 @@
+-- The lines of turns, and a text with them between its own. This project's profile.
+use Rattle.std.specs.Prelude.{◌≡◌, ℕ, List, ◌++◌, Option}
+use Rattle.std.specs.List.{flat_map}
+use Rattle.sci_words.specs.declared.memory.Mem.{Mem}
+use Rattle.sci_words.specs.declared.tags.Tag.{Tag}
+use Rattle.sci_ops.specs.declared.answers.Turn.{Turn}
+use Rattle.sci_cache.specs.declared.requests.Request.{Request}
+use Rattle.sci_script.specs.declared.watching.Passed.{Passed}
+use Rattle.sci_trace.specs.Texts.{note_line}
+
+-- what a line tells of a turn: whose it was, what its node was asked for, what passed, what it came to, and the list after it
+pub record Told : Type 0 where
+  pub node : ℕ
+  pub asked : Option Request
+  pub passed : Passed
+  pub turn : Turn
+  pub mem : Mem
+  pub entries : List (ℕ × Tag)
+
+abbrev pub line_of_turn : Told → List ℕ
+line_of_turn told = note_line told.node told.asked told.passed told.turn told.mem told.entries
+
+-- the lines of some turns
+abbrev pub AreLines : List ℕ → Type 0
+AreLines notes = (turns : List Told) × (notes ≡ flat_map line_of_turn turns)
+
+-- the same, as what can't be otherwise: so it is a plain fact, which a struct can keep
+abbrev pub AreNotes : List ℕ → Type 0
+AreNotes notes = (AreLines notes → ⊥) → ⊥
+
+-- a part of a text, and the lines of turns in front of it
+pub record Piece : Type 0 where
+  pub notes : List ℕ
+  pub are : AreNotes notes
+  pub text : List ℕ
+
+abbrev pub traced_piece : Piece → List ℕ
+traced_piece piece = piece.notes ++ piece.text
+
+-- the second text is the first with lines of turns between its parts
+abbrev pub IsWoven : List ℕ → List ℕ → Type 0
+IsWoven text traced = (pieces : List Piece) × (text ≡ flat_map (λ (piece : Piece). piece.text) pieces) × (traced ≡ flat_map traced_piece pieces)

@@ -1,0 +1,33 @@
+-- What a traced run writes. This project's profile.
+use Rattle.std.specs.Prelude.{◌≡◌, ℕ, ◌<◌, List, [], ◌++◌, length, take, Some, slice_get}
+use Rattle.sci_script.specs.declared.commands.Step.{Step}
+use Rattle.sci_script.specs.declared.refusals.ScriptRefusal.{ScriptRefusal}
+use Rattle.sci_script.specs.declared.refusals.ScriptRefusal.TheVariants.{OutOfMemory, BadCommand, BadNumber, NotDone, WriteFailed}
+use Rattle.sci_script.specs.Request.{no_words}
+use Rattle.sci_script.specs.Run.{PrintsAll, StopsAt}
+use Rattle.sci_script.specs.Shared.{Shared, shared_is_open, shared_does}
+use Rattle.sci_trace.specs.Notes.{AreNotes, IsWoven}
+
+-- the commands print a text, one after the other, and this is it with lines of turns between
+abbrev pub Traces : List Step → Shared → List ℕ → Shared → Type 0
+Traces steps s traced t = (text : List ℕ) × PrintsAll shared_is_open shared_does no_words s steps text t × IsWoven text traced
+
+-- what is written of these lines of turns where that fails: none where memory was refused for one, or a front of them
+abbrev pub NotesLeft : ScriptRefusal → List ℕ → List ℕ → Type 0
+NotesLeft OutOfMemory notes written = written ≡ []
+NotesLeft WriteFailed notes written = (n : ℕ) × (n < length notes) × (written ≡ take n notes)
+NotesLeft _ notes written = ⊥
+
+-- a command fails behind those that were traced
+abbrev pub TraceStops : ℕ → List Step → Shared → ScriptRefusal → List ℕ → Shared → Type 0
+TraceStops nodes steps s e written t = (k : ℕ) × (mid : Shared) × (step : Step) × Traces (take k steps) s written mid × (slice_get steps k ≡ Some step)
+    × StopsAt shared_is_open shared_does nodes mid step e t
+
+-- what is written where a traced run fails: the traced text of the commands before, and the lines of the turns of the refused one;
+-- where the writer failed, a front of such a text, and not all of it
+abbrev pub TraceLeaves : ℕ → List Step → Shared → ScriptRefusal → List ℕ → Shared → Type 0
+TraceLeaves nodes steps s OutOfMemory written t = (k : ℕ) × (mid : Shared) × Traces (take k steps) s written mid
+TraceLeaves nodes steps s (BadCommand n) written t = TraceStops nodes steps s (BadCommand n) written t
+TraceLeaves nodes steps s (BadNumber n) written t = ⊥
+TraceLeaves nodes steps s (NotDone n) written t = TraceStops nodes steps s (NotDone n) written t
+TraceLeaves nodes steps s WriteFailed written t = (k : ℕ) × (mid : Shared) × (traced : List ℕ) × (n : ℕ) × Traces (take k steps) s traced mid × (n < length traced) × (written ≡ take n traced)

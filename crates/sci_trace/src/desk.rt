@@ -1,0 +1,141 @@
+//! A desk that says of each turn what it did.
+
+ghost use Rattle.std.specs.Prelude.{◌≡◌, ◌<◌, ◌≤◌, IfOk, IfSome};
+ghost use Rattle.sci_script.specs.Wholes.{shared_of};
+
+use crate::notes::Notes;
+use sci_cache::Request;
+use sci_ops::Turn;
+use sci_script::{Desk, Passed, Script, Size, WholeDesk};
+use sci_words::{LineNo, Mem, NodeId, Tag};
+use std::alloc::{AllocError, Global};
+
+/// How many nodes a script may have.
+const NODES: usize = 64;
+
+/// A desk of whole lines, what each node was asked for last, and the lines of the turns that were taken since they were dropped last.
+#[derive(Drop)]
+pub struct TraceDesk {
+    pub(crate) size: Size,
+    desk: WholeDesk,
+    asked: [Option<Request>; NODES],
+    pub(crate) notes: Notes,
+    entries: Vec<(NodeId, Tag)>,
+    ghost same: { desk.size ≡ size },
+    ghost few: { size.nodes ≤ 64 },
+}
+
+/// The entries along the links from `head` on, at most as many as there are nodes.
+fn walk(
+    entries: &mut Vec<(NodeId, Tag)>,
+    desk: &mut WholeDesk,
+    line: LineNo,
+    head: Option<NodeId>,
+    nodes: u16,
+) -> Result<(), AllocError>
+    requires line { line < desk.old.size.lines }
+    requires head { IfSome head (λ n. n < desk.old.size.nodes) }
+    ensures same { shared_of desk.new ≡ shared_of desk.old }
+    ensures size { desk.new.size ≡ desk.old.size }
+{
+    entries.clear();
+    let mut next = head;
+    for _ in 0..nodes {
+        let Some(node) = next else {
+            return Ok(());
+        };
+        let Some(tag) = desk.tag(line, node) else {
+            return Ok(());
+        };
+        next = tag.forw;
+        entries.push((node, tag))?;
+    }
+    Ok(())
+}
+
+impl TraceDesk {
+    ghost use Rattle.sci_script.specs.ScriptText.{Opens};
+    ghost use Rattle.sci_script.specs.Wholes.{shared_of};
+
+    /// A desk of the script's lines and nodes, as `WholeDesk::open` has it. Refusal 7 alone.
+    pub fn open(alloc: Global, script: &Script) -> Result<TraceDesk, AllocError>
+        ensures size { IfOk result (λ desk. desk.size ≡ script.now.size) }
+        ensures opened { IfOk result (λ desk. Opens script.now.size script.now.capacity script.now.openings.items (shared_of desk.desk)) }
+    {
+        let size = Size {
+            nodes: script.nodes(),
+            lines: script.lines(),
+        };
+        let desk = WholeDesk::open(alloc, script)?;
+        Ok(TraceDesk {
+            size,
+            desk,
+            asked: [None; NODES],
+            notes: Notes::new(alloc),
+            entries: Vec::new(alloc),
+        })
+    }
+
+    /// Adds the line of a turn that was just taken.
+    fn tell(&mut self, node: NodeId, passed: &Passed, turn: &Turn)
+        requires { node < self.old.size.nodes }
+        ensures same { shared_of self.new.desk ≡ shared_of self.old.desk }
+        ensures size { self.new.size ≡ self.old.size }
+    {
+        let line = passed.line;
+        if line >= self.size.lines {
+            return;
+        }
+        let Some(mem) = self.desk.mem(line) else {
+            return;
+        };
+        let nodes = self.size.nodes;
+        if walk(&mut self.entries, &mut self.desk, line, mem.forw, nodes).is_err() {
+            self.notes.cut();
+            return;
+        }
+        let asked = &self.asked[usize::from(node.get())];
+        self.notes
+            .tell(node, asked, passed, turn, mem, &self.entries);
+    }
+}
+
+impl Desk for TraceDesk {
+    ghost use Rattle.sci_script.specs.Shared.{shared_is_open, shared_does};
+    ghost use Rattle.sci_script.specs.Wholes.{shared_of};
+
+    ghost size = { λ desk. desk.size };
+
+    ghost is_open = { λ desk node. shared_is_open (shared_of desk.desk) node };
+
+    ghost does = { λ s call t. shared_does (shared_of s.desk) call (shared_of t.desk) };
+
+    fn open(&self, node: NodeId) -> bool {
+        self.desk.open(node)
+    }
+
+    fn begin(&mut self, node: NodeId, request: Request) -> Result<(), AllocError> {
+        self.desk.begin(node, request)?;
+        self.asked[usize::from(node.get())] = Some(request);
+        Ok(())
+    }
+
+    fn turn(&mut self, node: NodeId) -> Turn {
+        let mut passed = Passed::NOTHING;
+        let turn = self.desk.watched_turn(node, &mut passed);
+        self.tell(node, &passed, &turn);
+        turn
+    }
+
+    fn resident(&self, alloc: Global, node: NodeId) -> Result<Vec<LineNo>, AllocError> {
+        self.desk.resident(alloc, node)
+    }
+
+    fn mem(&mut self, line: LineNo) -> Option<Mem> {
+        self.desk.mem(line)
+    }
+
+    fn tag(&mut self, line: LineNo, node: NodeId) -> Option<Tag> {
+        self.desk.tag(line, node)
+    }
+}

@@ -1,0 +1,84 @@
+//! The lines of the turns of one command, until they are written.
+
+ghost use Rattle.std.specs.Prelude.{◌≡◌, ◌++◌, ◌⊎◌, [], string_bytes, true, false};
+ghost use Rattle.sci_trace.specs.Notes.{AreNotes};
+ghost use Rattle.sci_trace.specs.Texts.{note_line};
+
+use crate::texts::push_note;
+use sci_cache::Request;
+use sci_ops::Turn;
+use sci_script::Passed;
+use sci_words::{Mem, NodeId, Tag};
+use std::alloc::Global;
+
+/// Whole lines, one for each turn. Where memory was refused for one, there is none, and it says so from then on.
+#[derive(Drop)]
+pub struct Notes {
+    text: String,
+    is_cut: bool,
+    ghost lines: { AreNotes (string_bytes text) },
+}
+
+impl Notes {
+    /// No lines.
+    pub fn new(alloc: Global) -> Notes
+        ensures empty { string_bytes result.text ≡ [] }
+        ensures whole { result.is_cut ≡ false }
+    {
+        Notes {
+            text: String::new(alloc),
+            is_cut: false,
+        }
+    }
+
+    /// The lines.
+    pub fn as_bytes(&self) -> &[u8]
+        ensures { result.now ≡ string_bytes self.now.text }
+    {
+        self.text.as_bytes()
+    }
+
+    /// Memory was refused for a line.
+    pub fn is_cut(&self) -> bool
+        ensures { result ≡ self.now.is_cut }
+    {
+        self.is_cut
+    }
+
+    /// Drops the lines.
+    pub fn clear(&mut self)
+        ensures empty { string_bytes self.new.text ≡ [] }
+        ensures cut { self.new.is_cut ≡ self.old.is_cut }
+    {
+        self.text.clear();
+    }
+
+    /// Drops the lines, and says that memory was refused.
+    pub fn cut(&mut self)
+        ensures cut { self.new.is_cut ≡ true }
+    {
+        self.text.clear();
+        self.is_cut = true;
+    }
+
+    /// Adds the line of a turn.
+    pub fn tell(
+        &mut self,
+        node: NodeId,
+        asked: &Option<Request>,
+        passed: &Passed,
+        turn: &Turn,
+        mem: Mem,
+        entries: &[(NodeId, Tag)],
+    )
+        ensures { (self.new.is_cut ≡ true) ⊎ ((self.new.is_cut ≡ self.old.is_cut) × (string_bytes self.new.text ≡ string_bytes self.old.text ++ note_line node asked.now passed.now turn.now mem entries.now)) }
+    {
+        match push_note(&mut self.text, node, asked, passed, turn, mem, entries) {
+            Ok(()) => {}
+            Err(_) => {
+                self.text.clear();
+                self.is_cut = true;
+            }
+        }
+    }
+}

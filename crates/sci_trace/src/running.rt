@@ -1,0 +1,67 @@
+//! Runs a script with a line for each turn.
+
+ghost use Rattle.std.specs.Prelude.{◌≡◌, ℕ, List, OnOk, IfErr, string_bytes};
+ghost use Rattle.std.specs.Io.KnownBytes.{Appends};
+ghost use Rattle.sci_script.specs.Wholes.{shared_of};
+ghost use Rattle.sci_trace.specs.Traces.{Traces, NotesLeft, TraceLeaves};
+
+use crate::desk::TraceDesk;
+use sci_script::{Script, ScriptRefusal, note, perform, put};
+use std::alloc::Global;
+use std::io::Write;
+
+/// Writes the lines of the turns that were taken, and drops them.
+fn put_notes<W: Write>(desk: &mut TraceDesk, out: &mut W) -> Result<(), ScriptRefusal>
+    ensures ok { OnOk result (Appends (W.contents out.old) (W.contents out.new) (string_bytes desk.old.notes.text)) }
+    ensures err { IfErr result (λ e. (written : List ℕ) × NotesLeft e (string_bytes desk.old.notes.text) written
+        × Appends (W.contents out.old) (W.contents out.new) written) }
+    ensures desk { desk.new.desk ≡ desk.old.desk }
+    ensures size { desk.new.size ≡ desk.old.size }
+{
+    if desk.notes.is_cut() {
+        return Err(ScriptRefusal::OutOfMemory);
+    }
+    match put(out, desk.notes.as_bytes()) {
+        Ok(()) => {
+            desk.notes.clear();
+            Ok(())
+        }
+        Err(_) => Err(ScriptRefusal::WriteFailed),
+    }
+}
+
+/// Runs the script over a desk of its nodes and lines, and writes its text, with a line for each turn in front of what the turn's
+/// command prints. Refusals are as those of `Script::run`; the lines of the turns that a refused command took are written, unless
+/// memory was refused for one of them.
+pub fn trace<W: Write>(
+    alloc: Global,
+    script: &Script,
+    desk: &mut TraceDesk,
+    out: &mut W,
+) -> Result<(), ScriptRefusal>
+    requires { desk.old.size ≡ script.now.size }
+    // All of the script's text is written, and between its parts lines of turns.
+    ensures ok { OnOk result ((traced : List ℕ) × Traces script.now.steps.items (shared_of desk.old.desk) traced (shared_of desk.new.desk)
+        × Appends (W.contents out.old) (W.contents out.new) traced) }
+    // So is what `Script::run` leaves, with the lines of the refused command's turns; or a front of it.
+    ensures err { IfErr result (λ e. (written : List ℕ) × TraceLeaves script.now.size.nodes script.now.steps.items (shared_of desk.old.desk) e written (shared_of desk.new.desk)
+        × Appends (W.contents out.old) (W.contents out.new) written) }
+    ensures size { desk.new.size ≡ desk.old.size }
+{
+    let size = desk.size;
+    let mut words = [0; 64];
+    // one text for all commands, so that not each takes memory
+    let mut text = String::new(alloc);
+    for step in script.steps() {
+        text.clear();
+        let performed = perform(alloc, &mut text, desk, size.nodes, &words, *step);
+        put_notes(desk, out)?;
+        performed?;
+        note(&mut words, size, step.command);
+        match put(out, text.as_bytes()) {
+            Ok(()) => {}
+            Err(_) => return Err(ScriptRefusal::WriteFailed),
+        }
+    }
+    Ok(())
+}

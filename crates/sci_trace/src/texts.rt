@@ -1,0 +1,135 @@
+//! The lines that a trace adds.
+
+ghost use Rattle.std.specs.Prelude.{◌≡◌, ◌++◌, OnOk, string_bytes, codes};
+ghost use Rattle.std.specs.Fmt.{decimal};
+ghost use Rattle.sci_trace.specs.Texts.{operation_name, outcome_name, mem_wait, wait_text, look_text, act_text, place_text, note_line};
+
+use crate::events::push_event;
+use crate::lists::push_list;
+use crate::steps::push_step;
+use crate::words::{push_link, push_tag};
+use sci_cache::Request;
+use sci_core::{Event, Outcome, Pending};
+use sci_ops::Turn;
+use sci_port::Call;
+use sci_script::Passed;
+use sci_words::{LineNo, Mem, NodeId, Tag};
+use std::alloc::AllocError;
+
+/// The operation at work on a line: the one that was asked for, or, on another line, the victim's eviction.
+fn operation_name(asked: &Option<Request>, line: LineNo) -> &'static str
+    ensures { result.now ≡ operation_name asked.now line }
+{
+    let Some(request) = asked else {
+        return "evict";
+    };
+    if request.line() != line {
+        return "evict";
+    }
+    match request {
+        Request::Load { .. } => "load",
+        Request::Store { .. } => "store",
+        Request::Add { .. } => "add",
+        Request::WriteLine { .. } => "write line",
+        Request::Evict { .. } => "evict",
+    }
+}
+
+fn outcome_name(outcome: &Outcome) -> &'static str
+    ensures { result.now ≡ outcome_name outcome.now }
+{
+    match outcome {
+        Outcome::Done(_) => " Done",
+        Outcome::Missed(_) => " Missed",
+        Outcome::Busy => " Busy",
+    }
+}
+
+/// A wait behind a load of the memory word: in Queueing for the lent line, elsewhere for the place of the head.
+fn push_mem_wait(text: &mut String, pending: &Pending, mem: Mem) -> Result<(), AllocError>
+    ensures { OnOk result (string_bytes text.new ≡ string_bytes text.old ++ mem_wait pending.now mem) }
+{
+    if let Pending::Queueing { .. } = pending {
+        return text.push_str("memory is lent");
+    }
+    text.push_str("memory names ")?;
+    push_link(text, mem.forw)
+}
+
+/// What a turn that waited has seen last.
+fn push_wait(text: &mut String, node: NodeId, passed: &Passed) -> Result<(), AllocError>
+    ensures { OnOk result (string_bytes text.new ≡ string_bytes text.old ++ wait_text node passed.now.load passed.now.pending) }
+{
+    match passed.load {
+        Some(Call::Own(Some(tag))) => push_tag(text, node, tag),
+        Some(Call::MemWas(Some(mem))) => push_mem_wait(text, &passed.pending, mem),
+        Some(Call::TagWas(other, Some(tag))) => push_tag(text, other, tag),
+        _ => text.push_str("the line is busy"),
+    }
+}
+
+// A turn without an exchange: it waited, or it only looked.
+fn push_look(
+    text: &mut String,
+    node: NodeId,
+    passed: &Passed,
+    turn: &Turn,
+) -> Result<(), AllocError>
+    ensures { OnOk result (string_bytes text.new ≡ string_bytes text.old ++ look_text node passed.now turn.now) }
+{
+    if let Turn::Waiting = turn {
+        text.push_str("waits: ")?;
+        return push_wait(text, node, passed);
+    }
+    text.push_str("only looked")
+}
+
+/// What a turn did: its event and the outcome, or its wait, or that it only looked.
+fn push_act(text: &mut String, node: NodeId, passed: &Passed, turn: &Turn) -> Result<(), AllocError>
+    ensures { OnOk result (string_bytes text.new ≡ string_bytes text.old ++ act_text node passed.now turn.now) }
+{
+    match &passed.step {
+        Some((event, outcome)) => {
+            push_event(text, &passed.load, event)?;
+            text.push_str(outcome_name(outcome))
+        }
+        None => push_look(text, node, passed, turn),
+    }
+}
+
+fn push_place(
+    text: &mut String,
+    node: NodeId,
+    asked: &Option<Request>,
+    line: LineNo,
+) -> Result<(), AllocError>
+    ensures { OnOk result (string_bytes text.new ≡ string_bytes text.old ++ place_text node asked.now line) }
+{
+    let node = node.get();
+    write!(text, "# node {node} line {line} ")?;
+    text.push_str(operation_name(asked, line))?;
+    text.push_str(": ")
+}
+
+/// One turn of a node, which was asked for this: `# node N line L OPERATION: WHAT; STEP; LIST` and a line feed. WHAT is the event
+/// and Done or Missed, `waits: ` and what it waits for, or `only looked`; STEP is the pending step after the turn; LIST is the
+/// memory word and these entries, with what is lent and held.
+pub fn push_note(
+    text: &mut String,
+    node: NodeId,
+    asked: &Option<Request>,
+    passed: &Passed,
+    turn: &Turn,
+    mem: Mem,
+    entries: &[(NodeId, Tag)],
+) -> Result<(), AllocError>
+    ensures { OnOk result (string_bytes text.new ≡ string_bytes text.old ++ note_line node asked.now passed.now turn.now mem entries.now) }
+{
+    push_place(text, node, asked, passed.line)?;
+    push_act(text, node, passed, turn)?;
+    text.push_str("; ")?;
+    push_step(text, &passed.pending)?;
+    text.push_str("; ")?;
+    push_list(text, mem, entries)?;
+    text.push_str("\n")
+}
