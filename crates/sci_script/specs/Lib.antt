@@ -14,3 +14,4 @@ pub mod Wholes
 pub mod BankDesks
 pub mod ScriptText
 pub mod Refusals
+pub mod Dealt
