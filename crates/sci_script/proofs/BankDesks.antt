@@ -1,10 +1,11 @@
 -- The calls of a desk over banks, on its lists.
-use Rattle.std.proofs.Common.{◌≡◌, ◌∙◌, ℕ, zero, suc, ◌<◌, Bool, true, false, ◌&&◌, List, [], ◌∷◌, Option, Some, None, IfSome, Ok, length, get_or, set, refl, sym, ap, subst, arith, inl, inr}
-use Rattle.std.proofs.lemmas.Bool.{cases_eq}
+use Rattle.std.proofs.Common.{◌≡◌, ◌∙◌, ℕ, zero, suc, ◌+◌, ◌<◌, Bool, true, false, ◌&&◌, List, [], ◌∷◌, Option, Some, None, IfSome, Ok, length, get_or, set, refl, sym, ap, subst, arith, inl, inr}
+use Rattle.std.proofs.lemmas.Bool.{cases_eq, cases_lt}
 use Rattle.std.proofs.lemmas.Bool.Decides.{nat_tests}
 use Rattle.std.proofs.lemmas.List.{get_or-set_same, get_or-set_other, length-set}
 use Rattle.std.proofs.lemmas.Option.{slice_get_read}
 use Rattle.std.specs.List.{slice_get}
+use Rattle.sci_coarse.proofs.Listed.{same_some}
 use Rattle.sci_words.specs.Tag.{link_below}
 use Rattle.sci_words.specs.declared.memory.Mem.{Mem}
 use Rattle.sci_words.specs.declared.tags.Tag.{Tag}
@@ -109,11 +110,13 @@ pub tag_link : (n k : ℕ) (answer : Option Tag) → n ≡ k → IfSome answer (
 tag_link n k None e h = tt
 tag_link n k (Some t) e h = link_is_below n k t.forw e (first_holds (link_below n t.forw) (link_below n t.back) h.1)
 
--- the bank of a desk of one node
-module _ {B : Type 0} (way : B → BankWay) (nodes_on : B → ℕ → ℕ) (fits : B → ℕ → List ℕ → Type 0) (size : Size) (b : B) (one : size.nodes ≡ 1) (is : IsBankOf way nodes_on fits size 0 b) where
-  the_bank : (node : ℕ) (x : B) → slice_get (b ∷ []) node ≡ Some x → IsBankOf way nodes_on fits size node x
-  the_bank zero x e = subst (λ (y : B). IsBankOf way nodes_on fits size 0 y) (let z = e in cc) is
-  the_bank (suc k) x e = absurd (let z = e in cc)
-
-  pub only_bank : AreBanksOf way nodes_on fits size (b ∷ [])
-  only_bank = record { count = sym one; each = the_bank }
+-- what is true of the first elements, and of the next, is true of one more
+pub one_more : {A : Type 0} (P : ℕ → A → Type 0) (xs : List A) (n i : ℕ) (x : A) → i ≡ n → n < length xs → x ≡ get_or xs i x → P n x → ((k : ℕ) (a : A) → k < n → slice_get xs k ≡ Some a → P k a) → (k : ℕ) (a : A) → k < n + 1 → slice_get xs k ≡ Some a → P k a
+one_more {A} P xs n i x e lt read here all k a below at = elim (cases_lt k n) [
+  | inl less ↦ all k a less at
+  | inr from ↦
+      let same : k ≡ n = omega arith in
+      let there : slice_get xs i ≡ Some x = slice_get_read xs (length xs) i x refl (omega arith) read in
+      let found : slice_get xs i ≡ Some a = subst (λ (j : ℕ). slice_get xs j ≡ Some a) (same ∙ sym e) at in
+      subst (λ (j : ℕ). P j a) (sym same) (subst (P n) (same_some x a (sym there ∙ found)) here)
+]

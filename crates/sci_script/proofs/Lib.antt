@@ -12,3 +12,4 @@ pub mod Through
 pub mod Extended
 pub mod BankDesks
 pub mod Unheard
+pub mod Dealt

@@ -15,3 +15,4 @@ pub mod BankDesks
 pub mod Passed
 pub mod ScriptText
 pub mod Refusals
+pub mod Dealt

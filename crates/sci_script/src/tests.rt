@@ -10,7 +10,9 @@ mod long_texts;
 mod memory;
 mod residents;
 mod rows;
+mod shared;
 mod sizes;
+mod unheard;
 mod widths;
 mod writers;
 

@@ -4,10 +4,10 @@
 //! Where a call makes up for a refused growth by a later one, it answers Ok.
 ghost use Rattle.std.specs.Prelude.{None};
 
-use super::banks::{Unheard, is_bank, unheard_bank};
+use super::banks::are_banks;
+use super::unheard::unheard_bank;
 use super::{node, tag};
 use crate::{BankDesk, Script, ScriptRefusal, WholeDesk, list_text, read_script, tag_text};
-use sci_port::Bank;
 use sci_words::{Kind, Mem, MemState};
 use std::alloc::{AllocError, Global};
 use std::io;
@@ -141,34 +141,24 @@ fn shows(rt: &impl Abort, alloc: Global) -> Result<(), Fail> {
     Err(Fail::new("tag_text answered 7"))
 }
 
-/// Whether they are the banks that a desk was to be made of.
-fn are_banks(banks: &[Unheard]) -> bool {
-    match banks {
-        [only] => only.lines() == 1,
-        _ => false,
-    }
-}
-
-#[tactic(auto, using(crate::proofs::BankDesks::only_bank))]
 fn seats(rt: &impl Abort, alloc: Global, script: &Script) -> Result<(), Fail> {
-    let bank = unheard_bank(script.lines());
-    if script.nodes() != 1 || !is_bank(script, &bank, 0) {
-        return Err(Fail::new("it is not its bank"));
-    }
     let mut banks = Vec::new(alloc);
-    if banks.push(bank).is_err() {
+    if banks.push(unheard_bank(script.lines())).is_err() {
         return Err(Fail::new("push answered 7"));
+    }
+    if !are_banks(script, &banks) {
+        return Err(Fail::new("they are not its banks"));
     }
     match BankDesk::new(alloc, script, banks) {
         Ok(desk) => {
-            assert!(rt; are_banks(&desk.into_banks()));
+            assert!(rt; are_banks(script, &desk.into_banks()));
             Ok(())
         }
         Err(none) => {
             assert_eq!(rt; none.number(), 7);
-            assert!(rt; are_banks(&none.banks));
+            assert!(rt; are_banks(script, &none.banks));
             if let Ok(desk) = BankDesk::new(alloc, script, none.banks) {
-                assert!(rt; are_banks(&desk.into_banks()));
+                assert!(rt; are_banks(script, &desk.into_banks()));
                 return Err(Fail::new("new answered 7"));
             }
             Err(Fail::new("new answered 7 twice"))

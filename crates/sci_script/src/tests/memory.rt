@@ -11,8 +11,6 @@ use std::alloc::{AllocError, Global};
 use std::io;
 use std::io::{ErrorKind, Write};
 
-const TURNS: u32 = 100_000;
-
 const LINE: LineNo = 1;
 
 const NODES: u16 = 64;
@@ -79,11 +77,11 @@ fn reads(script: &Script) -> (u16, u16, [u64; 3]) {
 }
 
 /// Each node begins a load of the line, which its table then names.
-fn enter(script: &Script, desk: &mut WholeDesk) -> Option<()>
-    requires { desk.old.size ≡ script.now.size }
-    ensures { desk.new.size ≡ script.now.size }
+fn enter<D: Desk>(script: &Script, desk: &mut D) -> Option<()>
+    requires { D.size desk.old ≡ script.now.size }
+    ensures { D.size desk.new ≡ script.now.size }
 {
-    for number in 0..NODES {
+    for number in 0..script.nodes() {
         let node = NodeId::new(number)?;
         if node.get() >= script.nodes() || LINE >= script.lines() || desk.open(node) {
             return None;
@@ -94,14 +92,14 @@ fn enter(script: &Script, desk: &mut WholeDesk) -> Option<()>
 }
 
 /// Turns by chance of all nodes, each with one call after the other, with loads behind each: how many calls ended.
-fn turns(script: &Script, desk: &mut WholeDesk) -> Option<u32>
-    requires { desk.old.size ≡ script.now.size }
+fn turns<D: Desk>(script: &Script, desk: &mut D, count: u32) -> Option<u32>
+    requires { D.size desk.old ≡ script.now.size }
 {
     let mut ended: u32 = 0;
     let mut chance = 1;
-    for _ in 0..TURNS {
+    for _ in 0..count {
         chance = next(chance);
-        let node = NodeId::new((chance >> 16) as u16 % NODES)?;
+        let node = NodeId::new((chance >> 16) as u16 % script.nodes())?;
         if node.get() >= script.nodes() || LINE >= script.lines() {
             return None;
         }
@@ -136,7 +134,7 @@ fn readers_and_turns_take_no_memory(rt: HostRuntime) {
     };
     assert_eq!(rt; reads(&script), (NODES, 2, [9, 4, 0]));
     assert!(rt; enter(&script, &mut desk) == Some(()));
-    assert!(rt; matches!(turns(&script, &mut desk), Some(1_000..)));
+    assert!(rt; matches!(turns(&script, &mut desk, 100_000), Some(1_000..)));
     let mut out = Counter {
         bytes: 0,
         interrupted: false,

@@ -10,12 +10,6 @@ fn replacement(rt: HostRuntime) {
         rt.alloc(),
         &[
             (
-                "memory 1 2\ncapacity 1\nload 0 0 0\ndone 0\nload 0 1 0\ndone 0\nlist 0\nlist 1\nresidents 0\n",
-                None,
-                "node 0 read 0 stamp 0\nnode 0 read 0 stamp 0\nline 0 HOME\nline 1 FRESH 0: 0 ONLY_FRESH\n\
-                 node 0 residents 1\n",
-            ),
-            (
                 "memory 1 3\ncapacity 2\nresidents 0\nload 0 0 0\ndone 0\nload 0 1 0\ndone 0\nresidents 0\n\
                  load 0 0 0\nresidents 0\ndone 0\nload 0 2 0\nresidents 0\ndone 0\nlist 1\n\
                  evict 0 0\nresidents 0\ndone 0\nresidents 0\n",

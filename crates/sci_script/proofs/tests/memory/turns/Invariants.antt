@@ -2,4 +2,4 @@ use Rattle.std.proofs.Common.{◌≡◌}
 use Rattle.sci_script.proofs.tests.memory.turns.Given as goal
 
 abbrev pub invariant-loop : goal.invariant-loop
-invariant-loop l = l.desk.size ≡ l.script.size
+invariant-loop g l = g.D.Desk.size l.desk ≡ l.script.size
