@@ -1,4 +1,6 @@
 pub mod Calling
+pub mod Dealing
+pub mod Fitting
 pub mod Handed
 pub mod Making
 pub mod Plain

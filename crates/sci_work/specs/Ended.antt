@@ -1,5 +1,8 @@
 -- What a line holds once it is closed. This project's profile.
-use Rattle.std.specs.Prelude.{◌≡◌, ℕ, ◌≤◌, Option, Some, None, List, [], ◌∷◌, slice_index, slice_index_or}
+use Rattle.std.specs.Prelude.{◌≡◌, ℕ, ◌≤◌, Option, Some, None, List, [], ◌∷◌, length, slice_index, slice_index_or}
+use mathlib.Core.Option.{some}
+use lib.ListN.{get_elem?}
+use Rattle.sci_fine.specs.declared.line.FineLine.{FineLine}
 use Rattle.sci_core.specs.declared.lines.Line.{Line}
 use Rattle.sci_core.specs.Closed.{ClosedLine, IsExactClosed}
 use Rattle.sci_core.specs.State.{blank}
@@ -19,3 +22,23 @@ IsCounted word lines = (c : ClosedLine) × (lines ≡ c ∷ []) × IsExactClosed
 -- the numbers of a count are within the limits
 abbrev pub IsCountSize : ℕ → ℕ → ℕ → Type 0
 IsCountSize nodes adds capacity = (1 ≤ nodes) × (nodes ≤ 64) × (adds ≤ 1000000) × (1 ≤ capacity) × (capacity ≤ 1024)
+
+-- the line was closed as an exact sharing list, and what it holds fits what is known of it
+pub record IsClosedOf {K : Type 0} (fits : K → ℕ → List ℕ → Type 0) (l : FineLine K) (c : ClosedLine) : Type 0 where
+  pub exact : IsExactClosed c
+  pub fit : fits l.terms.keep l.terms.number (value_of c).words
+
+-- each line was closed so
+pub record AreClosedOf {K : Type 0} (fits : K → ℕ → List ℕ → Type 0) (lines : List (FineLine K)) (closed : List ClosedLine) : Type 0 where
+  pub count : length closed ≡ length lines
+  pub each : (k : ℕ) (l : FineLine K) (c : ClosedLine) → get_elem? lines k ≡ some l → get_elem? closed k ≡ some c → IsClosedOf fits l c
+
+-- line k was closed as an exact sharing list, and what it holds fits this fact
+pub record IsClosedAt (fits : ℕ → List ℕ → Type 0) (k : ℕ) (c : ClosedLine) : Type 0 where
+  pub exact : IsExactClosed c
+  pub fit : fits k (value_of c).words
+
+-- so many lines were closed so, in order
+pub record AreClosed (fits : ℕ → List ℕ → Type 0) (count : ℕ) (closed : List ClosedLine) : Type 0 where
+  pub count_is : length closed ≡ count
+  pub each : (k : ℕ) (c : ClosedLine) → get_elem? closed k ≡ some c → IsClosedAt fits k c

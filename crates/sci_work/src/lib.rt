@@ -6,6 +6,7 @@ mod counting;
 mod doors;
 mod facts;
 mod gates;
+mod lines;
 mod programs;
 mod refusals;
 mod ring;

@@ -1,0 +1,61 @@
+-- What a line holds once it is closed is its value, and fits what is known of it.
+use Rattle.std.proofs.Common.{◌≡◌, ◌≢◌, ◌⊎◌, ⊎_elim, ℕ, ◌<◌, true, Option, Some, None, List, [], ◌∷◌, length, get_or, refl, sym, ap, subst, ◌∙◌, arith}
+use mathlib.Core.Option.{some}
+use lib.ListN.{get_elem?}
+use Rattle.sci_words.specs.declared.memory.MemState.{MemState}
+use Rattle.sci_words.specs.declared.tags.Kind.{Kind}
+use Rattle.sci_words.specs.declared.tags.Tag.{Tag}
+use Rattle.sci_core.specs.declared.lines.Line.{Line}
+use Rattle.sci_core.specs.Chain.{IsPath, forward}
+use Rattle.sci_core.specs.Closed.{ClosedLine, IsExactClosed}
+use Rattle.sci_core.specs.Law.{is_valid}
+use Rattle.sci_core.specs.Run.{HasValue}
+use Rattle.sci_core.specs.State.{State, blank, invalid}
+use Rattle.sci_port.specs.declared.calls.Call.{Call}
+use Rattle.sci_fine.specs.declared.line.FineLine.{FineLine}
+use Rattle.sci_fine.specs.Ends.{IsEnd, IsReadOff}
+use Rattle.sci_work.specs.Ended.{IsClosedOf, value_by, value_of}
+use Rattle.sci_work.proofs.Seated.{head_inside, or_at}
+
+nobody : (forw : ℕ → Option ℕ) (from : Option ℕ) (nodes : List ℕ) → from ≡ None → IsPath from forw nodes → nodes ≡ []
+nobody forw from [] is path = refl
+nobody forw from (x ∷ xs) is path = absurd (let e = path.0 in cc)
+
+home_not_gone : (m : MemState) → m ≡ MemState.Home → m ≢ MemState.Gone
+home_not_gone m home gone = cc
+
+one_line : (o : Option Line) (a b : Line) → o ≡ Some a → o ≡ Some b → a ≡ b
+one_line o a b ea eb = cc
+
+some_not_none : (o : Option Line) (a : Line) → o ≡ Some a → o ≡ None → ⊥
+some_not_none o a ea en = cc
+
+fresh_valid : (k : Kind) → k ≡ Kind.Fresh → is_valid k ≡ true
+fresh_valid k is = ap is_valid is
+
+dirty_valid : (k : Kind) → k ≡ Kind.Dirty → is_valid k ≡ true
+dirty_valid k is = ap is_valid is
+
+module _ (n : ℕ) (fits : List ℕ → Type 0) (s : State) (v : Line) (c : ClosedLine) (valued : HasValue n fits s v) (read : IsReadOff n s c) (exact : IsExactClosed c) where
+  value_is : (o : Option ℕ) → c.mem.forw ≡ o → value_by o c.memory c.lines ≡ v
+  value_is None is =
+      let chain = valued.lawful.chain in
+      let none = nobody (forward s) s.memory.forw valued.chain (ap (λ m. m.forw) (sym read.mem) ∙ is) chain.path in
+      let copy = valued.lawful.copies.value.memory (home_not_gone s.memory.state (chain.empty.1 none)) in
+      ⊎_elim (λ here. one_line s.memory_slot c.memory v (sym read.memory) here) (λ out. absurd (some_not_none s.memory_slot c.memory (sym read.memory) out.0)) copy
+  value_is (Some head) is =
+      let inside = head_inside c head exact is in
+      let low : head < n = subst (λ (z : ℕ). head < z) read.tag_count inside in
+      let tag : get_or c.tags head invalid ≡ s.tags head = or_at c.tags head (s.tags head) invalid (read.tags head low) in
+      let kind = ap (λ (t : Tag). t.kind) (sym tag) in
+      let valid : is_valid (s.tags head).kind ≡ true = ⊎_elim (λ e. fresh_valid (s.tags head).kind (kind ∙ e)) (λ e. dirty_valid (s.tags head).kind (kind ∙ e)) (exact.1.linked.first head is) in
+      let y = read.lines head low in
+      or_at c.lines head y.0 blank y.1
+      ∙ ⊎_elim (λ here. one_line (s.slots head) y.0 v y.2 here) (λ out. absurd (some_not_none (s.slots head) y.0 y.2 out.0)) (valued.lawful.copies.sharer head valid)
+
+  pub fit_is : fits (value_of c).words
+  fit_is = subst (λ (x : Line). fits x.words) (sym (value_is c.mem.forw refl)) valued.lawful.copies.fit
+
+-- what `finish` gives of a line
+pub closed_of : {K : Type 0} (fits : K → ℕ → List ℕ → Type 0) (l : FineLine K) (logs : List (List (ℕ × Call))) (c : ClosedLine) → IsEnd fits l.terms logs c → IsClosedOf fits l c
+closed_of fits l logs c e = record { exact = e.exact; fit = fit_is l.terms.nodes (fits l.terms.keep l.terms.number) e.state e.value c e.valued e.read e.exact }

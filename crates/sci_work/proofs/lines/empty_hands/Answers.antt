@@ -1,0 +1,24 @@
+use Rattle.std.proofs.Common.{rules, ◌≡◌, ℕ, List, [], length, vec_items, vec_len, arith, sym, subst}
+use mathlib.Core.Option.{some, some-ne-none}
+use lib.ListN.{get_elem?}
+use Rattle.sci_work.specs.Hands.{IsHandOf}
+use Rattle.sci_work.proofs.Dealing.{no_hand}
+use Rattle.sci_work.proofs.Seated.{at_more}
+use Rattle.sci_work.proofs.lines.empty_hands.Goals as goal
+
+pub loop-init : goal.loop-init
+loop-init g c = record {
+  len = search rules;
+  room = search rules;
+  each = λ k x e. absurd (some-ne-none x (sym (subst (λ (z : List _). get_elem? z k ≡ some x) c.in_ok-hands.ensures.items e)));
+}
+
+pub loop-preserved : goal.loop-preserved
+loop-preserved g c =
+    let i = c.loop.invariant in let more = c.push_reserved.ensures in
+    record {
+      len = omega (arith, i.len, more.len);
+      room = search rules;
+      each = at_more (λ k hand. IsHandOf [] k (vec_items hand)) c.loop.hands.items c.push_reserved.new.self.items c.new.result more.items i.each
+          (no_hand (length c.loop.hands.items) c.new.result.items c.new.ensures.items);
+    }

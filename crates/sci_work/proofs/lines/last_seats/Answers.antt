@@ -1,0 +1,52 @@
+use Rattle.std.proofs.Common.{rules, ◌≡◌, ◌++◌, ◌∷◌, ℕ, ◌+◌, ◌<◌, true, false, List, [], length, vec_items, vec_len, arith, sym, subst, length-append}
+use Rattle.std.specs.Vec.Iter.{into_iter_items}
+use mathlib.Core.Option.{some, some-ne-none}
+use lib.ListN.{get_elem?}
+use Rattle.sci_core.specs.declared.pending.Pending.{Pending}
+use Rattle.sci_fine.proofs.Elements.{each_more}
+use Rattle.sci_fine.specs.Seats.{IsSeatOf}
+use Rattle.sci_work.specs.Hands.{IsHandOf}
+use Rattle.sci_work.proofs.Dealing.{hand_less}
+use Rattle.sci_work.proofs.Seated.{at_first, at_more}
+use Rattle.sci_work.proofs.lines.last_seats.Goals as goal
+
+pub loop-one-init : goal.loop-one-init
+loop-one-init g c = record {
+  rest = search rules;
+  same = search rules;
+  room = search rules;
+  seat_room = search rules;
+  left = λ k x e.
+      let h = c.requires k x (subst (λ (z : List _). get_elem? z k ≡ some x) c.into_iter-one-iterator.ensures.into_iter_gives.0 e) in
+      let at : k ≡ k + vec_len c.in_ok-all.all = omega (arith, c.in_ok-all.ensures.len) in
+      subst (λ (z : ℕ). IsHandOf (c.args.lines.now ++ c.args.line.now ∷ []) z (vec_items x)) at h;
+  hands = λ k x e. absurd (some-ne-none x (sym (subst (λ (z : List _). get_elem? z k ≡ some x) c.in_ok-all.ensures.items e)));
+  seats = λ k x e. absurd (some-ne-none x (sym (subst (λ (z : List _). get_elem? z k ≡ some x) c.in_ok-seats.ensures.items e)));
+}
+
+pub unreachable-requires : goal.unreachable-requires
+unreachable-requires g c =
+    let i = c.loop-one.invariant in let step = c.in-Some.ensures.steps in let lines = c.args.lines.now in let line = c.args.line.now in
+    let f = at_first (λ k hand. IsHandOf (lines ++ line ∷ []) k (vec_items hand)) (into_iter_items c.loop-one.one-iterator) (into_iter_items c.next.new.self) c.in-Some.one (vec_len c.loop-one.all) step.0 i.left in
+    let n : length c.in-Some.one.items ≡ length (lines ++ line ∷ []) = f.0.count in
+    let big : 0 < vec_len c.in-Some.one = omega (arith, n, length-append lines (line ∷ []), c.in-Some.one.ok) in
+    let e : false ≡ true = c.in_default.ensures.variant.1 big in cc
+
+pub loop-one-preserved : goal.loop-one-preserved
+loop-one-preserved g c =
+    let i = c.loop-one.invariant in let step = c.in-Some.ensures.steps in let lines = c.args.lines.now in let line = c.args.line.now in
+    let more = c.push_reserved-in-loop-one.ensures in let put = c.push_reserved.ensures in
+    let here : vec_len c.loop-one.all ≡ length c.loop-one.all.items = omega (arith, c.loop-one.all.ok) in
+    let f = at_first (λ k hand. IsHandOf (lines ++ line ∷ []) k (vec_items hand)) (into_iter_items c.loop-one.one-iterator) (into_iter_items c.next.new.self) c.in-Some.one (vec_len c.loop-one.all) step.0 i.left in
+    let s = hand_less lines line (vec_len c.loop-one.all) c.in-Some.one.items c.pop.new.self.items c.in-Some-pop.seat c.in-Some-pop.ensures.items f.0 in
+    record {
+      rest = omega (arith, i.rest, step.1, more.len);
+      same = omega (arith, i.same, more.len, put.len);
+      room = search rules;
+      seat_room = search rules;
+      left = λ k x e. subst (λ (z : ℕ). IsHandOf (lines ++ line ∷ []) (k + z) (vec_items x)) (sym more.len) (f.1 k x e);
+      hands = at_more (λ k hand. IsHandOf lines k (vec_items hand)) c.loop-one.all.items c.push_reserved-in-loop-one.new.self.items c.pop.new.self more.items i.hands
+          (subst (λ (z : ℕ). IsHandOf lines z (vec_items c.pop.new.self)) here s.0);
+      seats = subst (λ (z : List _). (k : ℕ) (x : _) → get_elem? z k ≡ some x → IsSeatOf line x × (x.standing.pending ≡ Pending.Idle)) (sym put.items)
+          (each_more (λ x. IsSeatOf line x × (x.standing.pending ≡ Pending.Idle)) c.loop-one.seats.items c.in-Some-pop.seat i.seats (s.1.of, s.1.idle));
+    }

@@ -1,0 +1,16 @@
+use Rattle.std.proofs.Common.{◌≡◌, ℕ, ◌+◌, ◌≤◌, ◌++◌, ◌∷◌, [], vec_items, vec_len, vec_capacity}
+use Rattle.std.specs.Vec.Iter.{into_iter_items, into_iter_len}
+use Rattle.sci_fine.specs.Seats.{AreIdle}
+use Rattle.sci_work.specs.Hands.{AtEach, IsHandOf}
+use Rattle.sci_work.proofs.lines.last_seats.Given as goal
+
+abbrev pub invariant-loop-one : goal.invariant-loop-one
+invariant-loop-one g l = record {
+  rest : vec_len l.all + into_iter_len l.one-iterator ≡ vec_len l.fn.hands;
+  same : vec_len l.seats ≡ vec_len l.all;
+  room : vec_len l.fn.hands ≤ vec_capacity l.all;
+  seat_room : vec_len l.fn.hands ≤ vec_capacity l.seats;
+  left : AtEach (λ k hand. IsHandOf (l.lines ++ l.line ∷ []) (k + vec_len l.all) (vec_items hand)) (into_iter_items l.one-iterator);
+  hands : AtEach (λ k hand. IsHandOf l.lines k (vec_items hand)) (vec_items l.all);
+  seats : AreIdle l.line (vec_items l.seats);
+}

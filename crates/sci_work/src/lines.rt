@@ -1,0 +1,142 @@
+//! The lines of a workload, and each node's seats at them.
+ghost use Rattle.std.specs.Prelude.{◌≡◌, ◌<◌, ◌≤◌, ◌++◌, ◌∷◌, [], ℕ, replicate, IfOk, IfErr, vec_len};
+ghost use Rattle.sci_fine.specs.Banks.{IsLine};
+ghost use Rattle.sci_fine.specs.Seats.{AreIdle, AreIdleFrom};
+ghost use Rattle.sci_work.specs.Ended.{AreClosedOf};
+ghost use Rattle.sci_work.specs.Hands.{AtEach, IsHandOf};
+
+use crate::refusals::WorkRefusal;
+use crate::seating::Hand;
+use sci_core::{Closed, Keeps, Line, OpenRefusal};
+use sci_fine::{FineLine, Seat};
+use std::alloc::Global;
+
+// The hands of so many nodes, at no line.
+fn empty_hands<K: Keeps>(alloc: Global, nodes: u16) -> Result<Vec<Hand<K>>, WorkRefusal>
+    ensures len { IfOk result (λ hands. vec_len hands ≡ nodes) }
+    ensures each { IfOk result (λ hands. AtEach (λ k hand. IsHandOf [] k hand.items) hands.items) }
+    ensures err { IfErr result (λ e. e ≡ WorkRefusal.OutOfMemory) }
+{
+    let mut hands = Vec::with_capacity(alloc, usize::from(nodes))?;
+    for _ in 0..nodes {
+        hands.push_reserved(Vec::new(alloc));
+    }
+    Ok(hands)
+}
+
+// Each node's hand with its seat at one more line.
+fn extended<K: Keeps>(
+    alloc: Global,
+    lines: &[FineLine<K>],
+    line: &FineLine<K>,
+    hands: Vec<Hand<K>>,
+    seats: Vec<Seat<K>>,
+) -> Result<Vec<Hand<K>>, WorkRefusal>
+    requires count { vec_len seats ≡ vec_len hands }
+    requires seats { AreIdleFrom line.now 0 seats.items }
+    requires hands { AtEach (λ k hand. IsHandOf lines.now k hand.items) hands.items }
+    ensures len { IfOk result (λ all. vec_len all ≡ vec_len hands) }
+    ensures each { IfOk result (λ all. AtEach (λ k hand. IsHandOf (lines.now ++ line.now ∷ []) k hand.items) all.items) }
+    ensures err { IfErr result (λ e. e ≡ WorkRefusal.OutOfMemory) }
+{
+    let _ = lines;
+    let _ = line;
+    let mut all = Vec::with_capacity(alloc, hands.len())?;
+    let mut rest = seats.into_iter();
+    for one in hands {
+        let mut hand = one;
+        let Some(seat) = rest.next() else {
+            unreachable!()
+        };
+        let Ok(()) = hand.push(seat) else {
+            return Err(WorkRefusal::OutOfMemory);
+        };
+        all.push_reserved(hand);
+    }
+    Ok(all)
+}
+
+/// So many lines of zeros under one fact, numbered from 0, and each node's hand.
+pub(crate) fn opened<K: Keeps>(
+    alloc: Global,
+    nodes: u16,
+    count: u16,
+    keep: K,
+) -> Result<(Vec<FineLine<K>>, Vec<Hand<K>>), WorkRefusal>
+    requires nodes { (0 < nodes) × (nodes ≤ 64) }
+    requires fits { (number : ℕ) → K.fits keep number (replicate 8 0) }
+    ensures count { IfOk result (λ r. vec_len r.0 ≡ count) }
+    ensures lines { IfOk result (λ r. AtEach (IsLine nodes keep) r.0.items) }
+    ensures len { IfOk result (λ r. vec_len r.1 ≡ nodes) }
+    ensures hands { IfOk result (λ r. AtEach (λ k hand. IsHandOf r.0.items k hand.items) r.1.items) }
+    ensures err { IfErr result (λ e. e ≡ WorkRefusal.OutOfMemory) }
+{
+    let mut lines = Vec::with_capacity(alloc, usize::from(count))?;
+    let mut hands = empty_hands(alloc, nodes)?;
+    for number in 0..count {
+        let (line, seats) = match FineLine::new(alloc, nodes, number, Line::ZERO, keep) {
+            Ok(made) => made,
+            Err(OpenRefusal::BadNodes) => unreachable!(),
+            Err(OpenRefusal::OutOfMemory) => return Err(WorkRefusal::OutOfMemory),
+        };
+        hands = extended(alloc, &lines, &line, hands, seats)?;
+        lines.push_reserved(line);
+    }
+    Ok((lines, hands))
+}
+
+// The hands without their seats at the last line, and those.
+fn last_seats<K: Keeps>(
+    alloc: Global,
+    lines: &[FineLine<K>],
+    line: &FineLine<K>,
+    hands: Vec<Hand<K>>,
+) -> Result<(Vec<Hand<K>>, Vec<Seat<K>>), WorkRefusal>
+    requires { AtEach (λ k hand. IsHandOf (lines.now ++ line.now ∷ []) k hand.items) hands.items }
+    ensures hands { IfOk result (λ r. AtEach (λ k hand. IsHandOf lines.now k hand.items) r.0.items) }
+    ensures seats { IfOk result (λ r. AreIdle line.now r.1.items) }
+    ensures err { IfErr result (λ e. e ≡ WorkRefusal.OutOfMemory) }
+{
+    let _ = lines;
+    let _ = line;
+    let mut all = Vec::with_capacity(alloc, hands.len())?;
+    let mut seats = Vec::with_capacity(alloc, hands.len())?;
+    for one in hands {
+        let mut hand = one;
+        let Some(seat) = hand.pop() else {
+            unreachable!()
+        };
+        seats.push_reserved(seat);
+        all.push_reserved(hand);
+    }
+    Ok((all, seats))
+}
+
+/// The lines, closed.
+pub(crate) fn closed<K: Keeps>(
+    alloc: Global,
+    lines: Vec<FineLine<K>>,
+    hands: Vec<Hand<K>>,
+) -> Result<Vec<Closed>, WorkRefusal>
+    requires { AtEach (λ k hand. IsHandOf lines.items k hand.items) hands.items }
+    ensures ok { IfOk result (λ all. AreClosedOf K.fits lines.items all.items) }
+    ensures err { IfErr result (λ e. e ≡ WorkRefusal.OutOfMemory) }
+{
+    let mut all = Vec::with_capacity(alloc, lines.len())?;
+    let mut rest = lines;
+    let mut hands = hands;
+    for _ in 0..rest.len() {
+        let Some(line) = rest.pop() else {
+            unreachable!()
+        };
+        let (fewer, seats) = last_seats(alloc, &rest, &line, hands)?;
+        hands = fewer;
+        let Ok(one) = line.finish(alloc, seats) else {
+            return Err(WorkRefusal::OutOfMemory);
+        };
+        let Ok(()) = all.insert(0, one) else {
+            unreachable!()
+        };
+    }
+    Ok(all)
+}
