@@ -45,6 +45,24 @@ fn seats_of_two_nodes_make_no_bank(rt: HostRuntime) -> Result<(), Fail> {
 }
 
 #[test]
+#[tactic(auto, using(crate::proofs::TwoLines::two_lines))]
+fn seats_in_another_order_make_no_bank(rt: HostRuntime) -> Result<(), Fail> {
+    let (first, seat, _) = pair_of(rt.alloc(), 0, AnyWords).ok_or("no line")?;
+    let (second, other, _) = pair_of(rt.alloc(), 1, AnyWords).ok_or("no line")?;
+    let lines = [first, second];
+    let seats = vec![in rt.alloc(); other, seat]?;
+    let Err(refused) = FineBank::new(lines.as_slice(), seats) else {
+        panic!(rt; "it is no bank")
+    };
+    assert_eq!(rt; refused.number(), 9);
+    assert_eq!(rt; refused.seats.len(), 2);
+    for (number, seat) in [1, 0].iter().zip(refused.seats.iter()) {
+        assert_eq!(rt; (seat.number(), seat.node().get()), (*number, 0));
+    }
+    Ok(())
+}
+
+#[test]
 #[tactic(auto, using(crate::proofs::TwoLines::one_line))]
 fn no_seats_make_no_bank(rt: HostRuntime) -> Result<(), Fail> {
     let (line, _, _) = pair_of(rt.alloc(), 0, AnyWords).ok_or("no line")?;
