@@ -30,11 +30,11 @@ def say(text):
         print(f"refused: {text}", flush=True)
 
 
-def copy_of(root, room, is_warm):
-    """Copies what a check reads of the repository; what earlier checks kept only where that is asked for."""
+def copy_of(root, room, kept):
+    """Copies what a check reads of the repository, and what earlier checks kept of these crates."""
     shutil.copyfile(f"{root}/crates.txt", f"{room}/crates.txt")
     shutil.copytree(f"{root}/crates", f"{room}/crates", ignore=shutil.ignore_patterns("out"))
-    for name in os.listdir(f"{root}/crates") if is_warm else []:
+    for name in kept:
         if os.path.isdir(f"{root}/crates/{name}/out/incremental"):
             shutil.copytree(f"{root}/crates/{name}/out/incremental", f"{room}/kept/{name}")
 
@@ -124,8 +124,10 @@ def main():
     parser.add_argument("--root", default=str(ROOT), help="the repository, if another than this one")
     parser.add_argument("names", nargs="*", metavar="NAME", help="the crates; all, if none is named")
     given = parser.parse_args()
+    # (over libraries as they are built, no other crate is proved)
+    kept = given.names if given.built and given.names else os.listdir(f"{given.root}/crates")
     with tempfile.TemporaryDirectory(prefix="refused-") as room:
-        copy_of(os.path.realpath(given.root), room, given.warm)
+        copy_of(os.path.realpath(given.root), room, kept if given.warm else [])
         crates = sorted(RT.rtlib.crates_below(room), key=lambda it: len(it.below()))
         unknown = {*given.names} - {it.name for it in crates}
         if unknown:

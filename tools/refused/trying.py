@@ -56,8 +56,8 @@ class Trial:
         """Returns the names, by functions or by their modules, of what the edits change."""
         return {path for it in self.edits if it.change for path in by(it.change, self.types, self.crate.name)}
 
-    def words(self, jobs):
-        return [*self.crate.words(["--jobs", str(jobs)], keeps=False), "--incremental", self.kept]
+    def words(self, jobs, kept=None):
+        return [*self.crate.words(["--jobs", str(jobs)], keeps=False), "--incremental", kept or self.kept]
 
     def build(self, jobs):
         """Builds the crate's library for the crates above it."""
@@ -82,7 +82,8 @@ class Trial:
         return not status and bool(told) and told[1] == told[2], said, used, seconds
 
     def check(self, edits):
-        """Checks a copy of the crate with these edits, and returns what the prover said, or why they can't stand together."""
+        """Checks a copy of the crate with these edits, over a copy of the folder of kept work: so none is tried over what another left.
+        Returns what the prover said, or why they can't stand together."""
         with tempfile.TemporaryDirectory(prefix="refused-") as room:
             for part in RT.rtlib.PARTS:
                 if os.path.isdir(f"{self.crate.folder}/{part}"):
@@ -96,7 +97,9 @@ class Trial:
                     with open(f"{room}/{path}", "w", encoding="utf-8") as it:
                         it.write(text)
                 changed |= {*texts}
-            status, said, used, _ = run(["check", *self.words(1), *only(it.function for it in edits)], room)
+            with tempfile.TemporaryDirectory(prefix="refused-") as kept:
+                shutil.copytree(self.kept, kept, dirs_exist_ok=True)
+                status, said, used, _ = run(["check", *self.words(1, kept), *only(it.function for it in edits)], room)
         return status, changed, said, used
 
     def reaches_the_prover(self, status, changed, said):

@@ -1,6 +1,6 @@
 """How fast it is, beside what plain Rust makes of the same: turns of scripts, dumps, and operations of threads.
 
-    python3 tools/speed [--runs N] [--check] [--only scripts|dumps|threads] [--keep FOLDER]
+    python3 tools/speed [--runs N] [--check] [--only scripts|dumps|works|threads] [--keep FOLDER]
 
 The peers stand in tools/peers, and are built here by rustc; without it the project's programs are measured alone. All programs of
 a table run in turn, so that whatever else the machine does meets all of them; ratios hold from run to run, rates don't.
@@ -16,7 +16,10 @@ Then the same calls by the program alone, with each capacity of the nodes' cache
 Next, how long a processor takes to read and check a dump of 1,024 lines that 64 nodes share, by `read_dump` and `check`, beside a
 plain Rust program that reads it, looks at the same rules and makes the lists; the best of N runs counts, in turn.
 
-Then, how many operations a second threads make, each by a seat of its own, and by the same operation again while it waits:
+Then, how long `scisim run` takes over a stencil, by the number of its threads, and over a ring, beside plain Rust with a Mutex round
+each line; from start to end, the shortest of N runs, in turn. Both must print the same.
+
+Last, how many operations a second threads make, each by a seat of its own, and by the same operation again while it waits:
 additions of 1 to word 0 of a line, and loads of a line. The project's program (tools/speed/operations) is built beside copies of
 the crates, once on lines under a lock word (sci_coarse) and once on lines of separate words (sci_fine); its peers are std's Mutex
 and RwLock round eight words, and a lean Rust body of the same rows, on separate words 128 bytes apart (words) and under a lock
@@ -37,6 +40,7 @@ import tempfile
 import dumps
 import scripts
 import threads
+import works
 
 ROOT = pathlib.Path(__file__).resolve().parents[2]
 
@@ -47,7 +51,7 @@ def build_peers(folder):
         print("no rustc: the peers are left out", flush=True)
         return {}
     built = {}
-    for name in ["sim", "dumps", "threads"]:
+    for name in ["sim", "dumps", "works", "threads"]:
         built[name] = folder / name
         source = ROOT / "tools/peers" / name / "main.rs"
         subprocess.run(["rustc", "--edition", "2021", "-C", "opt-level=3", "-o", built[name], source], check=True)
@@ -58,17 +62,21 @@ def main():
     parser = argparse.ArgumentParser(prog="speed")
     parser.add_argument("--runs", type=int, default=5)
     parser.add_argument("--check", action="store_true")
-    parser.add_argument("--only", choices=["scripts", "dumps", "threads"])
+    parser.add_argument("--only", choices=["scripts", "dumps", "works", "threads"])
     parser.add_argument("--keep", type=pathlib.Path)
     chosen = parser.parse_args()
     with tempfile.TemporaryDirectory() as name:
         folder = pathlib.Path(name)
         peers = build_peers(folder)
-        if chosen.only in (None, "scripts"):
+        program = ROOT / "crates/sci_sim/out/sci_sim"
+        if chosen.only in (None, "scripts", "works"):
             # the script scisim starts the program that this builds
             subprocess.run([ROOT / "scisim", "--help"], stdout=subprocess.DEVNULL, check=True)
-            programs = {"scisim": ROOT / "crates/sci_sim/out/sci_sim"} | ({"plain": peers["sim"]} if peers else {})
+        if chosen.only in (None, "scripts"):
+            programs = {"scisim": program} | ({"plain": peers["sim"]} if peers else {})
             scripts.measure_all(programs, chosen.runs, chosen.check)
+        if chosen.only in (None, "works") and not chosen.check:
+            works.measure_all(folder, program, peers.get("works"), chosen.runs)
         if chosen.only in (None, "dumps") and not chosen.check:
             dumps.measure_all(folder, (chosen.keep or folder).resolve(), peers.get("dumps"), chosen.runs)
         if chosen.only in (None, "threads") and not chosen.check:

@@ -35,7 +35,7 @@ module _ {K : Type 0} {g : keeps.Ghosts K} (lines : List (CoarseLine K)) (seats 
   }
 
 module _ {K : Type 0} {g : keeps.Ghosts K} (fits : K → ℕ → List ℕ → Type 0) (keep : K) (node : ℕ) (lines : List (CoarseLine K)) (seats : List (Seat K g)) (are : AreSeatsAt keep node lines seats) (line : ℕ) (within : line < length (map (λ (l : CoarseLine K). l.terms.nodes) lines)) where
-  inside : line < length lines
+  pub inside : line < length lines
   inside = subst (λ (n : ℕ). line < n) (length-map lines (λ (l : CoarseLine K). l.terms.nodes)) within
 
   pub near : line < length seats

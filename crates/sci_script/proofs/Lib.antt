@@ -8,6 +8,7 @@ pub mod Followed
 pub mod Seated
 pub mod Kept
 pub mod Desks
+pub mod PassedLines
 pub mod Through
 pub mod Extended
 pub mod BankDesks

@@ -1,4 +1,4 @@
--- What is said of a desk through a view of it is said of what it is seen as.
+-- What is said of a desk is said of what it is seen as, where each call of it is one of that.
 use Rattle.std.proofs.Common.{ℕ, zero, suc, Bool, List, [], ◌∷◌, Option, Some, None, take, ap, inl, inr, ⊎_elim}
 use Rattle.sci_words.specs.declared.tags.Tag.{Tag}
 use Rattle.sci_script.specs.declared.commands.Step.{Step}
@@ -6,29 +6,27 @@ use Rattle.sci_script.specs.declared.commands.Command.{Command}
 use Rattle.sci_script.specs.declared.commands.Command.TheVariants.{Begin, Turn, Done, List as ListLine, Tag as ShowTag, Residents}
 use Rattle.sci_script.specs.declared.refusals.ScriptRefusal.{ScriptRefusal}
 use Rattle.sci_script.specs.declared.refusals.ScriptRefusal.TheVariants.{OutOfMemory, BadCommand, BadNumber, NotDone, WriteFailed}
-use Rattle.sci_script.specs.Event.{Event, SawMem, SawTag}
-use Rattle.sci_script.specs.Request.{no_words, words_after}
+use Rattle.sci_script.specs.Event.{Event, Began, Turned, SawMem, SawTag, SawResidents}
+use Rattle.sci_script.specs.Request.{asked, no_words, words_after}
 use Rattle.sci_script.specs.Run.{Unended, Repeats, Loads, Walked, Prints, PrintsAll, IsOutOfPlace, IsLost, IsUnended, WantsMemory, StopsAt, Leaves}
 
-module _ {S T : Type 0} (f : S → T) (is_open : T → ℕ → Bool) (does : T → Event → T → Type 0) where
+module _ {S T : Type 0} (f : S → T) (is_open : T → ℕ → Bool) (does_seen : S → Event → S → Type 0) (does : T → Event → T → Type 0)
+    (seen : (s : S) (event : Event) (t : S) → does_seen s event t → does (f s) event (f t)) where
   abbrev open_seen : S → ℕ → Bool
   open_seen s node = is_open (f s) node
-
-  abbrev does_seen : S → Event → S → Type 0
-  does_seen s event t = does (f s) event (f t)
 
   unended : (node n : ℕ) (s t : S) → Unended does_seen node n s t → Unended does node n (f s) (f t)
   unfolding Unended
   unended node zero s t h = ap f h
-  unended node (suc n) s t h = (f h.0, h.1, unended node n s h.0 h.2, h.3, h.4)
+  unended node (suc n) s t h = (f h.0, h.1, unended node n s h.0 h.2, h.3, seen h.0 (Turned node h.1) t h.4)
 
   repeats : (event : Event) (n : ℕ) (s t : S) → Repeats does_seen event n s t → Repeats does event n (f s) (f t)
   unfolding Repeats
   repeats event zero s t h = ap f h
-  repeats event (suc n) s t h = (f h.0, repeats event n s h.0 h.1, h.2)
+  repeats event (suc n) s t h = (f h.0, repeats event n s h.0 h.1, seen h.0 event t h.2)
 
   loads : (none some : Event) (s t : S) → Loads does_seen none some s t → Loads does none some (f s) (f t)
-  loads none some s t h = (h.0, h.1, f h.2, repeats none h.0 s h.2 h.3, h.4)
+  loads none some s t h = (h.0, h.1, f h.2, repeats none h.0 s h.2 h.3, seen h.2 some t h.4)
 
   walked : (line : ℕ) (from : Option ℕ) (entries : List (ℕ × Tag)) (next : Option ℕ) (s t : S) → Walked does_seen line from entries next s t → Walked does line from entries next (f s) (f t)
   unfolding Walked
@@ -38,13 +36,13 @@ module _ {S T : Type 0} (f : S → T) (is_open : T → ℕ → Bool) (does : T �
       (f h.0, h.1, loads (SawTag line node None) (SawTag line node (Some h.1)) s h.0 h.2, h.3, walked line h.1.forw entries next h.0 t h.4)
 
   pub prints : (words : List ℕ) (s : S) (command : Command) (text : List ℕ) (t : S) → Prints open_seen does_seen words s command text t → Prints is_open does words (f s) command text (f t)
-  prints words s (Begin node line request) text t h = h
-  prints words s (Turn node) text t h = h
-  prints words s (Done node) text t h = (h.0, h.1, h.2, f h.3, unended node h.1 s h.3 h.4, h.5, h.6, h.7, h.8)
+  prints words s (Begin node line request) text t h = (h.0, seen s (Began node (asked line request)) t h.1, h.2)
+  prints words s (Turn node) text t h = (h.0, h.1, seen s (Turned node h.1) t h.2, h.3)
+  prints words s (Done node) text t h = (h.0, h.1, h.2, f h.3, unended node h.1 s h.3 h.4, h.5, h.6, seen h.3 (Turned node h.5) t h.7, h.8)
   prints words s (ListLine line) text t h =
       (f h.0, h.1, h.2, loads (SawMem line None) (SawMem line (Some h.1)) s h.0 h.3, walked line h.1.forw h.2 None h.0 t h.4, h.5)
   prints words s (ShowTag line node) text t h = (h.0, loads (SawTag line node None) (SawTag line node (Some h.0)) s t h.1, h.2)
-  prints words s (Residents node) text t h = h
+  prints words s (Residents node) text t h = (h.0, seen s (SawResidents node h.0) t h.1, h.2)
 
   pub prints_all : (words : List ℕ) (s : S) (steps : List Step) (text : List ℕ) (t : S) → PrintsAll open_seen does_seen words s steps text t → PrintsAll is_open does words (f s) steps text (f t)
   prints_all words s [] text t h = (h.0, ap f h.1)
@@ -80,8 +78,8 @@ module _ {S T : Type 0} (f : S → T) (is_open : T → ℕ → Bool) (does : T �
 
   wants_memory : (s : S) (command : Command) (t : S) → WantsMemory open_seen does_seen s command t → WantsMemory is_open does (f s) command (f t)
   wants_memory s (Begin node line request) t h = (h.0, ap f h.1)
-  wants_memory s (Turn node) t h = h
-  wants_memory s (Done node) t h = (h.0, h.1, h.2, f h.3, unended node h.1 s h.3 h.4, h.5, h.6, h.7)
+  wants_memory s (Turn node) t h = (h.0, h.1, seen s (Turned node h.1) t h.2)
+  wants_memory s (Done node) t h = (h.0, h.1, h.2, f h.3, unended node h.1 s h.3 h.4, h.5, h.6, seen h.3 (Turned node h.5) t h.7)
   wants_memory s (ListLine line) t h =
       (f h.0, h.1, loads (SawMem line None) (SawMem line (Some h.1)) s h.0 h.2, (h.3.0, h.3.1, walked line h.1.forw h.3.0 h.3.1 h.0 t h.3.2))
   wants_memory s (ShowTag line node) t h = (h.0, loads (SawTag line node None) (SawTag line node (Some h.0)) s t h.1)

@@ -35,12 +35,12 @@ impl Passed {
     };
 
     // Keeps a load.
-    fn load(&mut self, line: LineNo, call: Call, pending: Pending)
-        ensures { self.new ≡ record { line = line; load = Some call; step = self.old.step; pending = pending } }
+    fn load(&mut self, line: LineNo, call: Call, pending: &Pending)
+        ensures { self.new ≡ record { line = line; load = Some call; step = self.old.step; pending = pending.now } }
     {
         self.line = line;
         self.load = Some(call);
-        self.pending = pending;
+        self.pending = *pending;
     }
 }
 
@@ -97,24 +97,24 @@ impl<B: Bank> Bank for Watched<'_, '_, B> {
     fn own(&mut self, line: LineNo) -> Option<Tag> {
         let own = self.bank.own(line);
         let answer = own;
-        let pending = *self.bank.pending(line);
-        self.passed.load(line, Call::Own(answer), pending);
+        self.passed
+            .load(line, Call::Own(answer), self.bank.pending(line));
         own
     }
 
     fn mem(&mut self, line: LineNo) -> Option<Mem> {
         let mem = self.bank.mem(line);
         let answer = mem;
-        let pending = *self.bank.pending(line);
-        self.passed.load(line, Call::MemWas(answer), pending);
+        self.passed
+            .load(line, Call::MemWas(answer), self.bank.pending(line));
         mem
     }
 
     fn tag(&mut self, line: LineNo, node: NodeId) -> Option<Tag> {
         let tag = self.bank.tag(line, node);
         let answer = tag;
-        let pending = *self.bank.pending(line);
-        self.passed.load(line, Call::TagWas(node, answer), pending);
+        self.passed
+            .load(line, Call::TagWas(node, answer), self.bank.pending(line));
         tag
     }
 
@@ -122,10 +122,9 @@ impl<B: Bank> Bank for Watched<'_, '_, B> {
         let passing = event;
         let outcome = self.bank.step(line, event);
         let answer = outcome;
-        let pending = *self.bank.pending(line);
         self.passed.line = line;
         self.passed.step = Some((passing, answer));
-        self.passed.pending = pending;
+        self.passed.pending = *self.bank.pending(line);
         outcome
     }
 }
@@ -161,6 +160,7 @@ impl WholeDesk {
         requires open { shared_is_open (shared_of self.old) node ≡ true }
         ensures turned { shared_does (shared_of self.old) (Turned node result) (shared_of self.new) }
         ensures passed { shared_passes (shared_of self.old) node (shared_of self.new) passed.old passed.new }
+        ensures line { passed.old.line ≡ 0 → passed.new.line < self.new.size.lines }
         ensures open { IsNoEnd result → shared_is_open (shared_of self.new) node ≡ true }
         ensures size { self.new.size ≡ self.old.size }
     {

@@ -1,6 +1,10 @@
+pub mod ReadFaults
 pub mod Serving
+pub mod Fronts
 pub mod Buffering
 pub mod Listing
 pub mod Stopping
 pub mod SettingsKeys
 pub mod SettingsItems
+pub mod SettingsLimits
+pub mod Declining

@@ -1,39 +1,40 @@
--- The faults of the command `script`.
-use Rattle.std.proofs.Common.{◌≤◌, ℕ, List, [], length, Result, Ok, Err, OnOk, IfErr, refl, inl, inr}
+-- The faults of the commands `script` and `trace`.
+use Rattle.std.proofs.Common.{◌≡◌, ◌≤◌, ℕ, List, [], length, Result, Ok, Err, OnOk, IfErr, refl, sym, subst, inl, inr}
+use Rattle.sci_script.specs.declared.commands.Size.{Size}
+use Rattle.sci_script.specs.declared.commands.Opening.{Opening}
+use Rattle.sci_script.specs.declared.commands.Step.{Step}
 use Rattle.sci_script.specs.declared.refusals.ScriptRefusal.{ScriptRefusal}
 use Rattle.sci_script.specs.declared.refusals.ScriptRefusal.TheVariants.{OutOfMemory, BadCommand, BadNumber, NotDone, WriteFailed}
 use Rattle.sci_sim.specs.declared.faults.SimFault.{SimFault}
-use Rattle.sci_sim.specs.declared.faults.SimFault.TheVariants.{CannotRead, CannotWrite, InputTooLong, Refused, NoDump, Unlawful}
+use Rattle.sci_sim.specs.declared.serve.Form.{Form}
 use Rattle.sci_sim.specs.Fault.{fault_of}
 use Rattle.sci_script.specs.Format.{Fails, script_of}
 use Rattle.sci_sim.specs.Input.{IsReadFault}
-use Rattle.sci_sim.specs.Serve.{Stops, StopsRunning}
+use Rattle.sci_sim.specs.Serve.{FailsWith, Stops, StopsRunning}
+use Rattle.sci_sim.proofs.ReadFaults.{of_read_fault}
 
-pub stops_reading : (e : ScriptRefusal) (input : List ℕ) → length input ≤ 1048576 → Fails e (script_of input) → Stops (fault_of e) input []
-stops_reading OutOfMemory input short h = inl (tt, refl)
-stops_reading (BadCommand n) input short h = inl ((short, h), refl)
-stops_reading (BadNumber n) input short h = inl ((short, h), refl)
-stops_reading (NotDone n) input short h = absurd h
-stops_reading WriteFailed input short h = absurd h
+pub stops_reading : (form : Form) (e : ScriptRefusal) (input : List ℕ) → length input ≤ 1048576 → Fails e (script_of input) → Stops form (fault_of e) input []
+stops_reading form OutOfMemory input short h = inl (tt, refl)
+stops_reading form (BadCommand n) input short h = inl ((short, h), refl)
+stops_reading form (BadNumber n) input short h = inl ((short, h), refl)
+stops_reading form (NotDone n) input short h = absurd h
+stops_reading form WriteFailed input short h = absurd h
 
-pub stops_running : (e : ScriptRefusal) (input written : List ℕ) → StopsRunning e input written → Stops (fault_of e) input written
-stops_running OutOfMemory input written h = inr h
-stops_running (BadCommand n) input written h = inr h
-stops_running (BadNumber n) input written h = inr h
-stops_running (NotDone n) input written h = inr h
-stops_running WriteFailed input written h = h
+stops_running : (form : Form) (e : ScriptRefusal) (input written : List ℕ) → StopsRunning form e input written → Stops form (fault_of e) input written
+stops_running form OutOfMemory input written h = inr h
+stops_running form (BadCommand n) input written h = inr h
+stops_running form (BadNumber n) input written h = inr h
+stops_running form (NotDone n) input written h = inr h
+stops_running form WriteFailed input written h = h
 
-pub stops_input : (e : SimFault) (input : List ℕ) → IsReadFault e input → Stops e input []
-stops_input CannotRead input h = refl
-stops_input CannotWrite input h = absurd h
-stops_input InputTooLong input h = (h, refl)
-stops_input (Refused OutOfMemory) input h = inl (tt, refl)
-stops_input (Refused (BadCommand n)) input h = absurd h
-stops_input (Refused (BadNumber n)) input h = absurd h
-stops_input (Refused (NotDone n)) input h = absurd h
-stops_input (Refused WriteFailed) input h = absurd h
-stops_input (NoDump n) input h = absurd h
-stops_input Unlawful input h = absurd h
+pub stops_failing : (form : Form) (e : ScriptRefusal) (input written : List ℕ) (size : Size) (capacity : ℕ) (openings : List Opening) (steps : List Step) → length input ≤ 1048576
+    → script_of input ≡ Ok (size, capacity, openings, steps) → FailsWith form size capacity openings steps e written → Stops form (fault_of e) input written
+stops_failing form e input written size capacity openings steps short is (inl (memory, none)) =
+    subst (λ (r : ScriptRefusal). Stops form (fault_of r) input written) (sym memory) (inl (tt, none))
+stops_failing form e input written size capacity openings steps short is (inr left) = stops_running form e input written (short, size, capacity, openings, steps, is, left)
+
+pub stops_input : (form : Form) (e : SimFault) (input : List ℕ) → IsReadFault e input → Stops form e input []
+stops_input form e input h = of_read_fault (λ f. Stops form f input []) input refl (λ long. (long, refl)) (inl (tt, refl)) e h
 
 pub ok_then : {X E : Type 0} (r : Result X E) (P Q : Type 0) → OnOk r P → (P → Q) → OnOk r Q
 ok_then (Ok x) P Q h f = f h

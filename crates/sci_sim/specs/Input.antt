@@ -4,7 +4,7 @@ use Rattle.std.specs.Global.{Vec}
 use Rattle.std.specs.Io.KnownBytes.{IsAtEnd}
 use Rattle.sci_script.specs.declared.refusals.ScriptRefusal.TheVariants.{OutOfMemory, BadCommand, BadNumber, NotDone, WriteFailed}
 use Rattle.sci_sim.specs.declared.faults.SimFault.{SimFault}
-use Rattle.sci_sim.specs.declared.faults.SimFault.TheVariants.{CannotRead, CannotWrite, InputTooLong, Refused, NoDump, Unlawful}
+use Rattle.sci_sim.specs.declared.faults.SimFault.TheVariants.{CannotRead, CannotWrite, InputTooLong, Refused, NoDump, Unlawful, NoRun}
 
 -- all of the bytes that were read, up to 1,048,576, and nothing past them
 abbrev pub IsKept : Option (Vec ℕ) → List ℕ → Type 0
@@ -22,6 +22,7 @@ IsReadFault (Refused (NotDone n)) input = ⊥
 IsReadFault (Refused WriteFailed) input = ⊥
 IsReadFault (NoDump n) input = ⊥
 IsReadFault Unlawful input = ⊥
+IsReadFault (NoRun e) input = ⊥
 
 -- that an input is too long is told at its end, with no byte left
 abbrev pub IsToldInTime : SimFault → Option (List ℕ) → Type 0

@@ -1,5 +1,6 @@
 pub mod Fault
 pub mod Input
+pub mod Runs
 pub mod Serve
 pub mod Settings
 pub mod Verdicts

@@ -13,7 +13,7 @@ use Rattle.sci_dump.specs.Dumps.{DumpLines}
 use Rattle.sci_dump.specs.Reading.{dump_of}
 use Rattle.sci_dump.specs.Rules.{tag, KeepsEnding, IsVerdictOf, rule_number}
 use Rattle.sci_sim.specs.declared.faults.SimFault.{SimFault}
-use Rattle.sci_sim.specs.declared.faults.SimFault.TheVariants.{CannotRead, CannotWrite, InputTooLong, Refused, NoDump, Unlawful as SaysNo}
+use Rattle.sci_sim.specs.declared.faults.SimFault.TheVariants.{CannotRead, CannotWrite, InputTooLong, Refused, NoDump, Unlawful as SaysNo, NoRun}
 
 -- an entry of the sharing list: a node and its tag
 abbrev pub entry : ClosedLine → ℕ → ℕ × Tag
@@ -58,3 +58,4 @@ StopsChecking (Refused (NotDone n)) input written = ⊥
 StopsChecking (Refused WriteFailed) input written = ⊥
 StopsChecking (NoDump n) input written = (length input ≤ 1048576) × (dump_of input ≡ Err (DumpFault n)) × (written ≡ [])
 StopsChecking SaysNo input written = (number : ℕ) × (rule : Rule) × Checks input (Unlawful number rule) written
+StopsChecking (NoRun e) input written = ⊥

@@ -1,10 +1,11 @@
 //! The program's command line, and its help.
 
-use clap::{Arg, Command};
+use clap::{Arg, ArgAction, Command};
 use std::alloc::AllocError;
 
 const ABOUT: &str =
-    "A model of cache coherence by sharing lists: runs a script of loads, stores and exits, turn by turn, and checks dumps.";
+    "A model of cache coherence by sharing lists: runs a script of loads, stores and exits, turn by turn, runs workloads in threads, \
+     and checks dumps.";
 
 const STATUSES: &str = "\
 Statuses: 0 all went well; 1 a refusal, `scisim: refused R` or `scisim: refused R at line N`, or a fault of reading or writing; \
@@ -13,8 +14,8 @@ Statuses: 0 all went well; 1 a refusal, `scisim: refused R` or `scisim: refused 
 Example:
   printf 'memory 2 1\\nstore 0 0 0 5\\ndone 0\\nload 1 0 0\\ndone 1\\nlist 0\\n' | scisim script
 
-`scisim script --help` lists the commands of scripts, and `scisim check --help` has the format of dumps; both say what each refusal
-means.";
+`scisim script --help` lists the commands of scripts, `scisim trace --help` has the lines of turns, `scisim run --help` the keys of
+settings, and `scisim check --help` the format of dumps; they say what each refusal means.";
 
 const SCRIPTS: &str = "\
 One command a line. N is a node, L a line, W a word of it (0 to 7), V a number below 2^64. A line that begins with # is a comment.
@@ -54,6 +55,59 @@ Example: three readers, and their list.
   done 2
   list 0";
 
+const TRACES: &str = "\
+Runs a script as `script` does, and writes one line for each turn in front of what its command prints. Without the lines that
+begin with #, what is written is what `script` writes. `scisim script --help` lists the commands of scripts, and the refusals.
+
+  # node N line L OPERATION: WHAT; STEP; LIST
+
+OPERATION is load, store, add or evict; on a line other than the call's own it is the victim's evict. WHAT is one of
+  EVENT Done                the turn's exchange, with its arguments: a link, the words written, or the tag that was found, with
+                            its node where that is another one
+  waits: WHY                memory is lent, memory names a node that isn't this one, or a tag that must change first
+  only looked               the call, or the victim's exit, ended without an exchange
+STEP is the node's pending step after the turn, with the node that it keeps. LIST is the list after it, as `list` has it, with
+` lent` behind memory's state and ` held` behind an entry's name.
+
+Example:
+  printf 'memory 1 1\\nload 0 0 0\\ndone 0\\n' | scisim trace";
+
+const SETTINGS: &str = "\
+Settings are TOML. A work has these keys and no others, and needs each but dump.
+
+  work = \"stencil\"  nodes, capacity, phases, cells, dump: in each phase a cell becomes the sum of itself and its two neighbours,
+                    modulo 2^64, with 0 outside; the nodes share the tiles of seven cells
+  work = \"ring\"     lines, capacity, items, dump: one node passes the items in order to another, over a ring of lines
+  work = \"count\"    nodes, adds, capacity, dump: each node adds 1 to one word, so many times
+
+  nodes      1 to 64, each in a thread of its own
+  capacity   1 to 1024: how many lines a node names
+  phases     0 to 1000000
+  cells      an array of 7 to 3584 integers from 0, a multiple of seven
+  lines      1 to 1023
+  items      an array of 0 to 100000 integers from 0
+  adds       0 to 1000000
+  dump       true or false; false where it is left out
+
+Prints `cells` or `items` with each value behind a space, or `count` and the word. With dump = true the dump of the lines follows;
+`scisim check --help` has its format. Nothing is printed before the end, and nothing says that the end comes. With --progress lines
+such as `scisim: run: 100000 calls` come on standard error meanwhile: a node that waits for another calls again and again, so they
+say that the run goes on, and not how far it is.
+
+Refusals, on standard error; nothing is printed:
+   7  memory ran out: free some, or take a smaller workload
+  11  a line's stamp, which counts its writes, is 2^64 - 1
+  19  a line is further on than the node that awaits it
+  20  a call was held back; no settings are known to lead to 11, 19 or 20
+  22  the input isn't the settings of a work: no TOML, a key too many or too few, a value of another type or outside its limits:
+      mend it
+  23  the input has more than 1048576 bytes
+  26  a node's thread couldn't be started: take fewer nodes, or allow more threads
+`cannot read` and `cannot write` are faults of FILE, of the input, or of the output.
+
+Example: four nodes count to 4000.
+  printf 'work = \"count\"\\nnodes = 4\\nadds = 1000\\ncapacity = 1\\n' | scisim run";
+
 const DUMPS: &str = "\
 A dump is the text of a memory at rest. For each line, from 0 on, it has the memory word and memory's content, and then, for each
 node in order whose tag isn't Invalid, its tag and content. A word is 16 hexadecimal digits, a content a stamp and eight words.
@@ -90,12 +144,28 @@ fn file<'a>(rt: &impl AllocGlobal, help: &'a str) -> Arg<'a> {
     Arg::new(rt.alloc(), "FILE").help(help)
 }
 
+fn progress<'a>(rt: &impl AllocGlobal) -> Arg<'a> {
+    Arg::new(rt.alloc(), "progress")
+        .long("progress")
+        .action(ArgAction::SetTrue)
+        .help("says on standard error each time that 100000 more calls of the nodes have ended")
+}
+
 /// The program's commands.
 pub fn commands<'a>(rt: &impl AllocGlobal) -> Result<Command<'a>, AllocError> {
     let script = Command::new(rt.alloc(), "script")
         .about("Runs a script and prints its text")
         .after_help(SCRIPTS)
         .arg(file(rt, "the script; without it standard input is read"))?;
+    let trace = Command::new(rt.alloc(), "trace")
+        .about("Runs a script, and says of each turn what it did")
+        .after_help(TRACES)
+        .arg(file(rt, "the script; without it standard input is read"))?;
+    let run = Command::new(rt.alloc(), "run")
+        .about("Runs a workload, each node in a thread of its own, and prints its result")
+        .after_help(SETTINGS)
+        .arg(file(rt, "the settings; without it standard input is read"))?
+        .arg(progress(rt))?;
     let check = Command::new(rt.alloc(), "check")
         .about("Checks that each line of a dump is an exact sharing list")
         .after_help(DUMPS)
@@ -107,5 +177,7 @@ pub fn commands<'a>(rt: &impl AllocGlobal) -> Result<Command<'a>, AllocError> {
         .after_help(STATUSES)
         .subcommand_required(true)
         .subcommand(script)?
+        .subcommand(trace)?
+        .subcommand(run)?
         .subcommand(check)
 }

@@ -1,12 +1,14 @@
 //! Why a command of the program fails.
 
 ghost use Rattle.std.specs.Prelude.{◌≡◌};
-ghost use Rattle.sci_sim.specs.Fault.{fault_of, dump_fault_of, status_of};
+ghost use Rattle.sci_sim.specs.Fault.{fault_of, dump_fault_of, settings_fault_of, work_fault_of, status_of};
 ghost use Rattle.sci_sim.specs.declared.faults.SimFault.TheVariants.{Refused};
 ghost use Rattle.sci_script.specs.declared.refusals.ScriptRefusal.TheVariants.{OutOfMemory};
 
+use crate::settings::SettingsRefusal;
 use sci_dump::DumpRefusal;
 use sci_script::ScriptRefusal;
+use sci_work::WorkRefusal;
 use std::alloc::AllocError;
 use thiserror::Error;
 
@@ -32,6 +34,9 @@ pub enum SimFault {
     /// A line of the dump is no exact sharing list.
     #[error("the check says no")]
     Unlawful,
+    /// The settings are refused, with 22, or the run of their workload.
+    #[error("refused {}", .0.number())]
+    NoRun(WorkRefusal),
 }
 
 impl SimFault {
@@ -44,7 +49,8 @@ impl SimFault {
             | SimFault::CannotWrite
             | SimFault::InputTooLong
             | SimFault::Refused(_)
-            | SimFault::NoDump(_) => 1,
+            | SimFault::NoDump(_)
+            | SimFault::NoRun(_) => 1,
             SimFault::Unlawful => 3,
         }
     }
@@ -68,6 +74,28 @@ impl From<DumpRefusal> for SimFault {
         match refusal {
             DumpRefusal::OutOfMemory => SimFault::Refused(ScriptRefusal::OutOfMemory),
             DumpRefusal::DumpFault(line) => SimFault::NoDump(line),
+        }
+    }
+}
+
+impl From<SettingsRefusal> for SimFault {
+    ghost from_gives = { λ r e. e ≡ settings_fault_of r };
+
+    fn from(refusal: SettingsRefusal) -> SimFault {
+        match refusal {
+            SettingsRefusal::OutOfMemory => SimFault::Refused(ScriptRefusal::OutOfMemory),
+            SettingsRefusal::BadSettings => SimFault::NoRun(WorkRefusal::BadSettings),
+        }
+    }
+}
+
+impl From<WorkRefusal> for SimFault {
+    ghost from_gives = { λ r e. e ≡ work_fault_of r };
+
+    fn from(refusal: WorkRefusal) -> SimFault {
+        match refusal {
+            WorkRefusal::OutOfMemory => SimFault::Refused(ScriptRefusal::OutOfMemory),
+            _ => SimFault::NoRun(refusal),
         }
     }
 }

@@ -1,10 +1,13 @@
-//! `scisim script [FILE]` runs a script; `scisim check [FILE]` checks a dump.
+//! `scisim script [FILE]` runs a script; `scisim trace [FILE]` says of each turn what it did; `scisim run [FILE]` runs a workload;
+//! `scisim check [FILE]` checks a dump.
 #![tactic(auto)]
 
 mod checking;
 mod commands;
 mod faults;
 mod input;
+mod progress;
+mod running;
 mod serve;
 mod settings;
 #[cfg(test)]
@@ -13,13 +16,18 @@ mod verdicts;
 mod works;
 
 use checking::serve_check;
+use clap::ArgMatches;
 use commands::commands;
 use faults::SimFault;
-use serve::serve_buffered;
-use std::alloc::AllocError;
+use progress::Progress;
+use running::{serve_run, serve_run_by};
+use serve::{Form, serve_buffered};
+use std::alloc::{AllocError, Global};
 use std::fs::File;
-use std::io::{self, BufWriter, ErrorKind};
+use std::io::{self, BufWriter, ErrorKind, Read, Write};
 use std::process::ExitCode;
+use std::sync::Wait;
+use std::thread::Threads;
 
 /// How many bytes of the text wait to be written together.
 const BUFFER: usize = 65_536;
@@ -28,15 +36,45 @@ fn open(rt: &HostRuntime, path: &str) -> Result<File, SimFault> {
     File::open(rt, path).map_err(|_| SimFault::CannotRead)
 }
 
-fn script(rt: &HostRuntime, path: Option<&str>) -> Result<(), SimFault> {
+/// Runs a script, and writes its run in this form.
+fn script(rt: &HostRuntime, form: Form, path: Option<&str>) -> Result<(), SimFault> {
     let output = BufWriter::with_capacity(rt.alloc(), BUFFER, io::writer(rt)).map_err(
         |_| SimFault::from(AllocError),
     )?;
     let (_, served) = match path {
-        Some(path) => serve_buffered(rt.alloc(), &mut open(rt, path)?, output),
-        None => serve_buffered(rt.alloc(), &mut rt.reader(), output),
+        Some(path) => serve_buffered(rt.alloc(), form, &mut open(rt, path)?, output),
+        None => serve_buffered(rt.alloc(), form, &mut rt.reader(), output),
     };
     served
+}
+
+/// Runs the settings of a reader, and says meanwhile on standard error how many calls have ended, where that is wanted.
+fn run_from<T: Threads + Wait + Eprint + Sync, R: Read, W: Write>(
+    threads: &T,
+    alloc: Global,
+    says: bool,
+    reader: &mut R,
+    writer: &mut W,
+) -> Result<(), SimFault> {
+    if says {
+        serve_run_by(threads, alloc, &Progress::new(threads), reader, writer)
+    } else {
+        serve_run(threads, alloc, reader, writer)
+    }
+}
+
+/// The nodes' threads are started by the other handle.
+fn run<T: Threads + Wait + Eprint + Sync>(
+    rt: &HostRuntime,
+    threads: &T,
+    path: Option<&str>,
+    says: bool,
+) -> Result<(), SimFault> {
+    let mut output = io::writer(rt);
+    match path {
+        Some(path) => run_from(threads, rt.alloc(), says, &mut open(rt, path)?, &mut output),
+        None => run_from(threads, rt.alloc(), says, &mut rt.reader(), &mut output),
+    }
 }
 
 fn check(rt: &HostRuntime, path: Option<&str>) -> Result<(), SimFault> {
@@ -47,8 +85,29 @@ fn check(rt: &HostRuntime, path: Option<&str>) -> Result<(), SimFault> {
     }
 }
 
-/// The status of a run with these arguments. An argument that isn't UTF-8 can't be read.
-fn scisim(rt: &HostRuntime) -> Result<ExitCode, SimFault> {
+/// The status of the program's command of this name.
+fn served<T: Threads + Wait + Eprint + Sync>(
+    rt: &HostRuntime,
+    threads: &T,
+    name: &str,
+    options: &ArgMatches<'_>,
+) -> Result<ExitCode, SimFault> {
+    let path = options.get_str("FILE");
+    match name {
+        "script" => script(rt, Form::Script, path)?,
+        "trace" => script(rt, Form::Trace, path)?,
+        "run" => run(rt, threads, path, options.get_flag("progress"))?,
+        "check" => check(rt, path)?,
+        _ => return Ok(ExitCode::from(2)),
+    }
+    Ok(ExitCode::SUCCESS)
+}
+
+/// The status of the program with its arguments. An argument that isn't UTF-8 can't be read.
+fn scisim<T: Threads + Wait + Eprint + Sync>(
+    rt: &HostRuntime,
+    threads: &T,
+) -> Result<ExitCode, SimFault> {
     let arguments = std::env::args(rt).map_err(|error| match error.kind() {
         ErrorKind::OutOfMemory => SimFault::from(AllocError),
         _ => SimFault::CannotRead,
@@ -56,13 +115,8 @@ fn scisim(rt: &HostRuntime) -> Result<ExitCode, SimFault> {
     let words: Vec<String> = arguments.collect(rt.alloc())?;
     match commands(rt)?.try_get_matches_from(words.as_slice()) {
         Ok(matches) => match matches.subcommand() {
-            Some(("script", options)) => script(rt, options.get_str("FILE")).map(
-                |()| ExitCode::SUCCESS,
-            ),
-            Some(("check", options)) => check(rt, options.get_str("FILE")).map(
-                |()| ExitCode::SUCCESS,
-            ),
-            _ => Ok(ExitCode::from(2)),
+            Some((name, options)) => served(rt, threads, name, options),
+            None => Ok(ExitCode::from(2)),
         },
         Err(error) => match (error.exit_code(), error.print(rt)) {
             (0, Err(_)) => Err(SimFault::CannotWrite),
@@ -72,7 +126,7 @@ fn scisim(rt: &HostRuntime) -> Result<ExitCode, SimFault> {
 }
 
 fn main(rt: HostRuntime) -> ExitCode {
-    match scisim(&rt) {
+    match scisim(&rt, &rt) {
         Ok(status) => status,
         Err(fault) => {
             // its verdict stands on standard output

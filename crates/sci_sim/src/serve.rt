@@ -1,28 +1,86 @@
-//! The command `script`, from the bytes of a script to its text.
+//! The commands `script` and `trace`, from the bytes of a script to what is written of its run.
 
 ghost use Rattle.std.specs.Prelude.{◌≡◌, ◌≤◌, ℕ, List, length, OnOk, IfErr, IfSome};
-ghost use Rattle.sci_sim.specs.Fault.{fault_of};
 ghost use Rattle.std.specs.Io.Buffered.{writer_contents};
 ghost use Rattle.std.specs.Io.KnownBytes.{Appends, IsAtEnd};
+ghost use Rattle.sci_sim.specs.declared.serve.Form.TheVariants as forms;
+ghost use Rattle.sci_sim.specs.Fault.{fault_of};
 ghost use Rattle.sci_sim.specs.Input.{IsToldInTime};
-ghost use Rattle.sci_sim.specs.Serve.{Serves, Stops, LeavesBehind};
+ghost use Rattle.sci_sim.specs.Serve.{IsWritten, FailsWith, Serves, Stops, LeavesBehind};
 
 use crate::faults::SimFault;
 use crate::input::read_input;
-use sci_script::{ScriptRefusal, WholeDesk, put, read_script};
+use sci_script::{Script, ScriptRefusal, WholeDesk, put, read_script};
+use sci_trace::{TraceDesk, trace};
 use std::alloc::Global;
 use std::io::{BufWriter, Read, Write};
 
-/// Runs the script that an input is, and writes its text.
-fn serve_input<W: Write>(alloc: Global, input: &[u8], writer: &mut W) -> Result<(), ScriptRefusal>
+/// The form in which a run is written.
+#[derive(Clone, Copy, Debug, PartialEq, Eq)]
+pub enum Form {
+    /// The script's text.
+    Script,
+    /// That text with a line for each turn.
+    Trace,
+}
+
+/// Runs a script, and writes its run in this form.
+fn run<W: Write>(
+    alloc: Global,
+    form: Form,
+    script: &Script,
+    writer: &mut W,
+) -> Result<(), ScriptRefusal>
+    ensures ok { OnOk result ((text : List ℕ) × IsWritten form script.now.size script.now.capacity script.now.openings.items script.now.steps.items text
+        × Appends (W.contents writer.old) (W.contents writer.new) text) }
+    ensures err { IfErr result (λ e. (written : List ℕ) × FailsWith form script.now.size script.now.capacity script.now.openings.items script.now.steps.items e written
+        × Appends (W.contents writer.old) (W.contents writer.new) written) }
+{
+    match form {
+        Form::Script => {
+            let mut desk = WholeDesk::open(alloc, script)?;
+            script.run(alloc, &mut desk, writer)
+        }
+        Form::Trace => {
+            let mut desk = TraceDesk::open(alloc, script)?;
+            trace(alloc, script, &mut desk, writer)
+        }
+    }
+}
+
+/// Runs the script that an input is.
+fn serve_input<W: Write>(
+    alloc: Global,
+    form: Form,
+    input: &[u8],
+    writer: &mut W,
+) -> Result<(), ScriptRefusal>
     requires { length input.now ≤ 1048576 }
-    ensures ok { OnOk result ((text : List ℕ) × Serves input.now text × Appends (W.contents writer.old) (W.contents writer.new) text) }
-    ensures err { IfErr result (λ e. (written : List ℕ) × Stops (fault_of e) input.now written
+    ensures ok { OnOk result ((text : List ℕ) × Serves form input.now text × Appends (W.contents writer.old) (W.contents writer.new) text) }
+    ensures err { IfErr result (λ e. (written : List ℕ) × Stops form (fault_of e) input.now written
         × Appends (W.contents writer.old) (W.contents writer.new) written) }
 {
     let script = read_script(alloc, input)?;
-    let mut desk = WholeDesk::open(alloc, &script)?;
-    script.run(alloc, &mut desk, writer)
+    run(alloc, form, &script, writer)
+}
+
+/// Reads a script to its end, runs it, and writes its run in this form.
+pub fn serve<R: Read, W: Write>(
+    alloc: Global,
+    form: Form,
+    reader: &mut R,
+    writer: &mut W,
+) -> Result<(), SimFault>
+    ensures ok { OnOk result (IfSome (R.remaining reader.old) (λ input. (text : List ℕ) × Serves form input text
+        × Appends (W.contents writer.old) (W.contents writer.new) text)) }
+    ensures err { IfErr result (λ e. IfSome (R.remaining reader.old) (λ input. (written : List ℕ) × Stops form e input written
+        × Appends (W.contents writer.old) (W.contents writer.new) written)) }
+    ensures end { OnOk result (IsAtEnd (R.remaining reader.new)) }
+    ensures in_time { IfErr result (λ e. IsToldInTime e (R.remaining reader.new)) }
+{
+    let input = read_input(alloc, reader)?;
+    serve_input(alloc, form, &input, writer)?;
+    Ok(())
 }
 
 /// Reads a script to its end, runs it, and writes its text.
@@ -31,31 +89,46 @@ pub fn serve_script<R: Read, W: Write>(
     reader: &mut R,
     writer: &mut W,
 ) -> Result<(), SimFault>
-    ensures ok { OnOk result (IfSome (R.remaining reader.old) (λ input. (text : List ℕ) × Serves input text
+    ensures ok { OnOk result (IfSome (R.remaining reader.old) (λ input. (text : List ℕ) × Serves forms.Script input text
         × Appends (W.contents writer.old) (W.contents writer.new) text)) }
-    ensures err { IfErr result (λ e. IfSome (R.remaining reader.old) (λ input. (written : List ℕ) × Stops e input written
+    ensures err { IfErr result (λ e. IfSome (R.remaining reader.old) (λ input. (written : List ℕ) × Stops forms.Script e input written
         × Appends (W.contents writer.old) (W.contents writer.new) written)) }
     ensures end { OnOk result (IsAtEnd (R.remaining reader.new)) }
     ensures in_time { IfErr result (λ e. IsToldInTime e (R.remaining reader.new)) }
 {
-    let input = read_input(alloc, reader)?;
-    serve_input(alloc, &input, writer)?;
-    Ok(())
+    serve(alloc, Form::Script, reader, writer)
 }
 
-/// The same through a buffer, which is written out before the writer comes back: the text of a script that ends or is refused
-/// has gone out whole, and a write that fails comes before a refusal.
+/// Reads a script to its end, runs it, and writes its text with a line for each turn.
+pub fn serve_trace<R: Read, W: Write>(
+    alloc: Global,
+    reader: &mut R,
+    writer: &mut W,
+) -> Result<(), SimFault>
+    ensures ok { OnOk result (IfSome (R.remaining reader.old) (λ input. (traced : List ℕ) × Serves forms.Trace input traced
+        × Appends (W.contents writer.old) (W.contents writer.new) traced)) }
+    ensures err { IfErr result (λ e. IfSome (R.remaining reader.old) (λ input. (written : List ℕ) × Stops forms.Trace e input written
+        × Appends (W.contents writer.old) (W.contents writer.new) written)) }
+    ensures end { OnOk result (IsAtEnd (R.remaining reader.new)) }
+    ensures in_time { IfErr result (λ e. IsToldInTime e (R.remaining reader.new)) }
+{
+    serve(alloc, Form::Trace, reader, writer)
+}
+
+/// The same through a buffer, which is written out before the writer comes back: what is written of a script that ends or is
+/// refused has gone out whole, and a write that fails comes before a refusal.
 pub fn serve_buffered<R: Read, W: Write + Drop>(
     alloc: Global,
+    form: Form,
     reader: &mut R,
     mut output: BufWriter<W>,
 ) -> (W, Result<(), SimFault>)
-    ensures ok { OnOk result.1 (IfSome (R.remaining reader.old) (λ input. (text : List ℕ) × Serves input text
+    ensures ok { OnOk result.1 (IfSome (R.remaining reader.old) (λ input. (text : List ℕ) × Serves form input text
         × Appends (writer_contents W.contents output) (W.contents result.0) text)) }
     ensures err { IfErr result.1 (λ e. IfSome (R.remaining reader.old) (λ input.
-        LeavesBehind e input (writer_contents W.contents output) (W.contents result.0))) }
+        LeavesBehind form e input (writer_contents W.contents output) (W.contents result.0))) }
 {
-    let served = serve_script(alloc, reader, &mut output);
+    let served = serve(alloc, form, reader, &mut output);
     let (mut writer, rest) = output.into_parts();
     match put(&mut writer, &rest) {
         Ok(()) => (writer, served),

@@ -3,12 +3,15 @@ ghost use Rattle.std.specs.Prelude.{Some};
 mod checks;
 mod faltering;
 mod growths;
+mod runs;
 mod settings;
+mod tracing;
 mod works;
 
 use crate::faults::SimFault;
-use crate::serve::{serve_buffered, serve_script};
+use crate::serve::{Form, serve, serve_buffered, serve_script};
 use sci_script::ScriptRefusal;
+use sci_work::WorkRefusal;
 use std::alloc::{AllocError, Global};
 use std::io;
 use std::io::{BufWriter, ErrorKind, Read, Write};
@@ -137,29 +140,45 @@ fn serves(rt: HostRuntime) {
     );
 }
 
+const READER: &str = "memory 1 1\nload 0 0 0\ndone 0\n";
+
+const READER_TOLD: &str = "# node 0 line 0 load: Queue(none) Done; Queueing(none); HOME\n\
+    # node 0 line 0 load: PrependValid Done; Fetching(none); FRESH lent 0: 0 QUEUED\n\
+    # node 0 line 0 load: ReturnMemory Done; InQueue(none); FRESH 0: 0 QUEUED\n\
+    # node 0 line 0 load: Settle Done; Idle; FRESH 0: 0 ONLY_FRESH\n\
+    node 0 read 0 stamp 0\n";
+
 #[test]
 fn one_byte_at_a_time(rt: HostRuntime) {
-    let mut reader = OneByte {
-        rest: SHARERS.as_bytes(),
-        is_shy: true,
-        interrupted: false,
-    };
-    let mut writer = Narrow {
-        held: Vec::new(rt.alloc()),
-        room: 1000,
-        interrupted: false,
-    };
-    let end = serve_script(rt.alloc(), &mut reader, &mut writer);
-    assert!(rt; end.is_ok());
-    assert!(rt; writer.held.as_slice() == SHARED.as_bytes());
+    let cases = [
+        (Form::Script, SHARERS, SHARED),
+        (Form::Trace, READER, READER_TOLD),
+    ];
+    for (form, script, text) in cases {
+        let mut reader = OneByte {
+            rest: script.as_bytes(),
+            is_shy: true,
+            interrupted: false,
+        };
+        let mut writer = Narrow {
+            held: Vec::new(rt.alloc()),
+            room: 1000,
+            interrupted: false,
+        };
+        let end = serve(rt.alloc(), form, &mut reader, &mut writer);
+        assert!(rt; end.is_ok());
+        assert!(rt; writer.held.as_slice() == text.as_bytes());
+    }
 }
 
 #[test]
 fn readers_and_writers_that_fail(rt: HostRuntime) {
-    let mut out = Vec::new(rt.alloc());
-    let end = serve_script(rt.alloc(), &mut Broken, &mut out);
-    assert_eq!(rt; end, Err(SimFault::CannotRead));
-    assert!(rt; out.is_empty());
+    for form in [Form::Script, Form::Trace] {
+        let mut out = Vec::new(rt.alloc());
+        let end = serve(rt.alloc(), form, &mut Broken, &mut out);
+        assert_eq!(rt; end, Err(SimFault::CannotRead));
+        assert!(rt; out.is_empty());
+    }
     let mut writer = Narrow {
         held: Vec::new(rt.alloc()),
         room: 29,
@@ -173,6 +192,7 @@ fn readers_and_writers_that_fail(rt: HostRuntime) {
 /// The bytes of the writer and the fault, through a buffer of so many bytes before a writer with so much room.
 fn through_buffer(
     alloc: Global,
+    form: Form,
     script: &str,
     capacity: usize,
     room: usize,
@@ -183,35 +203,49 @@ fn through_buffer(
         interrupted: false,
     };
     let output = BufWriter::with_capacity(alloc, capacity, writer)?;
-    let (writer, end) = serve_buffered(alloc, &mut script.as_bytes(), output);
+    let (writer, end) = serve_buffered(alloc, form, &mut script.as_bytes(), output);
     Ok((writer.held, end.err()))
 }
 
-/// What is printed before a refusal goes out, and a writer that is full is told before the refusal.
+/// What is written before a refusal goes out, and a writer that is full is told before the refusal.
 #[test]
 fn buffers_before_a_writer_that_fills(rt: HostRuntime) -> Result<(), Fail> {
-    let cases: [Case; 3] = [
-        (SHARERS, None, SHARED),
+    let cases: [(Form, Case); 5] = [
+        (Form::Script, (SHARERS, None, SHARED)),
         (
-            "memory 1 1\nlist 0\nlist 0\nturn 0\n",
-            refused(ScriptRefusal::BadCommand(4)),
-            "line 0 HOME\nline 0 HOME\n",
+            Form::Script,
+            (
+                "memory 1 1\nlist 0\nlist 0\nturn 0\n",
+                refused(ScriptRefusal::BadCommand(4)),
+                "line 0 HOME\nline 0 HOME\n",
+            ),
         ),
-        ("memory 0 1", refused(ScriptRefusal::BadNumber(1)), ""),
+        (
+            Form::Script,
+            ("memory 0 1", refused(ScriptRefusal::BadNumber(1)), ""),
+        ),
+        (Form::Trace, (READER, None, READER_TOLD)),
+        (
+            Form::Trace,
+            (
+                "memory 1 1\nlist 0\nload 0 0 0\nturn 0\nload 0 0 0\n",
+                refused(ScriptRefusal::BadCommand(5)),
+                "line 0 HOME\n# node 0 line 0 load: Queue(none) Done; Queueing(none); HOME\n",
+            ),
+        ),
     ];
-    for (script, fault, text) in cases {
-        for capacity in [0, 1, 20, 24, 65_536] {
-            for room in 0..text.len() {
-                let (held, end) = through_buffer(rt.alloc(), script, capacity, room)?;
-                assert_eq!(rt; end, Some(SimFault::CannotWrite), "of {script}, {room}");
+    for (form, (script, fault, text)) in cases {
+        for capacity in [0, 1, 20, 24, 70, 65_536] {
+            for room in 0..text.len() + 1 {
+                let (held, end) = through_buffer(rt.alloc(), form, script, capacity, room)?;
+                let cut = Some(SimFault::CannotWrite);
+                let wanted = if room < text.len() { cut } else { fault };
+                assert_eq!(rt; end, wanted, "of {script}, {room}");
                 assert!(rt;
                     held.as_slice() == &text.as_bytes()[..room],
                     "of {script}, {room}"
                 );
             }
-            let (held, end) = through_buffer(rt.alloc(), script, capacity, text.len())?;
-            assert_eq!(rt; end, fault, "of {script}");
-            assert!(rt; held.as_slice() == text.as_bytes(), "of {script}");
         }
     }
     Ok(())
@@ -233,9 +267,12 @@ fn long_inputs(rt: HostRuntime) -> Result<(), Fail> {
     ];
     for (length, fault) in cases {
         let input = input(rt.alloc(), length)?;
-        let mut out = Vec::new(rt.alloc());
-        let end = serve_script(rt.alloc(), &mut input.as_slice(), &mut out);
-        assert_eq!(rt; end.err(), fault);
+        for form in [Form::Script, Form::Trace] {
+            let mut out = Vec::new(rt.alloc());
+            let end = serve(rt.alloc(), form, &mut input.as_slice(), &mut out);
+            assert_eq!(rt; end.err(), fault);
+            assert!(rt; out.is_empty());
+        }
     }
     Ok(())
 }
@@ -309,6 +346,9 @@ fn texts_and_statuses_of_faults(rt: HostRuntime) -> Result<(), Fail> {
             "refused 18 at line 300",
         ),
         (SimFault::NoDump(1), "refused 21 at line 1"),
+        (SimFault::NoRun(WorkRefusal::BadSettings), "refused 22"),
+        (SimFault::NoRun(WorkRefusal::StampsSpent), "refused 11"),
+        (SimFault::NoRun(WorkRefusal::NoThread), "refused 26"),
     ];
     for (fault, text) in cases {
         let shown = format!(in rt.alloc(); "{fault}")?;

@@ -1,3 +1,4 @@
 pub mod Weaving
 pub mod Tracing
+pub mod Tellings
 pub mod Same

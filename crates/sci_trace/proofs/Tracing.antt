@@ -1,5 +1,5 @@
 -- One more command of a traced run, and where it stops.
-use Rattle.std.proofs.Common.{◌≡◌, ◌∙◌, ◌<◌, ◌+◌, ℕ, List, [], ◌++◌, Some, length, get_or, take, refl, sym, ap, subst, arith, append-nil, append_assoc}
+use Rattle.std.proofs.Common.{◌≡◌, ◌∙◌, ◌<◌, ◌+◌, ℕ, List, [], ◌++◌, Some, length, get_or, take, sym, ap, subst, arith, append-nil, append_assoc}
 use Rattle.std.proofs.Math.Seq.{take-append-add}
 use Rattle.std.proofs.lemmas.List.{length-append}
 use Rattle.std.specs.Prelude.{slice_get}
@@ -11,7 +11,7 @@ use Rattle.sci_script.specs.Run.{Prints, StopsAt}
 use Rattle.sci_script.specs.Shared.{Shared, shared_is_open, shared_does}
 use Rattle.sci_script.proofs.Runs.{prints_none, run_step, words_behind}
 use Rattle.sci_trace.specs.Notes.{AreNotes, IsWoven}
-use Rattle.sci_trace.specs.Traces.{Traces, NotesLeft, TraceStops, TraceLeaves}
+use Rattle.sci_trace.specs.Traces.{Traces, NotesLeft, TraceLeaves}
 use Rattle.sci_trace.proofs.Weaving.{woven_none, woven_more, woven_notes}
 
 pub traces_none : (s : Shared) → Traces [] s [] s

@@ -4,4 +4,5 @@ pub mod Steps
 pub mod Lists
 pub mod Texts
 pub mod Notes
+pub mod Telling
 pub mod Traces

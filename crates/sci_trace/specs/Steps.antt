@@ -1,5 +1,5 @@
 -- Pending steps in words. This project's profile.
-use Rattle.std.specs.Prelude.{ℕ, List, [], ◌++◌, Option, Some, None, codes, true, false}
+use Rattle.std.specs.Prelude.{ℕ, List, [], ◌++◌, Option, Some, codes, true}
 use Rattle.sci_core.specs.declared.pending.Pending.{Pending}
 use Rattle.sci_trace.specs.Words.{link_word}
 

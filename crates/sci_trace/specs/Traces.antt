@@ -1,12 +1,12 @@
 -- What a traced run writes. This project's profile.
-use Rattle.std.specs.Prelude.{◌≡◌, ℕ, ◌<◌, List, [], ◌++◌, length, take, Some, slice_get}
+use Rattle.std.specs.Prelude.{◌≡◌, ℕ, ◌<◌, List, [], length, take, Some, slice_get}
 use Rattle.sci_script.specs.declared.commands.Step.{Step}
 use Rattle.sci_script.specs.declared.refusals.ScriptRefusal.{ScriptRefusal}
 use Rattle.sci_script.specs.declared.refusals.ScriptRefusal.TheVariants.{OutOfMemory, BadCommand, BadNumber, NotDone, WriteFailed}
 use Rattle.sci_script.specs.Request.{no_words}
 use Rattle.sci_script.specs.Run.{PrintsAll, StopsAt}
 use Rattle.sci_script.specs.Shared.{Shared, shared_is_open, shared_does}
-use Rattle.sci_trace.specs.Notes.{AreNotes, IsWoven}
+use Rattle.sci_trace.specs.Notes.{IsWoven}
 
 -- the commands print a text, one after the other, and this is it with lines of turns between
 abbrev pub Traces : List Step → Shared → List ℕ → Shared → Type 0

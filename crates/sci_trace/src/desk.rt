@@ -1,7 +1,8 @@
 //! A desk that says of each turn what it did.
 
-ghost use Rattle.std.specs.Prelude.{◌≡◌, ◌<◌, ◌≤◌, IfOk, IfSome};
+ghost use Rattle.std.specs.Prelude.{◌≡◌, ◌<◌, ◌≤◌, ◌⊎◌, ◌++◌, true, string_bytes, IfOk, IfSome};
 ghost use Rattle.sci_script.specs.Wholes.{shared_of};
+ghost use Rattle.sci_trace.specs.Notes.{Told, line_of_turn};
 
 use crate::notes::Notes;
 use sci_cache::Request;
@@ -78,16 +79,16 @@ impl TraceDesk {
 
     /// Adds the line of a turn that was just taken.
     fn tell(&mut self, node: NodeId, passed: &Passed, turn: &Turn)
-        requires { node < self.old.size.nodes }
+        requires node { node < self.old.size.nodes }
+        requires line { passed.now.line < self.old.size.lines }
         ensures same { shared_of self.new.desk ≡ shared_of self.old.desk }
+        ensures told { (self.new.notes.is_cut ≡ true) ⊎ ((self.new.notes.is_cut ≡ self.old.notes.is_cut) × (told : Told) × (told.node ≡ node) × (told.turn ≡ turn.now) × (told.passed ≡ passed.now)
+            × (told.mem ≡ ((shared_of self.old.desk).lines passed.now.line).memory) × (string_bytes self.new.notes.text ≡ string_bytes self.old.notes.text ++ line_of_turn told)) }
         ensures size { self.new.size ≡ self.old.size }
     {
         let line = passed.line;
-        if line >= self.size.lines {
-            return;
-        }
         let Some(mem) = self.desk.mem(line) else {
-            return;
+            unreachable!()
         };
         let nodes = self.size.nodes;
         if walk(&mut self.entries, &mut self.desk, line, mem.forw, nodes).is_err() {
@@ -101,14 +102,13 @@ impl TraceDesk {
 }
 
 impl Desk for TraceDesk {
-    ghost use Rattle.sci_script.specs.Shared.{shared_is_open, shared_does};
-    ghost use Rattle.sci_script.specs.Wholes.{shared_of};
+    ghost use Rattle.sci_trace.specs.Telling.{telling_of, telling_is_open, tells};
 
     ghost size = { λ desk. desk.size };
 
-    ghost is_open = { λ desk node. shared_is_open (shared_of desk.desk) node };
+    ghost is_open = { λ desk node. telling_is_open (telling_of desk) node };
 
-    ghost does = { λ s call t. shared_does (shared_of s.desk) call (shared_of t.desk) };
+    ghost does = { λ s call t. tells (telling_of s) call (telling_of t) };
 
     fn open(&self, node: NodeId) -> bool {
         self.desk.open(node)

@@ -5,7 +5,7 @@ ghost use Rattle.std.specs.Fmt.{decimal};
 ghost use Rattle.std.specs.List.{flat_map};
 ghost use Rattle.sci_trace.specs.Events.{event_name, written_text, argument_text, event_text};
 
-use crate::words::{push_found, push_link};
+use crate::words::{push_found, push_link, push_number};
 use sci_core::Event;
 use sci_port::Call;
 use std::alloc::AllocError;
@@ -57,7 +57,8 @@ fn push_words(text: &mut String, words: &[u64]) -> Result<(), AllocError>
     ensures { OnOk result (string_bytes text.new ≡ string_bytes text.old ++ flat_map (λ word. codes " " ++ decimal word) words.now) }
 {
     for word in words {
-        write!(text, " {word}")?;
+        text.push_str(" ")?;
+        push_number(text, *word)?;
     }
     Ok(())
 }
@@ -103,7 +104,11 @@ fn push_argument(text: &mut String, load: &Option<Call>, event: &Event) -> Resul
 }
 
 /// An event with its arguments, behind this load.
-pub fn push_event(text: &mut String, load: &Option<Call>, event: &Event) -> Result<(), AllocError>
+pub(crate) fn push_event(
+    text: &mut String,
+    load: &Option<Call>,
+    event: &Event,
+) -> Result<(), AllocError>
     ensures { OnOk result (string_bytes text.new ≡ string_bytes text.old ++ event_text load.now event.now) }
 {
     text.push_str(event_name(event))?;

@@ -4,7 +4,7 @@ ghost use Rattle.std.specs.Prelude.{◌≡◌, ◌++◌, OnOk, string_bytes, cod
 ghost use Rattle.std.specs.List.{flat_map};
 ghost use Rattle.sci_trace.specs.Lists.{entry_text, entries_text, lent_text, head_text, list_text};
 
-use crate::words::push_held;
+use crate::words::{push_held, push_node};
 use sci_words::{Mem, NodeId, Tag, mem_name, name};
 use std::alloc::AllocError;
 
@@ -12,9 +12,9 @@ fn push_entry(text: &mut String, entry: (NodeId, Tag)) -> Result<(), AllocError>
     ensures { OnOk result (string_bytes text.new ≡ string_bytes text.old ++ entry_text entry) }
 {
     let (node, tag) = entry;
-    let node = node.get();
     let held = tag.held;
-    write!(text, "{node} ")?;
+    push_node(text, node)?;
+    text.push_str(" ")?;
     text.push_str(name(tag))?;
     push_held(text, held)
 }
@@ -50,15 +50,20 @@ fn push_head(
     ensures { OnOk result (string_bytes text.new ≡ string_bytes text.old ++ head_text head entries.now) }
 {
     if let Some(head) = head {
-        let head = head.get();
-        write!(text, " {head}:")?;
+        text.push_str(" ")?;
+        push_node(text, head)?;
+        text.push_str(":")?;
         push_entries(text, entries)?;
     }
     Ok(())
 }
 
 /// The memory word and the entries: `HOME`, `FRESH F: N NAME, N NAME ..`, with ` lent` behind the state and ` held` behind a name.
-pub fn push_list(text: &mut String, mem: Mem, entries: &[(NodeId, Tag)]) -> Result<(), AllocError>
+pub(crate) fn push_list(
+    text: &mut String,
+    mem: Mem,
+    entries: &[(NodeId, Tag)],
+) -> Result<(), AllocError>
     ensures { OnOk result (string_bytes text.new ≡ string_bytes text.old ++ list_text mem entries.now) }
 {
     let head = mem.forw;

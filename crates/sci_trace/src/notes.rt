@@ -21,7 +21,7 @@ pub struct Notes {
 
 impl Notes {
     /// No lines.
-    pub fn new(alloc: Global) -> Notes
+    pub(crate) fn new(alloc: Global) -> Notes
         ensures empty { string_bytes result.text ≡ [] }
         ensures whole { result.is_cut ≡ false }
     {
@@ -32,21 +32,21 @@ impl Notes {
     }
 
     /// The lines.
-    pub fn as_bytes(&self) -> &[u8]
+    pub(crate) fn as_bytes(&self) -> &[u8]
         ensures { result.now ≡ string_bytes self.now.text }
     {
         self.text.as_bytes()
     }
 
     /// Memory was refused for a line.
-    pub fn is_cut(&self) -> bool
+    pub(crate) fn is_cut(&self) -> bool
         ensures { result ≡ self.now.is_cut }
     {
         self.is_cut
     }
 
     /// Drops the lines.
-    pub fn clear(&mut self)
+    pub(crate) fn clear(&mut self)
         ensures empty { string_bytes self.new.text ≡ [] }
         ensures cut { self.new.is_cut ≡ self.old.is_cut }
     {
@@ -54,15 +54,16 @@ impl Notes {
     }
 
     /// Drops the lines, and says that memory was refused.
-    pub fn cut(&mut self)
+    pub(crate) fn cut(&mut self)
+        ensures empty { string_bytes self.new.text ≡ [] }
         ensures cut { self.new.is_cut ≡ true }
     {
-        self.text.clear();
+        self.clear();
         self.is_cut = true;
     }
 
     /// Adds the line of a turn.
-    pub fn tell(
+    pub(crate) fn tell(
         &mut self,
         node: NodeId,
         asked: &Option<Request>,
@@ -76,8 +77,9 @@ impl Notes {
         match push_note(&mut self.text, node, asked, passed, turn, mem, entries) {
             Ok(()) => {}
             Err(_) => {
+                // the front of a line is no line
                 self.text.clear();
-                self.is_cut = true;
+                self.cut();
             }
         }
     }

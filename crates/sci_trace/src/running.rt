@@ -1,11 +1,14 @@
 //! Runs a script with a line for each turn.
 
-ghost use Rattle.std.specs.Prelude.{◌≡◌, ℕ, List, OnOk, IfErr, string_bytes};
+ghost use Rattle.std.specs.Prelude.{◌≡◌, ℕ, List, [], false, OnOk, IfErr, string_bytes};
 ghost use Rattle.std.specs.Io.KnownBytes.{Appends};
+ghost use Rattle.sci_script.specs.Request.{no_words};
 ghost use Rattle.sci_script.specs.Wholes.{shared_of};
+ghost use Rattle.sci_trace.specs.Telling.{TellsAll};
 ghost use Rattle.sci_trace.specs.Traces.{Traces, NotesLeft, TraceLeaves};
 
 use crate::desk::TraceDesk;
+use crate::notes::Notes;
 use sci_script::{Script, ScriptRefusal, note, perform, put};
 use std::alloc::Global;
 use std::io::Write;
@@ -15,6 +18,8 @@ fn put_notes<W: Write>(desk: &mut TraceDesk, out: &mut W) -> Result<(), ScriptRe
     ensures ok { OnOk result (Appends (W.contents out.old) (W.contents out.new) (string_bytes desk.old.notes.text)) }
     ensures err { IfErr result (λ e. (written : List ℕ) × NotesLeft e (string_bytes desk.old.notes.text) written
         × Appends (W.contents out.old) (W.contents out.new) written) }
+    ensures whole { OnOk result (desk.old.notes.is_cut ≡ false) }
+    ensures dropped { OnOk result ((string_bytes desk.new.notes.text ≡ []) × (desk.new.notes.is_cut ≡ false)) }
     ensures desk { desk.new.desk ≡ desk.old.desk }
     ensures size { desk.new.size ≡ desk.old.size }
 {
@@ -40,15 +45,17 @@ pub fn trace<W: Write>(
     out: &mut W,
 ) -> Result<(), ScriptRefusal>
     requires { desk.old.size ≡ script.now.size }
-    // All of the script's text is written, and between its parts lines of turns.
+    // All of the script's text is written, and between its parts the lines of its turns, one by one.
     ensures ok { OnOk result ((traced : List ℕ) × Traces script.now.steps.items (shared_of desk.old.desk) traced (shared_of desk.new.desk)
-        × Appends (W.contents out.old) (W.contents out.new) traced) }
+        × TellsAll no_words (shared_of desk.old.desk) script.now.steps.items traced (shared_of desk.new.desk) × Appends (W.contents out.old) (W.contents out.new) traced) }
     // So is what `Script::run` leaves, with the lines of the refused command's turns; or a front of it.
     ensures err { IfErr result (λ e. (written : List ℕ) × TraceLeaves script.now.size.nodes script.now.steps.items (shared_of desk.old.desk) e written (shared_of desk.new.desk)
         × Appends (W.contents out.old) (W.contents out.new) written) }
     ensures size { desk.new.size ≡ desk.old.size }
 {
     let size = desk.size;
+    // what was told before is no part of this run
+    desk.notes = Notes::new(alloc);
     let mut words = [0; 64];
     // one text for all commands, so that not each takes memory
     let mut text = String::new(alloc);

@@ -80,7 +80,7 @@ fn mark(step: &Pending) -> &'static str
 }
 
 /// A pending step, with the node that it keeps and its mark.
-pub fn push_step(text: &mut String, step: &Pending) -> Result<(), AllocError>
+pub(crate) fn push_step(text: &mut String, step: &Pending) -> Result<(), AllocError>
     ensures { OnOk result (string_bytes text.new ≡ string_bytes text.old ++ step_text step.now) }
 {
     text.push_str(step_name(step))?;

@@ -7,7 +7,7 @@ ghost use Rattle.sci_trace.specs.Texts.{operation_name, outcome_name, mem_wait, 
 use crate::events::push_event;
 use crate::lists::push_list;
 use crate::steps::push_step;
-use crate::words::{push_link, push_tag};
+use crate::words::{push_link, push_node, push_number, push_tag};
 use sci_cache::Request;
 use sci_core::{Event, Outcome, Pending};
 use sci_ops::Turn;
@@ -105,8 +105,11 @@ fn push_place(
 ) -> Result<(), AllocError>
     ensures { OnOk result (string_bytes text.new ≡ string_bytes text.old ++ place_text node asked.now line) }
 {
-    let node = node.get();
-    write!(text, "# node {node} line {line} ")?;
+    text.push_str("# node ")?;
+    push_node(text, node)?;
+    text.push_str(" line ")?;
+    push_number(text, u64::from(line))?;
+    text.push_str(" ")?;
     text.push_str(operation_name(asked, line))?;
     text.push_str(": ")
 }
@@ -114,7 +117,7 @@ fn push_place(
 /// One turn of a node, which was asked for this: `# node N line L OPERATION: WHAT; STEP; LIST` and a line feed. WHAT is the event
 /// and Done or Missed, `waits: ` and what it waits for, or `only looked`; STEP is the pending step after the turn; LIST is the
 /// memory word and these entries, with what is lent and held.
-pub fn push_note(
+pub(crate) fn push_note(
     text: &mut String,
     node: NodeId,
     asked: &Option<Request>,

@@ -1,22 +1,35 @@
 //! The parts that the words of a note share.
 
 ghost use Rattle.std.specs.Prelude.{◌≡◌, ◌++◌, OnOk, string_bytes, codes};
+ghost use Rattle.std.specs.Fmt.{decimal};
 ghost use Rattle.sci_script.specs.Text.{held_text};
 ghost use Rattle.sci_trace.specs.Words.{link_word, of_text, found_text, tag_text};
 
+use itoa::Buffer;
 use sci_port::Call;
 use sci_words::{NodeId, Tag, name};
 use std::alloc::AllocError;
 
+/// A number in decimal digits. Each line of a turn has some, and `write!` takes several times as long.
+pub(crate) fn push_number(text: &mut String, number: u64) -> Result<(), AllocError>
+    ensures { OnOk result (string_bytes text.new ≡ string_bytes text.old ++ decimal number) }
+{
+    text.push_str(Buffer::new().format(number))
+}
+
+/// A node's number.
+pub(crate) fn push_node(text: &mut String, node: NodeId) -> Result<(), AllocError>
+    ensures { OnOk result (string_bytes text.new ≡ string_bytes text.old ++ decimal node) }
+{
+    push_number(text, u64::from(node.get()))
+}
+
 /// A link: a node, or `none`.
-pub fn push_link(text: &mut String, link: Option<NodeId>) -> Result<(), AllocError>
+pub(crate) fn push_link(text: &mut String, link: Option<NodeId>) -> Result<(), AllocError>
     ensures { OnOk result (string_bytes text.new ≡ string_bytes text.old ++ link_word link) }
 {
     match link {
-        Some(node) => {
-            let node = node.get();
-            write!(text, "{node}")
-        }
+        Some(node) => push_node(text, node),
         None => text.push_str("none"),
     }
 }
@@ -26,14 +39,14 @@ fn push_of(text: &mut String, load: &Option<Call>) -> Result<(), AllocError>
     ensures { OnOk result (string_bytes text.new ≡ string_bytes text.old ++ of_text load.now) }
 {
     if let Some(Call::TagWas(node, _)) = load {
-        let node = node.get();
-        write!(text, "{node} ")?;
+        push_node(text, *node)?;
+        text.push_str(" ")?;
     }
     Ok(())
 }
 
 /// The tag that an event found: `(NAME)` of the own tag, `(N NAME)` of another node's.
-pub fn push_found(text: &mut String, load: &Option<Call>, tag: Tag) -> Result<(), AllocError>
+pub(crate) fn push_found(text: &mut String, load: &Option<Call>, tag: Tag) -> Result<(), AllocError>
     ensures { OnOk result (string_bytes text.new ≡ string_bytes text.old ++ found_text load.now tag) }
 {
     text.push_str("(")?;
@@ -43,7 +56,7 @@ pub fn push_found(text: &mut String, load: &Option<Call>, tag: Tag) -> Result<()
 }
 
 /// A node's tag, with its links: `node N is NAME forw F back B`, and ` held`.
-pub fn push_tag(text: &mut String, node: NodeId, tag: Tag) -> Result<(), AllocError>
+pub(crate) fn push_tag(text: &mut String, node: NodeId, tag: Tag) -> Result<(), AllocError>
     ensures { OnOk result (string_bytes text.new ≡ string_bytes text.old ++ tag_text node tag) }
 {
     let Tag {
@@ -52,8 +65,9 @@ pub fn push_tag(text: &mut String, node: NodeId, tag: Tag) -> Result<(), AllocEr
         back,
         ..
     } = tag;
-    let number = node.get();
-    write!(text, "node {number} is ")?;
+    text.push_str("node ")?;
+    push_node(text, node)?;
+    text.push_str(" is ")?;
     text.push_str(name(tag))?;
     text.push_str(" forw ")?;
     push_link(text, forw)?;
@@ -63,7 +77,7 @@ pub fn push_tag(text: &mut String, node: NodeId, tag: Tag) -> Result<(), AllocEr
 }
 
 /// ` held`, where it is.
-pub fn push_held(text: &mut String, held: bool) -> Result<(), AllocError>
+pub(crate) fn push_held(text: &mut String, held: bool) -> Result<(), AllocError>
     ensures { OnOk result (string_bytes text.new ≡ string_bytes text.old ++ held_text held) }
 {
     if held {

@@ -58,4 +58,4 @@ module _ (n : ℕ) (fits : List ℕ → Type 0) (s : State) (v : Line) (c : Clos
 
 -- what `finish` gives of a line
 pub closed_of : {K : Type 0} (fits : K → ℕ → List ℕ → Type 0) (l : FineLine K) (logs : List (List (ℕ × Call))) (c : ClosedLine) → IsEnd fits l.terms logs c → IsClosedOf fits l c
-closed_of fits l logs c e = record { exact = e.exact; fit = fit_is l.terms.nodes (fits l.terms.keep l.terms.number) e.state e.value c e.valued e.read e.exact }
+closed_of fits l logs c e = record { exact = e.exact; nodes = e.read.tag_count; fit = fit_is l.terms.nodes (fits l.terms.keep l.terms.number) e.state e.value c e.valued e.read e.exact }

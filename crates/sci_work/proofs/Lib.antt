@@ -1,12 +1,15 @@
 pub mod Calling
+pub mod Closing
 pub mod Dealing
 pub mod Fitting
 pub mod Handed
+pub mod Items
 pub mod Making
+pub mod Opening
 pub mod Plain
 pub mod Refusing
+pub mod Resting
 pub mod Rests
-pub mod Rings
 pub mod Seated
 pub mod Sharing
 pub mod Showing

@@ -3,8 +3,8 @@ use Rattle.std.proofs.lemmas.List.{get_or_append_left, get_or-take, length-take-
 use Rattle.std.proofs.Math.Seq.{take-add}
 use Rattle.std.proofs.lemmas.Bool.{cases_lt}
 use Rattle.std.proofs.Math.Nat.{div-add-mod, mul-le-mul_left}
-use Rattle.sci_work.specs.Stencil.{HoldsTile}
-use Rattle.sci_work.specs.Shares.{IsShare, StandsAt}
+use Rattle.sci_work.specs.Stencil.{FitsStencil, HoldsTile}
+use Rattle.sci_work.specs.Shares.{IsShare, IsWork, StandsAt}
 
 pub same_tile : (nodes t tile : ℕ) → 0 < nodes → tile ≤ t → t < tile + nodes → t % nodes ≡ tile % nodes → t ≡ tile
 same_tile nodes t tile some from to mods =
@@ -47,3 +47,10 @@ seven_more P s tile inside seven cells =
     let same : s ≡ take 7 (drop (7 * tile) P) = ext_get_or 0 s (take 7 (drop (7 * tile) P)) (seven ∙ sym n) (λ j low. cells j (omega arith) ∙ sym (get_or-drop (7 * tile) P j 0) ∙ sym (get_or-take 7 (drop (7 * tile) P) j 0 (omega arith))) in
     let e : 7 * tile + 7 ≡ 7 * (tile + 1) = omega arith in
     ap (λ t. take (7 * tile) P ++ t) same ∙ sym (take-add (7 * tile) 7 P) ∙ ap (λ k. take k P) e
+
+-- the fact of a stencil is that of its work
+pub is_work : (kept cells : List ℕ) (last phases tiles : ℕ) → kept ≡ cells → last ≡ phases → length cells ≡ 7 * tiles → tiles ≤ 512 → phases ≤ 1000000 → IsWork (FitsStencil kept last) cells phases tiles (2 * tiles)
+is_work kept cells last phases tiles e f whole few fit =
+    let same : IsWork (FitsStencil cells phases) cells phases tiles (2 * tiles) =
+    record { gives = λ line words h. h; takes = λ line words h. h; whole = whole; lines_are = refl; few = few; phases_fit = omega (arith, fit) } in
+    subst (λ (x : List ℕ). IsWork (FitsStencil x last) cells phases tiles (2 * tiles)) (sym e) (subst (λ (p : ℕ). IsWork (FitsStencil cells p) cells phases tiles (2 * tiles)) (sym f) same)

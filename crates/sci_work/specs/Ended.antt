@@ -1,5 +1,5 @@
 -- What a line holds once it is closed. This project's profile.
-use Rattle.std.specs.Prelude.{◌≡◌, ℕ, ◌≤◌, Option, Some, None, List, [], ◌∷◌, length, slice_index, slice_index_or}
+use Rattle.std.specs.Prelude.{◌≡◌, ℕ, ◌≤◌, Option, Some, None, List, [], ◌∷◌, length, All, slice_index, slice_index_or}
 use mathlib.Core.Option.{some}
 use lib.ListN.{get_elem?}
 use Rattle.sci_fine.specs.declared.line.FineLine.{FineLine}
@@ -15,6 +15,10 @@ value_by (Some head) memory lines = slice_index_or lines head blank
 abbrev pub value_of : ClosedLine → Line
 value_of c = value_by c.mem.forw c.memory c.lines
 
+-- each closed line has so many nodes
+abbrev pub HaveNodes : ℕ → List ClosedLine → Type 0
+HaveNodes nodes closed = All (λ c. length c.tags ≡ nodes) closed
+
 -- one line was closed, an exact sharing list, and the word is the first of its value
 abbrev pub IsCounted : ℕ → List ClosedLine → Type 0
 IsCounted word lines = (c : ClosedLine) × (lines ≡ c ∷ []) × IsExactClosed c × (word ≡ slice_index (value_of c).words 0)
@@ -23,9 +27,10 @@ IsCounted word lines = (c : ClosedLine) × (lines ≡ c ∷ []) × IsExactClosed
 abbrev pub IsCountSize : ℕ → ℕ → ℕ → Type 0
 IsCountSize nodes adds capacity = (1 ≤ nodes) × (nodes ≤ 64) × (adds ≤ 1000000) × (1 ≤ capacity) × (capacity ≤ 1024)
 
--- the line was closed as an exact sharing list, and what it holds fits what is known of it
+-- the line was closed as an exact sharing list of its nodes, and what it holds fits what is known of it
 pub record IsClosedOf {K : Type 0} (fits : K → ℕ → List ℕ → Type 0) (l : FineLine K) (c : ClosedLine) : Type 0 where
   pub exact : IsExactClosed c
+  pub nodes : length c.tags ≡ l.terms.nodes
   pub fit : fits l.terms.keep l.terms.number (value_of c).words
 
 -- each line was closed so

@@ -15,7 +15,20 @@ pub record IsBankOf (way : BankWay) (n : NodeState) : Type 0 where
   pub lines : way.lines ≡ n.lines
   pub closed : n.call ≡ None
 
--- a worker that has begun refuses with 7, 11, 19, 20 or 25
+-- a call on a line that there is, begun where none is open, is refused with 7 or 11
+abbrev pub IsLineRefusal : NodeRefusal → Type 0
+IsLineRefusal NodeRefusal.OutOfMemory = Unit {0}
+IsLineRefusal NodeRefusal.StampsSpent = Unit {0}
+IsLineRefusal refusal = ⊥
+
+-- a worker's call refuses with 7, 11, 20 or 25
+abbrev pub ComesInCall : WorkRefusal → Type 0
+ComesInCall WorkRefusal.BadSettings = ⊥
+ComesInCall WorkRefusal.NoThread = ⊥
+ComesInCall WorkRefusal.Overrun = ⊥
+ComesInCall refusal = Unit {0}
+
+-- a worker that has begun refuses with one of these, or with 19
 abbrev pub ComesInWork : WorkRefusal → Type 0
 ComesInWork WorkRefusal.BadSettings = ⊥
 ComesInWork WorkRefusal.NoThread = ⊥

@@ -1,16 +1,19 @@
 -- What a program asks of its lines, and what is true of a node's share. This project's own.
-use Rattle.std.specs.Prelude.{ℕ, ◌<◌, ◌≤◌, List}
+use Rattle.std.specs.Prelude.{◌≡◌, ℕ, ◌<◌, ◌≤◌, List, length}
 use Rattle.sci_ops.specs.declared.goals.Goal.{Goal}
 use Rattle.sci_ops.specs.declared.goals.Write.{Write}
 use Rattle.sci_ops.specs.Change.{StoresFitting}
 use Rattle.sci_work.specs.declared.programs.Program.{Program}
 use Rattle.sci_work.specs.Plain.{plain}
+use Rattle.sci_work.specs.Ring.{IsRing, IsRingSize}
 use Rattle.sci_work.specs.Shares.{IsShare, IsWork}
 
 abbrev pub Suits : Program → (ℕ → List ℕ → Type 0) → ℕ → ℕ → Type 0
 Suits (Program.Count adds) fits lines number = (0 < lines) × StoresFitting (fits 0) (Goal.Write (Write.Add 0 1))
+Suits (Program.Ring source lines) fits count number = IsRing fits source.now lines × IsRingSize (length source.now) lines × (lines < count)
 Suits (Program.Stencil work) fits lines number = IsWork fits work.cells.now work.phases work.tiles lines × (number < work.nodes) × (work.nodes ≤ 64)
 
 abbrev pub IsShareOf : Program → ℕ → List ℕ → Type 0
 IsShareOf (Program.Count adds) number share = Unit {0}
+IsShareOf (Program.Ring source lines) number share = number ≡ 1 → share ≡ source.now
 IsShareOf (Program.Stencil work) number share = IsShare (plain work.cells.now work.phases) work.nodes number work.tiles share

@@ -36,6 +36,10 @@ pub record IsRingOf (fits : ℕ → List ℕ → Type 0) (n lines : ℕ) : Type 
 abbrev pub IsRingSize : ℕ → ℕ → Type 0
 IsRingSize items lines = (items ≤ 100000) × (1 ≤ lines) × (lines ≤ 1023)
 
+-- and its nodes may name so many lines
+abbrev pub IsRingRun : ℕ → ℕ → ℕ → Type 0
+IsRingRun items lines capacity = IsRingSize items lines × (1 ≤ capacity) × (capacity ≤ 1024)
+
 -- the writes of the first i items, the last in front: the line, and its words
 abbrev pub item_writes : List ℕ → ℕ → ℕ → List (ℕ × List ℕ)
 item_writes source lines zero = []

@@ -1,5 +1,5 @@
 -- What a node's thread is started with, and what it ends with. This project's own.
-use Rattle.std.specs.Prelude.{◌≡◌, ℕ, ◌<◌, ◌≤◌, List, length, Result, IfOk, IfErr, vec_len}
+use Rattle.std.specs.Prelude.{◌≡◌, ◌≢◌, ℕ, ◌<◌, ◌≤◌, List, length, Result, Err, IfOk, IfErr, vec_len}
 use Rattle.std.specs.Global.{Vec}
 use mathlib.Core.Option.{some}
 use lib.ListN.{get_elem?}
@@ -43,3 +43,15 @@ pub record AreEnded {K : Type 0} {g : keeps.Ghosts K} (lines : List (FineLine K)
 abbrev pub ComesInStart : WorkRefusal → Type 0
 ComesInStart WorkRefusal.BadSettings = ⊥
 ComesInStart refusal = Unit {0}
+
+-- a share, or 25: no refusal of the node's own
+abbrev pub IsNoRefusal : Result (Vec ℕ) WorkRefusal → Type 0
+IsNoRefusal share = IfErr share (λ e. e ≡ WorkRefusal.Stopped)
+
+-- the refusal of the lowest of so many nodes whose refusal isn't 25
+pub record IsLowestRefusal (shares : ℕ → Result (Vec ℕ) WorkRefusal) (nodes : ℕ) (refusal : WorkRefusal) : Type 0 where
+  pub node : ℕ
+  pub inside : node < nodes
+  pub refuses : shares node ≡ Err refusal
+  pub own : refusal ≢ WorkRefusal.Stopped
+  pub below : (k : ℕ) → k < node → IsNoRefusal (shares k)

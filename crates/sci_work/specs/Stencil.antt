@@ -24,3 +24,7 @@ before left words j = if j == 0 then left else slice_index words j
 
 abbrev pub behind : ℕ → List ℕ → ℕ → ℕ
 behind right words j = if j == 6 then right else slice_index words (j + 2)
+
+-- the numbers of a stencil are within the limits: cells in 1 to 512 whole tiles
+abbrev pub IsStencilSize : ℕ → ℕ → ℕ → ℕ → Type 0
+IsStencilSize cells phases nodes capacity = (cells % 7 ≡ 0) × (7 ≤ cells) × (cells ≤ 3584) × (phases ≤ 1000000) × (1 ≤ nodes) × (nodes ≤ 64) × (1 ≤ capacity) × (capacity ≤ 1024)

@@ -1,9 +1,10 @@
-//! A node's calls, each through its door.
-ghost use Rattle.std.specs.Prelude.{◌≡◌, ℕ, ◌<◌, IfOk, IfErr};
+//! A node's calls, each through its door. They are told one after another.
+ghost use Rattle.std.specs.Prelude.{◌≡◌, ◌<◌, [], ◌∷◌, IfOk, IfErr, OnOk, OnErr};
 ghost use Rattle.sci_ops.specs.declared.goals.Goal as goal;
 ghost use Rattle.sci_ops.specs.declared.goals.Write as write;
 ghost use Rattle.sci_ops.specs.Change.{StoresFitting};
-ghost use Rattle.sci_work.specs.Made.{ComesInWork};
+ghost use Rattle.sci_cache.specs.declared.refusals.NodeRefusal as refusals;
+ghost use Rattle.sci_work.specs.Made.{ComesInCall, IsBankOf, IsLineRefusal, Made};
 ghost use Rattle.sci_work.specs.Workers.{IsReady, Led};
 
 use crate::doors::Door;
@@ -17,11 +18,19 @@ use std::sync::Wait;
 
 // The refusals that a call has on a line that there is, where none is open.
 fn refused(refusal: NodeRefusal) -> WorkRefusal
-    ensures { ComesInWork result }
+    requires { IsLineRefusal refusal }
+    ensures comes { ComesInCall result }
+    ensures spent { refusal ≡ refusals.NodeRefusal.StampsSpent → result ≡ WorkRefusal.StampsSpent }
+    ensures memory { refusal ≡ refusals.NodeRefusal.OutOfMemory → result ≡ WorkRefusal.OutOfMemory }
 {
     match refusal {
+        NodeRefusal::OutOfMemory => WorkRefusal::OutOfMemory,
         NodeRefusal::StampsSpent => WorkRefusal::StampsSpent,
-        _ => WorkRefusal::OutOfMemory,
+        NodeRefusal::BadWord
+        | NodeRefusal::BadLine
+        | NodeRefusal::BadCapacity
+        | NodeRefusal::CallOpen
+        | NodeRefusal::NoCall => unreachable!(),
     }
 }
 
@@ -33,12 +42,12 @@ pub(crate) fn loaded<R: Wait, G: Gate, B: Bank>(
     bank: &mut B,
     line: LineNo,
 ) -> Result<[u64; 8], WorkRefusal>
-    requires ready { IsReady B.at_step (B.way bank.old) node.old bank.old }
+    requires ready { IsBankOf (B.way bank.old) node.old }
     requires line { line < (B.way bank.old).lines }
     ensures fits { IfOk result (λ words. B.Keep.fits (B.keep bank.old) line words) }
-    ensures err { IfErr result ComesInWork }
-    ensures ready { IsReady B.at_step (B.way bank.new) node.new bank.new }
-    ensures led { Led B.gives bank.old bank.new }
+    ensures err { IfErr result ComesInCall }
+    ensures made { Made B.gives B.at_step [] node.old bank.old node.new bank.new }
+    ensures ready { IsBankOf (B.way bank.new) node.new }
     ensures same_way { B.way bank.new ≡ B.way bank.old }
     ensures same_fact { B.keep bank.new ≡ B.keep bank.old }
 {
@@ -61,12 +70,13 @@ pub(crate) fn written<R: Wait, G: Gate, B: Bank>(
     line: LineNo,
     words: [u64; 8],
 ) -> Result<(), WorkRefusal>
-    requires ready { IsReady B.at_step (B.way bank.old) node.old bank.old }
+    requires ready { IsBankOf (B.way bank.old) node.old }
     requires line { line < (B.way bank.old).lines }
     requires fits { B.Keep.fits (B.keep bank.old) line words }
-    ensures err { IfErr result ComesInWork }
-    ensures ready { IsReady B.at_step (B.way bank.new) node.new bank.new }
-    ensures led { Led B.gives bank.old bank.new }
+    ensures err { IfErr result ComesInCall }
+    ensures made { OnOk result (Made B.gives B.at_step ((line, words) ∷ []) node.old bank.old node.new bank.new) }
+    ensures none { OnErr result (Made B.gives B.at_step [] node.old bank.old node.new bank.new) }
+    ensures ready { IsBankOf (B.way bank.new) node.new }
     ensures same_way { B.way bank.new ≡ B.way bank.old }
     ensures same_fact { B.keep bank.new ≡ B.keep bank.old }
 {
@@ -90,7 +100,7 @@ pub(crate) fn added<R: Wait, G: Gate, B: Bank>(
     requires ready { IsReady B.at_step (B.way bank.old) node.old bank.old }
     requires line { line < (B.way bank.old).lines }
     requires fits { StoresFitting (B.Keep.fits (B.keep bank.old) line) (goal.Goal.Write (write.Write.Add 0 1)) }
-    ensures err { IfErr result ComesInWork }
+    ensures err { IfErr result ComesInCall }
     ensures ready { IsReady B.at_step (B.way bank.new) node.new bank.new }
     ensures led { Led B.gives bank.old bank.new }
     ensures same_way { B.way bank.new ≡ B.way bank.old }

@@ -1,7 +1,7 @@
 //! Nodes that count on one line.
-ghost use Rattle.std.specs.Prelude.{◌≡◌, ◌≢◌, ◌<◌, ◌≤◌, ◌↔◌, Err, IfOk, IfErr, IsTrue};
+ghost use Rattle.std.specs.Prelude.{◌≡◌, ◌≢◌, ◌<◌, ◌≤◌, ◌↔◌, Err, length, IfOk, IfErr, IsTrue};
 ghost use Rattle.sci_core.specs.Closed.{IsExactClosed};
-ghost use Rattle.sci_work.specs.Ended.{IsCounted, IsCountSize};
+ghost use Rattle.sci_work.specs.Ended.{HaveNodes, IsCounted, IsCountSize};
 ghost use Rattle.sci_work.specs.Starts.{ComesInStart};
 
 use crate::gates::Gate;
@@ -35,6 +35,7 @@ fn counted<R: Threads + Wait + Sync, G: Gate>(
 ) -> Result<Closed, WorkRefusal>
     requires { (0 < nodes) × (nodes ≤ 64) }
     ensures ok { IfOk result (λ closed. IsExactClosed closed) }
+    ensures nodes { IfOk result (λ closed. length closed.tags ≡ nodes) }
     ensures err { IfErr result ComesInStart }
 {
     let (line, seats) = match FineLine::new(alloc, nodes, 0, Line::ZERO, AnyWords) {
@@ -56,6 +57,7 @@ fn counted<R: Threads + Wait + Sync, G: Gate>(
     let seats = gathered(alloc, &line, hands)?;
     match line.finish(alloc, seats) {
         Ok(closed) => Ok(closed),
+        // 7, and not 9: the seats are the line's own, one per node in order
         Err(_) => Err(WorkRefusal::OutOfMemory),
     }
 }
@@ -74,6 +76,7 @@ pub fn count<R: Threads + Wait + Sync, G: Gate>(
 ) -> Result<(u64, Vec<Closed>), WorkRefusal>
     ensures limits { (result ≡ Err WorkRefusal.BadSettings) ↔ (IsCountSize nodes adds capacity → ⊥) }
     ensures ok { IfOk result (λ r. IsCounted r.0 r.1.items) }
+    ensures nodes { IfOk result (λ r. HaveNodes nodes r.1.items) }
 {
     if !is_count_size(nodes, adds, capacity) {
         return Err(WorkRefusal::BadSettings);

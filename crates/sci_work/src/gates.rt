@@ -17,13 +17,19 @@ pub trait Gate: Sync {
 pub struct OpenGate;
 
 impl Gate for OpenGate {
-    fn may_start(&self, _node: u16, _call: u64) -> bool {
+    ghost use Rattle.std.specs.Prelude.{◌≡◌, IsTrue};
+
+    fn may_start(&self, _node: u16, _call: u64) -> bool
+        ensures { IsTrue result }
+    {
         true
     }
 
     fn ended(&self, _node: u16, _call: u64) {}
 
-    fn limit(&self) -> u64 {
+    fn limit(&self) -> u64
+        ensures { result ≡ 1 }
+    {
         1
     }
 }

@@ -132,6 +132,7 @@ pub(crate) fn closed<K: Keeps>(
         let (fewer, seats) = last_seats(alloc, &rest, &line, hands)?;
         hands = fewer;
         let Ok(one) = line.finish(alloc, seats) else {
+            // 7, and not 9: the seats are the line's own, one per node in order
             return Err(WorkRefusal::OutOfMemory);
         };
         let Ok(()) = all.insert(0, one) else {

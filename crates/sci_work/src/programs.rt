@@ -3,7 +3,7 @@ ghost use Rattle.std.specs.Prelude.{◌≡◌, ◌<◌, IfOk, IfErr};
 ghost use Rattle.sci_ops.specs.declared.goals.Goal as goal;
 ghost use Rattle.sci_ops.specs.declared.goals.Write as write;
 ghost use Rattle.sci_ops.specs.Change.{StoresFitting};
-ghost use Rattle.sci_work.specs.Made.{ComesInWork};
+ghost use Rattle.sci_work.specs.Made.{ComesInCall, ComesInWork};
 ghost use Rattle.sci_work.specs.Programs.{IsShareOf, Suits};
 ghost use Rattle.sci_work.specs.Workers.{IsReady, Led};
 
@@ -11,6 +11,7 @@ use crate::calls::added;
 use crate::doors::Door;
 use crate::gates::Gate;
 use crate::refusals::WorkRefusal;
+use crate::rings;
 use crate::stencils::{Work, worked};
 use sci_cache::Node;
 use sci_port::Bank;
@@ -22,6 +23,8 @@ use std::sync::Wait;
 pub(crate) enum Program<'a> {
     /// Adds 1 to word 0 of line 0, so often.
     Count { adds: u64 },
+    /// The items of a ring on so many lines: node 0 writes them, and node 1 reads them.
+    Ring { source: &'a [u64], lines: u16 },
     /// Its tiles of a stencil.
     Stencil(Work<'a>),
 }
@@ -37,7 +40,7 @@ fn counted<R: Wait, G: Gate, B: Bank>(
     requires ready { IsReady B.at_step (B.way bank.old) node.old bank.old }
     requires line { 0 < (B.way bank.old).lines }
     requires fits { StoresFitting (B.Keep.fits (B.keep bank.old) 0) (goal.Goal.Write (write.Write.Add 0 1)) }
-    ensures err { IfErr result ComesInWork }
+    ensures err { IfErr result ComesInCall }
     ensures ready { IsReady B.at_step (B.way bank.new) node.new bank.new }
     ensures led { Led B.gives bank.old bank.new }
     ensures same_way { B.way bank.new ≡ B.way bank.old }
@@ -50,6 +53,7 @@ fn counted<R: Wait, G: Gate, B: Bank>(
 }
 
 /// The node's part. It ends with no call open.
+#[tactic(auto, using(crate::proofs::Refusing::of_call))]
 pub(crate) fn run<R: Wait, G: Gate, B: Bank>(
     rt: &R,
     alloc: Global,
@@ -72,6 +76,9 @@ pub(crate) fn run<R: Wait, G: Gate, B: Bank>(
         Program::Count { adds } => {
             counted(rt, door, node, bank, adds)?;
             Ok(Vec::new(alloc))
+        }
+        Program::Ring { source, lines } => {
+            rings::worked(rt, alloc, door, node, bank, source, lines, number)
         }
         Program::Stencil(work) => worked(rt, alloc, door, node, bank, work, number),
     }

@@ -1,11 +1,11 @@
 //! A thread a node.
-ghost use Rattle.std.specs.Prelude.{◌≡◌, ℕ, ◌<◌, ◌≤◌, All, IfOk, IfErr, slice_index_or, vec_capacity, vec_len};
+ghost use Rattle.std.specs.Prelude.{◌≡◌, ℕ, ◌<◌, ◌≤◌, All, IfOk, IfErr, OnOk, length, slice_index_or, vec_capacity, vec_len};
 ghost use Rattle.std.specs.PromisedHandle.{KeepsEach};
 ghost use Rattle.sci_core.specs.declared.pending.Pending.TheVariants.{Idle};
 ghost use Rattle.sci_work.specs.Hands.{AtEach};
 ghost use Rattle.sci_work.specs.Made.{ComesInWork};
 ghost use Rattle.sci_work.specs.Programs.{IsShareOf, Suits};
-ghost use Rattle.sci_work.specs.Starts.{AreEnded, AreParts, ComesInStart, IsPart, IsPartDone};
+ghost use Rattle.sci_work.specs.Starts.{AreEnded, AreParts, ComesInStart, IsLowestRefusal, IsNoRefusal, IsPart, IsPartDone};
 ghost use Rattle.sci_work.specs.Workers.{Led};
 
 use crate::doors::Door;
@@ -13,7 +13,7 @@ use crate::gates::Gate;
 use crate::programs::{Program, run};
 use crate::refusals::WorkRefusal;
 use crate::seating::{Done, Hand};
-use sci_cache::Node;
+use sci_cache::{Node, NodeRefusal};
 use sci_core::Keeps;
 use sci_fine::{FineBank, FineLine};
 use sci_port::Bank;
@@ -59,7 +59,15 @@ fn share_of<R: Wait, G: Gate, B: Bank>(
 {
     match Node::new(alloc, bank.node(), bank.lines(), capacity) {
         Ok(mut node) => run(rt, alloc, door, &mut node, bank, program, number),
-        Err(_) => Err(WorkRefusal::OutOfMemory),
+        // the capacity was within its limits before any line was opened
+        Err(NodeRefusal::OutOfMemory | NodeRefusal::BadCapacity) => Err(WorkRefusal::OutOfMemory),
+        Err(
+            NodeRefusal::BadWord
+            | NodeRefusal::StampsSpent
+            | NodeRefusal::BadLine
+            | NodeRefusal::CallOpen
+            | NodeRefusal::NoCall,
+        ) => unreachable!(),
     }
 }
 
@@ -186,7 +194,9 @@ fn start_all<'s, 'a: 's, E, R: Threads + Wait + Sync, G: Gate, K: Keeps + Send +
 // The refusal of the first node whose refusal isn't 25, if there is one.
 fn first_refusal<K: Keeps>(done: &[Done<K, Vec<u64>>]) -> Result<(), WorkRefusal>
     requires { All (λ one. IfErr one.share ComesInWork) done.now }
-    ensures { IfErr result ComesInWork }
+    ensures comes { IfErr result ComesInWork }
+    ensures lowest { IfErr result (λ e. (d : _) → IsLowestRefusal (λ k. (slice_index_or done.now k d).share) (length done.now) e) }
+    ensures none { OnOk result ((k : ℕ) (d : _) → k < length done.now → IsNoRefusal (slice_index_or done.now k d).share) }
 {
     for one in done {
         if let Err(refusal) = &one.share {

@@ -1,8 +1,12 @@
 //! The workloads, and a node over separate words.
 mod counts;
+mod doors;
 mod gates;
 mod growths;
 mod meeting;
 mod nodes;
+mod passing;
 mod refusals;
 mod rings;
+mod stencils;
+mod threads;

@@ -1,12 +1,11 @@
-//! Turns of a node, evictions, and requests for a line that it names take no memory. The gate runs this test with allocation 32
-//! refused, and wants it to fail in its last line, and there alone.
+//! Turns of a node, evictions, and requests for a line that it names take no memory. tools/allocations runs this test with the
+//! allocation of its last line refused, and wants it to fail there, and there alone.
 ghost use Rattle.std.specs.Prelude.{◌≡◌};
 
 use super::{done, opened};
 use crate::{Node, Request};
 use sci_core::{AnyWords, Line, Whole};
 use sci_words::{LineNo, NodeId};
-use std::alloc::{AllocError, Global};
 use std::test::Fail;
 
 const ROUNDS: u32 = 2_000;
@@ -56,19 +55,9 @@ fn rounds(
     Some(lines)
 }
 
-/// Takes so many allocations, and gives them back.
-fn spend(alloc: Global, count: u16) -> Result<(), AllocError> {
-    for place in 0..count {
-        let mut kept = Vec::with_capacity(alloc, 1)?;
-        kept.push(place)?;
-    }
-    Ok(())
-}
-
 #[test]
 fn turns_take_no_memory(rt: HostRuntime) -> Result<(), Fail> {
     // The lines take ten, a node six, and the first line that it names one.
-    assert!(rt; spend(rt.alloc(), 7).is_ok());
     let wholes = opened(rt.alloc(), 2, 3, Line::ZERO)?;
     let (zero, one) = NodeId::new(0).zip(NodeId::new(1)).ok_or("no node")?;
     let mut first = Node::new(rt.alloc(), zero, 3, 1)?;
@@ -83,6 +72,7 @@ fn turns_take_no_memory(rt: HostRuntime) -> Result<(), Fail> {
     let evict = Request::Evict { line: 1 };
     let (_, _, wholes) = done(&mut first, wholes, evict).ok_or("no end")?;
     assert_eq!(rt; wholes.len(), 3);
-    assert!(rt; spend(rt.alloc(), 1).is_ok(), "allocation 32 is refused");
+    let last = Vec::<u8>::with_capacity(rt.alloc(), 1);
+    assert!(rt; last.is_ok(), "allocation 25 is refused");
     Ok(())
 }

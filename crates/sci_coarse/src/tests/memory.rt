@@ -1,5 +1,5 @@
-//! Seats, their ports and banks of them take no memory, as turns by chance show. The gate runs these tests with allocation 32 refused, and wants
-//! each to fail in its last line, and there alone.
+//! Seats, their ports and banks of them take no memory, as turns by chance show. tools/allocations runs each of these tests
+//! with the allocation of its last line refused, and wants it to fail there, and there alone.
 ghost use Rattle.std.specs.Prelude.{◌≡◌, All};
 ghost use Rattle.sci_coarse.specs.Seats.{IsSeatOf};
 
@@ -11,7 +11,6 @@ use sci_core::{AnyWords, Event, Line, Outcome};
 use sci_ops::{Op, Turn};
 use sci_port::{At, Bank, Port};
 use sci_words::LineNo;
-use std::alloc::{AllocError, Global};
 use std::test::Fail;
 
 const TURNS: u32 = 100_000;
@@ -96,25 +95,16 @@ fn turns(line: &CoarseLine<AnyWords>, seats: &mut [Seat<AnyWords>]) -> Option<u3
     Some(ended)
 }
 
-/// Takes so many allocations, and gives them back.
-fn spend(alloc: Global, count: u16) -> Result<(), AllocError> {
-    for place in 0..count {
-        let mut kept = Vec::with_capacity(alloc, 1)?;
-        kept.push(place)?;
-    }
-    Ok(())
-}
-
 #[test]
 fn seats_and_ports_take_no_memory(rt: HostRuntime) {
     // A line and its seats take seven.
-    assert!(rt; spend(rt.alloc(), 24).is_ok());
     let Some((line, mut seats)) = opened(rt.alloc(), 3, Line::ZERO) else {
         panic!(rt; "no line")
     };
     let ended = turns(&line, seats.as_mut_slice());
     assert!(rt; matches!(ended, Some(1_000..)));
-    assert!(rt; spend(rt.alloc(), 1).is_ok(), "allocation 32 is refused");
+    let last = Vec::<u8>::with_capacity(rt.alloc(), 1);
+    assert!(rt; last.is_ok(), "allocation 8 is refused");
 }
 
 /// What a port to a line that another seat has taken answers: its loads, and a look by a step.
@@ -130,7 +120,6 @@ fn calls_of_a_taken(line: &CoarseLine<AnyWords>, seat: &mut Seat<AnyWords>) -> (
 
 #[test]
 fn calls_on_a_taken_line_take_no_memory(rt: HostRuntime) {
-    assert!(rt; spend(rt.alloc(), 24).is_ok());
     let Some((line, zero, mut one)) = super::opened(rt.alloc(), Line::ZERO) else {
         panic!(rt; "no line")
     };
@@ -141,7 +130,8 @@ fn calls_on_a_taken_line_take_no_memory(rt: HostRuntime) {
     } = zero;
     assert!(rt; line.take(&mut token));
     assert_eq!(rt; calls_of_a_taken(&line, &mut one), (true, Outcome::Busy));
-    assert!(rt; spend(rt.alloc(), 1).is_ok(), "allocation 32 is refused");
+    let last = Vec::<u8>::with_capacity(rt.alloc(), 1);
+    assert!(rt; last.is_ok(), "allocation 8 is refused");
 }
 
 /// One turn on a line of a bank, behind a look and loads. None: there is no such line, or the bank says something else of it.
@@ -186,7 +176,6 @@ fn turns_in(bank: &mut CoarseBank<'_, AnyWords>) -> Option<u32> {
 #[tactic(auto, using(crate::proofs::TwoLines::two_lines))]
 fn banks_take_no_memory(rt: HostRuntime) -> Result<(), Fail> {
     // A line and its seat take seven, and the list of the seats one.
-    assert!(rt; spend(rt.alloc(), 16).is_ok());
     let (first, seat) = line_of(rt.alloc(), 0, AnyWords).ok_or("no line")?;
     let (second, other) = line_of(rt.alloc(), 1, AnyWords).ok_or("no line")?;
     let lines = [first, second];
@@ -196,6 +185,7 @@ fn banks_take_no_memory(rt: HostRuntime) -> Result<(), Fail> {
     };
     assert!(rt; matches!(turns_in(&mut bank), Some(1_000..)));
     assert_eq!(rt; bank.into_seats().len(), 2);
-    assert!(rt; spend(rt.alloc(), 1).is_ok(), "allocation 32 is refused");
+    let last = Vec::<u8>::with_capacity(rt.alloc(), 1);
+    assert!(rt; last.is_ok(), "allocation 16 is refused");
     Ok(())
 }

@@ -1,7 +1,6 @@
 //! Each growth may be refused: its call then answers 7 or an `AllocError`, all is as before, and a second try has the memory.
-//! With ample memory these tests pass. tools/growths runs them once more with allocation LAST refused: that is growth K of
-//! test K, which has spent LAST - K before, and the test ends by saying which call answered it. Where a call makes up for a
-//! refused growth by a later one, it answers Ok.
+//! With ample memory this test passes. tools/allocations runs it once for each growth of its table, with that one refused, and
+//! the test ends by saying which call answered it. Where a call makes up for a refused growth by a later one, it answers Ok.
 use super::{LINE, fresh, node, run};
 use crate::closing::Closed;
 use crate::events::Event;
@@ -9,11 +8,9 @@ use crate::keeps::AnyWords;
 use crate::outcomes::OpenRefusal;
 use crate::whole::Whole;
 use sci_words::{MemState, NodeId, Tag};
-use std::alloc::{AllocError, Global};
+use std::alloc::Global;
 use std::process::Abort;
 use std::test::Fail;
-
-const LAST: u16 = 8;
 
 // Memory's state, both tags and memory's stamp.
 fn shown(whole: &Whole<AnyWords>) -> Option<(MemState, Tag, Tag, u64)> {
@@ -27,15 +24,6 @@ fn shown(whole: &Whole<AnyWords>) -> Option<(MemState, Tag, Tag, u64)> {
         whole.tag(one),
         whole.memory_line().stamp,
     ))
-}
-
-// Makes so many allocations.
-fn spend(alloc: Global, count: u16) -> Result<(), AllocError> {
-    for place in 0..count {
-        let mut kept = Vec::with_capacity(alloc, 1)?;
-        kept.push(place)?;
-    }
-    Ok(())
 }
 
 fn is_chain(rt: &impl Abort, chain: &[NodeId], want: &[u16]) {
@@ -76,10 +64,7 @@ fn opens_again(rt: &impl Abort, alloc: Global, refusal: OpenRefusal) -> Result<(
     Err(Fail::new("open answered 7"))
 }
 
-fn refuses(rt: &impl Abort, alloc: Global, spent: u16) -> Result<(), Fail> {
-    if spend(alloc, spent).is_err() {
-        return Err(Fail::new("spending answered 7"));
-    }
+fn refuses(rt: &impl Abort, alloc: Global) -> Result<(), Fail> {
     let mut whole = match Whole::open(alloc, 2, 7, LINE, AnyWords) {
         Ok(whole) => whole,
         Err(refusal) => return opens_again(rt, alloc, refusal),
@@ -104,54 +89,11 @@ fn refuses(rt: &impl Abort, alloc: Global, spent: u16) -> Result<(), Fail> {
         (node(1), Event::Hold(fresh(None))),
     ];
     assert_eq!(rt; run(&mut whole, &reads), Some(Ok(7)));
-    lists(rt, &whole, alloc, &[0, 1])?;
-    if spend(alloc, 1).is_err() {
-        return Err(Fail::new("nothing answered 7"));
-    }
-    Ok(())
+    lists(rt, &whole, alloc, &[0, 1])
 }
 
+/// Growths: 3 of open, 1 of closed, 1 made up for, 2 of chain.
 #[test]
-fn growth_0_of_spending(rt: HostRuntime) -> Result<(), Fail> {
-    refuses(&rt, rt.alloc(), LAST)
-}
-
-#[test]
-fn growth_1_of_open(rt: HostRuntime) -> Result<(), Fail> {
-    refuses(&rt, rt.alloc(), LAST - 1)
-}
-
-#[test]
-fn growth_2_of_open(rt: HostRuntime) -> Result<(), Fail> {
-    refuses(&rt, rt.alloc(), LAST - 2)
-}
-
-#[test]
-fn growth_3_of_open(rt: HostRuntime) -> Result<(), Fail> {
-    refuses(&rt, rt.alloc(), LAST - 3)
-}
-
-#[test]
-fn growth_4_of_closed(rt: HostRuntime) -> Result<(), Fail> {
-    refuses(&rt, rt.alloc(), LAST - 4)
-}
-
-#[test]
-fn growth_5_made_up_for(rt: HostRuntime) -> Result<(), Fail> {
-    refuses(&rt, rt.alloc(), LAST - 5)
-}
-
-#[test]
-fn growth_6_of_chain(rt: HostRuntime) -> Result<(), Fail> {
-    refuses(&rt, rt.alloc(), LAST - 6)
-}
-
-#[test]
-fn growth_7_of_chain(rt: HostRuntime) -> Result<(), Fail> {
-    refuses(&rt, rt.alloc(), LAST - 7)
-}
-
-#[test]
-fn growth_8_of_nothing(rt: HostRuntime) -> Result<(), Fail> {
-    refuses(&rt, rt.alloc(), 0)
+fn refused_growths(rt: HostRuntime) -> Result<(), Fail> {
+    refuses(&rt, rt.alloc())
 }

@@ -1,5 +1,6 @@
-//! Steps and readers take no memory, as a walk by chance through all rows shows, nor do runs, nor does closing in room that was
-//! taken before. The gate runs these tests with allocation 32 refused, and wants each to fail in its last line, and there alone.
+//! Steps and readers take no memory, as a walk by chance through all rows shows, nor do runs, nor does closing in room that
+//! was taken before. tools/allocations runs each of these tests with the allocation of its last line refused, and wants it to
+//! fail there, and there alone.
 use super::{LINE, fresh, run, step};
 use crate::events::Event;
 use crate::keeps::AnyWords;
@@ -7,7 +8,6 @@ use crate::lines::Line;
 use crate::outcomes::Outcome;
 use crate::whole::Whole;
 use sci_words::{NodeId, Tag};
-use std::alloc::{AllocError, Global};
 
 /// How many nodes work on a line.
 const NODES: u16 = 3;
@@ -97,26 +97,17 @@ fn walk(whole: &mut Whole<AnyWords>) -> Option<[bool; EVENTS]> {
     Some(done)
 }
 
-/// Takes so many allocations, and gives them back.
-fn spend(alloc: Global, count: u16) -> Result<(), AllocError> {
-    for place in 0..count {
-        let mut kept = Vec::with_capacity(alloc, 1)?;
-        kept.push(place)?;
-    }
-    Ok(())
-}
-
 #[test]
 fn steps_take_no_memory(rt: HostRuntime) {
     // `open` takes three, and is called for two numbers of nodes.
-    assert!(rt; spend(rt.alloc(), 25).is_ok());
     for nodes in [NODES, MOST] {
         let Ok(mut whole) = Whole::open(rt.alloc(), nodes, 7, LINE, AnyWords) else {
             panic!(rt; "`open` takes more than three allocations")
         };
         assert!(rt; walk(&mut whole) == Some([true; EVENTS]), "with {nodes}");
     }
-    assert!(rt; spend(rt.alloc(), 1).is_ok(), "allocation 32 is refused");
+    let last = Vec::<u8>::with_capacity(rt.alloc(), 1);
+    assert!(rt; last.is_ok(), "allocation 7 is refused");
 }
 
 /// Three events of a first reader.
@@ -145,7 +136,6 @@ fn then() -> Option<[(NodeId, Event); 6]> {
 #[test]
 fn runs_and_closing_take_no_memory(rt: HostRuntime) {
     // `open` takes three, and the room two, for two numbers of nodes.
-    assert!(rt; spend(rt.alloc(), 21).is_ok());
     let Some(first) = first() else {
         panic!(rt; "no such node")
     };
@@ -169,5 +159,6 @@ fn runs_and_closing_take_no_memory(rt: HostRuntime) {
         assert_eq!(rt; run(&mut whole, &first), Some(Ok(3)));
         assert_eq!(rt; run(&mut whole, &then), Some(Err(5)));
     }
-    assert!(rt; spend(rt.alloc(), 1).is_ok(), "allocation 32 is refused");
+    let last = Vec::<u8>::with_capacity(rt.alloc(), 1);
+    assert!(rt; last.is_ok(), "allocation 11 is refused");
 }

@@ -1,5 +1,5 @@
-//! Turns, ports, words and operations alone take no memory. The gate runs these tests with allocation 32 refused, and wants
-//! each to fail in its last line, and there alone.
+//! Turns, ports, words and operations alone take no memory. tools/allocations runs each of these tests with the allocation of
+//! its last line refused, and wants it to fail there, and there alone.
 use super::replays::turn;
 use super::{answers_alone, opened};
 use crate::answers::Turn;
@@ -7,7 +7,6 @@ use crate::ops::Op;
 use sci_core::{AnyWords, Line, Whole};
 use sci_port::recording::Trace;
 use sci_words::{NodeId, mem_name, name, read_mem, read_tag, write_mem, write_tag};
-use std::alloc::{AllocError, Global};
 use std::marker::Brand;
 use std::sync::ledger::Blank;
 
@@ -60,19 +59,9 @@ fn turns(whole: &mut Whole<AnyWords>, trace: &mut Trace) -> Option<u32> {
     Some(ended)
 }
 
-/// Takes so many allocations, and gives them back.
-fn spend(alloc: Global, count: u16) -> Result<(), AllocError> {
-    for place in 0..count {
-        let mut kept = Vec::with_capacity(alloc, 1)?;
-        kept.push(place)?;
-    }
-    Ok(())
-}
-
 #[test]
 fn turns_take_no_memory(rt: HostRuntime) {
     // A line takes three allocations, and the room of a trace one.
-    assert!(rt; spend(rt.alloc(), 27).is_ok());
     let Ok(mut whole) = Whole::open(rt.alloc(), 3, 0, Line::ZERO, AnyWords) else {
         panic!(rt; "no line")
     };
@@ -81,17 +70,18 @@ fn turns_take_no_memory(rt: HostRuntime) {
     };
     let ended = turns(&mut whole, &mut Trace::new(room));
     assert!(rt; matches!(ended, Some(1_000..)));
-    assert!(rt; spend(rt.alloc(), 1).is_ok(), "allocation 32 is refused");
+    let last = Vec::<u8>::with_capacity(rt.alloc(), 1);
+    assert!(rt; last.is_ok(), "allocation 5 is refused");
 }
 
 #[test]
 fn operations_alone_take_no_memory(rt: HostRuntime) {
-    assert!(rt; spend(rt.alloc(), 28).is_ok());
     let Ok(mut whole) = opened(rt.alloc()) else {
         panic!(rt; "no line")
     };
     let store = Op::write_line([5; 8]);
     let answers = answers_alone::<Brand>(&mut whole, store, Blank::new(1));
     assert!(rt; answers.iter().all(Option::is_some));
-    assert!(rt; spend(rt.alloc(), 1).is_ok(), "allocation 32 is refused");
+    let last = Vec::<u8>::with_capacity(rt.alloc(), 1);
+    assert!(rt; last.is_ok(), "allocation 4 is refused");
 }

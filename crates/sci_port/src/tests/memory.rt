@@ -1,5 +1,5 @@
-//! Ports, banks and recorders take no memory. The gate runs this test with allocation 32 refused, and wants it to fail in its
-//! last line, and there alone.
+//! Ports, banks and recorders take no memory. tools/allocations runs this test with the allocation of its last line refused,
+//! and wants it to fail there, and there alone.
 ghost use Rattle.std.specs.Prelude.{IsTrue};
 ghost use Rattle.sci_core.specs.declared.keeps.AnyWords.{AnyWords};
 ghost use Rattle.sci_port.specs.Banks.{AreLinesOf};
@@ -9,7 +9,7 @@ use crate::recording::{Recorder, Trace};
 use crate::{AnyWords, At, Bank, Port, SoloBank};
 use sci_core::{Event, Outcome, Whole};
 use sci_words::{LineNo, NodeId};
-use std::alloc::{AllocError, Global};
+use std::alloc::Global;
 
 const ROUNDS: u32 = 10_000;
 
@@ -109,19 +109,9 @@ fn rounds(bank: &mut SoloBank<AnyWords>, trace: &mut Trace) -> Option<u32> {
     Some(missed)
 }
 
-/// Takes so many allocations, and gives them back.
-fn spend(alloc: Global, count: u16) -> Result<(), AllocError> {
-    for place in 0..count {
-        let mut kept = Vec::with_capacity(alloc, 1)?;
-        kept.push(place)?;
-    }
-    Ok(())
-}
-
 #[test]
 fn ports_and_banks_take_no_memory(rt: HostRuntime) {
     // Two lines take three each, their list one, and the room of a trace one.
-    assert!(rt; spend(rt.alloc(), 23).is_ok());
     let (Some(wholes), Some(me)) = (opened(rt.alloc()), NodeId::new(0)) else {
         panic!(rt; "no lines")
     };
@@ -137,5 +127,6 @@ fn ports_and_banks_take_no_memory(rt: HostRuntime) {
     assert_eq!(rt; trace.events(), None);
     bank.seat(me);
     assert_eq!(rt; bank.into_wholes().len(), 2);
-    assert!(rt; spend(rt.alloc(), 1).is_ok(), "allocation 32 is refused");
+    let last = Vec::<u8>::with_capacity(rt.alloc(), 1);
+    assert!(rt; last.is_ok(), "allocation 9 is refused");
 }

@@ -1,7 +1,7 @@
-//! Each growth may be refused: its call then answers 7 or an `AllocError`, what was written is the text of some first commands,
-//! and a second try has the memory. With ample memory these tests pass. tools/growths runs them once more with allocation LAST
-//! refused: that is growth K of test K, which has spent LAST - K before, and the test ends by saying which call answered it.
-//! Where a call makes up for a refused growth by a later one, it answers Ok.
+//! Each growth may be refused: its call then answers 7 or an `AllocError`, what was written is the text of some first
+//! commands, and a second try has the memory. With ample memory this test passes. tools/allocations runs it once for each
+//! growth of its table, with that one refused, and the test ends by saying which call answered it. Where a call makes up for a
+//! refused growth by a later one, it answers Ok.
 ghost use Rattle.std.specs.Prelude.{None};
 
 use super::banks::are_banks;
@@ -14,8 +14,6 @@ use std::io;
 use std::io::Write;
 use std::process::Abort;
 use std::test::Fail;
-
-const LAST: u16 = 42;
 
 const SCRIPT: &str = "memory 1 1\nload 0 0 0\ndone 0\nlist 0\nresidents 0\n";
 
@@ -56,15 +54,6 @@ impl Fixed {
 /// Whether these are whole lines at the front of the text.
 fn is_front(front: &[u8], text: &[u8]) -> bool {
     text.starts_with(front) && (front.is_empty() || front.last() == Some(&b'\n'))
-}
-
-// Makes so many allocations.
-fn spend(alloc: Global, count: u16) -> Result<(), AllocError> {
-    for place in 0..count {
-        let mut kept = Vec::with_capacity(alloc, 1)?;
-        kept.push(place)?;
-    }
-    Ok(())
 }
 
 fn reads(rt: &impl Abort, alloc: Global) -> Result<Script, Fail> {
@@ -166,234 +155,15 @@ fn seats(rt: &impl Abort, alloc: Global, script: &Script) -> Result<(), Fail> {
     }
 }
 
-fn refuses(rt: &impl Abort, alloc: Global, spent: u16) -> Result<(), Fail> {
-    if spend(alloc, spent).is_err() {
-        return Err(Fail::new("spending answered 7"));
-    }
-    let script = reads(rt, alloc)?;
+/// Growths: 3 made up for, 1 of read_script, 11 of open, 12 of run, 3 of list_text, 3 of tag_text, 1 of push, 7 of new.
+#[test]
+fn refused_growths(rt: HostRuntime) -> Result<(), Fail> {
+    let alloc = rt.alloc();
+    let script = reads(&rt, alloc)?;
     assert_eq!(rt; (script.nodes(), script.lines()), (1, 1));
     assert_eq!(rt; script.capacity(), 1024);
-    runs(rt, alloc, &script)?;
-    lists(rt, alloc)?;
-    shows(rt, alloc)?;
-    seats(rt, alloc, &script)?;
-    if spend(alloc, 1).is_err() {
-        return Err(Fail::new("nothing answered 7"));
-    }
-    Ok(())
-}
-
-#[test]
-fn growth_0_of_spending(rt: HostRuntime) -> Result<(), Fail> {
-    refuses(&rt, rt.alloc(), LAST)
-}
-
-#[test]
-fn growth_1_made_up_for(rt: HostRuntime) -> Result<(), Fail> {
-    refuses(&rt, rt.alloc(), LAST - 1)
-}
-
-#[test]
-fn growth_2_made_up_for(rt: HostRuntime) -> Result<(), Fail> {
-    refuses(&rt, rt.alloc(), LAST - 2)
-}
-
-#[test]
-fn growth_3_made_up_for(rt: HostRuntime) -> Result<(), Fail> {
-    refuses(&rt, rt.alloc(), LAST - 3)
-}
-
-#[test]
-fn growth_4_of_read_script(rt: HostRuntime) -> Result<(), Fail> {
-    refuses(&rt, rt.alloc(), LAST - 4)
-}
-
-#[test]
-fn growth_5_of_open(rt: HostRuntime) -> Result<(), Fail> {
-    refuses(&rt, rt.alloc(), LAST - 5)
-}
-
-#[test]
-fn growth_6_of_open(rt: HostRuntime) -> Result<(), Fail> {
-    refuses(&rt, rt.alloc(), LAST - 6)
-}
-
-#[test]
-fn growth_7_of_open(rt: HostRuntime) -> Result<(), Fail> {
-    refuses(&rt, rt.alloc(), LAST - 7)
-}
-
-#[test]
-fn growth_8_of_open(rt: HostRuntime) -> Result<(), Fail> {
-    refuses(&rt, rt.alloc(), LAST - 8)
-}
-
-#[test]
-fn growth_9_of_open(rt: HostRuntime) -> Result<(), Fail> {
-    refuses(&rt, rt.alloc(), LAST - 9)
-}
-
-#[test]
-fn growth_10_of_open(rt: HostRuntime) -> Result<(), Fail> {
-    refuses(&rt, rt.alloc(), LAST - 10)
-}
-
-#[test]
-fn growth_11_of_open(rt: HostRuntime) -> Result<(), Fail> {
-    refuses(&rt, rt.alloc(), LAST - 11)
-}
-
-#[test]
-fn growth_12_of_open(rt: HostRuntime) -> Result<(), Fail> {
-    refuses(&rt, rt.alloc(), LAST - 12)
-}
-
-#[test]
-fn growth_13_of_open(rt: HostRuntime) -> Result<(), Fail> {
-    refuses(&rt, rt.alloc(), LAST - 13)
-}
-
-#[test]
-fn growth_14_of_open(rt: HostRuntime) -> Result<(), Fail> {
-    refuses(&rt, rt.alloc(), LAST - 14)
-}
-
-#[test]
-fn growth_15_of_open(rt: HostRuntime) -> Result<(), Fail> {
-    refuses(&rt, rt.alloc(), LAST - 15)
-}
-
-#[test]
-fn growth_16_of_run(rt: HostRuntime) -> Result<(), Fail> {
-    refuses(&rt, rt.alloc(), LAST - 16)
-}
-
-#[test]
-fn growth_17_of_run(rt: HostRuntime) -> Result<(), Fail> {
-    refuses(&rt, rt.alloc(), LAST - 17)
-}
-
-#[test]
-fn growth_18_of_run(rt: HostRuntime) -> Result<(), Fail> {
-    refuses(&rt, rt.alloc(), LAST - 18)
-}
-
-#[test]
-fn growth_19_of_run(rt: HostRuntime) -> Result<(), Fail> {
-    refuses(&rt, rt.alloc(), LAST - 19)
-}
-
-#[test]
-fn growth_20_of_run(rt: HostRuntime) -> Result<(), Fail> {
-    refuses(&rt, rt.alloc(), LAST - 20)
-}
-
-#[test]
-fn growth_21_of_run(rt: HostRuntime) -> Result<(), Fail> {
-    refuses(&rt, rt.alloc(), LAST - 21)
-}
-
-#[test]
-fn growth_22_of_run(rt: HostRuntime) -> Result<(), Fail> {
-    refuses(&rt, rt.alloc(), LAST - 22)
-}
-
-#[test]
-fn growth_23_of_run(rt: HostRuntime) -> Result<(), Fail> {
-    refuses(&rt, rt.alloc(), LAST - 23)
-}
-
-#[test]
-fn growth_24_of_run(rt: HostRuntime) -> Result<(), Fail> {
-    refuses(&rt, rt.alloc(), LAST - 24)
-}
-
-#[test]
-fn growth_25_of_run(rt: HostRuntime) -> Result<(), Fail> {
-    refuses(&rt, rt.alloc(), LAST - 25)
-}
-
-#[test]
-fn growth_26_of_run(rt: HostRuntime) -> Result<(), Fail> {
-    refuses(&rt, rt.alloc(), LAST - 26)
-}
-
-#[test]
-fn growth_27_of_run(rt: HostRuntime) -> Result<(), Fail> {
-    refuses(&rt, rt.alloc(), LAST - 27)
-}
-
-#[test]
-fn growth_28_of_list_text(rt: HostRuntime) -> Result<(), Fail> {
-    refuses(&rt, rt.alloc(), LAST - 28)
-}
-
-#[test]
-fn growth_29_of_list_text(rt: HostRuntime) -> Result<(), Fail> {
-    refuses(&rt, rt.alloc(), LAST - 29)
-}
-
-#[test]
-fn growth_30_of_list_text(rt: HostRuntime) -> Result<(), Fail> {
-    refuses(&rt, rt.alloc(), LAST - 30)
-}
-
-#[test]
-fn growth_31_of_tag_text(rt: HostRuntime) -> Result<(), Fail> {
-    refuses(&rt, rt.alloc(), LAST - 31)
-}
-
-#[test]
-fn growth_32_of_tag_text(rt: HostRuntime) -> Result<(), Fail> {
-    refuses(&rt, rt.alloc(), LAST - 32)
-}
-
-#[test]
-fn growth_33_of_tag_text(rt: HostRuntime) -> Result<(), Fail> {
-    refuses(&rt, rt.alloc(), LAST - 33)
-}
-
-#[test]
-fn growth_34_of_push(rt: HostRuntime) -> Result<(), Fail> {
-    refuses(&rt, rt.alloc(), LAST - 34)
-}
-
-#[test]
-fn growth_35_of_new(rt: HostRuntime) -> Result<(), Fail> {
-    refuses(&rt, rt.alloc(), LAST - 35)
-}
-
-#[test]
-fn growth_36_of_new(rt: HostRuntime) -> Result<(), Fail> {
-    refuses(&rt, rt.alloc(), LAST - 36)
-}
-
-#[test]
-fn growth_37_of_new(rt: HostRuntime) -> Result<(), Fail> {
-    refuses(&rt, rt.alloc(), LAST - 37)
-}
-
-#[test]
-fn growth_38_of_new(rt: HostRuntime) -> Result<(), Fail> {
-    refuses(&rt, rt.alloc(), LAST - 38)
-}
-
-#[test]
-fn growth_39_of_new(rt: HostRuntime) -> Result<(), Fail> {
-    refuses(&rt, rt.alloc(), LAST - 39)
-}
-
-#[test]
-fn growth_40_of_new(rt: HostRuntime) -> Result<(), Fail> {
-    refuses(&rt, rt.alloc(), LAST - 40)
-}
-
-#[test]
-fn growth_41_of_new(rt: HostRuntime) -> Result<(), Fail> {
-    refuses(&rt, rt.alloc(), LAST - 41)
-}
-
-#[test]
-fn growth_42_of_nothing(rt: HostRuntime) -> Result<(), Fail> {
-    refuses(&rt, rt.alloc(), 0)
+    runs(&rt, alloc, &script)?;
+    lists(&rt, alloc)?;
+    shows(&rt, alloc)?;
+    seats(&rt, alloc, &script)
 }

@@ -1,5 +1,5 @@
-//! The readers of a script, the calls of a desk, and `put` take no memory. The gate runs this test with allocation 512 refused,
-//! and wants it to fail in its last line, and there alone.
+//! The readers of a script, the calls of a desk, and `put` take no memory. tools/allocations runs this test with the
+//! allocation of its last line refused, and wants it to fail there, and there alone.
 ghost use Rattle.std.specs.Prelude.{◌≡◌, ◌<◌, false, None};
 ghost use Rattle.sci_cache.specs.Requests.{line_of, has_bad_word};
 
@@ -7,7 +7,6 @@ use crate::running::is_end;
 use crate::{Desk, Script, WholeDesk, put, read_script};
 use sci_cache::Request;
 use sci_words::{LineNo, NodeId};
-use std::alloc::{AllocError, Global};
 use std::io;
 use std::io::{ErrorKind, Write};
 
@@ -113,19 +112,9 @@ fn turns<D: Desk>(script: &Script, desk: &mut D, count: u32) -> Option<u32>
     Some(ended)
 }
 
-/// Takes so many allocations, and gives them back.
-fn spend(alloc: Global, count: u16) -> Result<(), AllocError> {
-    for place in 0..count {
-        let mut kept = Vec::with_capacity(alloc, 1)?;
-        kept.push(place)?;
-    }
-    Ok(())
-}
-
 #[test]
 fn readers_and_turns_take_no_memory(rt: HostRuntime) {
     // The script, the desk, and the lines that its nodes name take 467.
-    assert!(rt; spend(rt.alloc(), 44).is_ok());
     let Ok(script) = read_script(rt.alloc(), SCRIPT) else {
         panic!(rt; "no script")
     };
@@ -141,5 +130,6 @@ fn readers_and_turns_take_no_memory(rt: HostRuntime) {
     };
     assert!(rt; put(&mut out, SCRIPT).is_ok());
     assert_eq!(rt; out.bytes, SCRIPT.len());
-    assert!(rt; spend(rt.alloc(), 1).is_ok(), "allocation 512 is refused");
+    let last = Vec::<u8>::with_capacity(rt.alloc(), 1);
+    assert!(rt; last.is_ok(), "allocation 468 is refused");
 }

@@ -1,6 +1,8 @@
 //! A reader that fails once, and would then go on: the input can't be read.
+use super::runs::ALONE;
 use super::{OneByte, SHARERS};
 use crate::faults::SimFault;
+use crate::running::serve_run;
 use crate::serve::serve_script;
 use std::io;
 use std::io::{ErrorKind, Read};
@@ -24,20 +26,36 @@ impl Read for Faltering<'_> {
     }
 }
 
+// A reader of the text that fails in place of this read.
+fn failing_at(text: &str, faulty: usize) -> Faltering<'_> {
+    Faltering {
+        inner: OneByte {
+            rest: text.as_bytes(),
+            is_shy: false,
+            interrupted: false,
+        },
+        reads: 0,
+        faulty,
+    }
+}
+
 #[test]
 fn a_fault_is_told_at_once(rt: HostRuntime) {
     for faulty in 0..SHARERS.len() + 1 {
-        let mut reader = Faltering {
-            inner: OneByte {
-                rest: SHARERS.as_bytes(),
-                is_shy: false,
-                interrupted: false,
-            },
-            reads: 0,
-            faulty,
-        };
+        let mut reader = failing_at(SHARERS, faulty);
         let mut out = Vec::new(rt.alloc());
         let end = serve_script(rt.alloc(), &mut reader, &mut out);
+        assert_eq!(rt; end, Err(SimFault::CannotRead), "at read {faulty}");
+        assert!(rt; out.is_empty());
+    }
+}
+
+#[test]
+fn nothing_runs_of_settings_that_cannot_be_read(rt: HostRuntime) {
+    for faulty in 0..ALONE.len() + 1 {
+        let mut reader = failing_at(ALONE, faulty);
+        let mut out = Vec::new(rt.alloc());
+        let end = serve_run(&rt, rt.alloc(), &mut reader, &mut out);
         assert_eq!(rt; end, Err(SimFault::CannotRead), "at read {faulty}");
         assert!(rt; out.is_empty());
     }

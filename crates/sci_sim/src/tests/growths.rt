@@ -1,26 +1,31 @@
-//! Each growth may be refused: the command `check`, or the reader of settings, then answers 7, nothing is written, and a second try
-//! has the memory. With ample memory these tests pass. tools/growths runs them once more with allocation LAST refused: that is growth K of test K, which has
-//! spent LAST - K before, and the test ends by saying which call answered it. Where a call makes up for a refused growth by a later
-//! one, it answers Ok.
+//! Each growth may be refused: the command `check`, the reader of settings, or the command `trace` or `run` then answers 7,
+//! and a second try has the memory. Nothing is written then by `check` and `run`, and by `trace` whole lines at the front of
+//! its text. Where the memory of a workload's thread is refused, `run` answers 26. With ample memory this test passes. tools/allocations runs it once for each growth of its table, with that one
+//! refused, and the test ends by saying which call answered it. Where a call makes up for a refused growth by a later one, it
+//! answers Ok.
 ghost use Rattle.std.specs.Prelude.{None};
 
 use super::checks::{LAWFUL, SHARED};
+use super::runs::{ALONE, ALONE_COUNTED};
 use crate::checking::serve_check;
 use crate::faults::SimFault;
+use crate::running::serve_run;
+use crate::serve::serve_trace;
 use crate::settings::{Settings, SettingsRefusal, read_settings};
 use sci_script::ScriptRefusal;
-use std::alloc::{AllocError, Global};
+use sci_work::WorkRefusal;
+use std::alloc::Global;
 use std::io;
 use std::io::Write;
 use std::process::Abort;
+use std::sync::Wait;
 use std::test::Fail;
-
-const LAST: u16 = 21;
+use std::thread::Threads;
 
 /// A writer that takes no memory.
 #[derive(Drop)]
 struct Fixed {
-    bytes: [u8; 128],
+    bytes: [u8; 256],
     length: usize,
 }
 
@@ -29,7 +34,7 @@ impl Write for Fixed {
 
     fn write(&mut self, buf: &[u8]) -> io::Result<usize> {
         match buf {
-            [first, ..] if self.length < 128 => {
+            [first, ..] if self.length < 256 => {
                 self.bytes[self.length] = *first;
                 self.length += 1;
                 Ok(1)
@@ -49,21 +54,17 @@ impl Fixed {
     }
 }
 
-// Makes so many allocations.
-fn spend(alloc: Global, count: u16) -> Result<(), AllocError> {
-    for place in 0..count {
-        let mut kept = Vec::with_capacity(alloc, 1)?;
-        kept.push(place)?;
+/// A writer that holds nothing.
+fn empty() -> Fixed {
+    Fixed {
+        bytes: [0; 256],
+        length: 0,
     }
-    Ok(())
 }
 
 // A check, and what it writes.
 fn checked(alloc: Global) -> (Option<SimFault>, Fixed) {
-    let mut out = Fixed {
-        bytes: [0; 128],
-        length: 0,
-    };
+    let mut out = empty();
     let end = serve_check(alloc, &mut SHARED.as_bytes(), &mut out);
     (end.err(), out)
 }
@@ -107,124 +108,69 @@ fn reads(rt: &impl Abort, alloc: Global) -> Result<(), Fail> {
     Err(Fail::new("read_settings answered 7"))
 }
 
-fn refuses(rt: &impl Abort, alloc: Global, spent: u16) -> Result<(), Fail> {
-    if spend(alloc, spent).is_err() {
-        return Err(Fail::new("spending answered 7"));
+const SCRIPT: &str = "memory 1 1\nload 0 0 0\nturn 0\nturn 0\nlist 0\n";
+
+const TOLD: &str = "# node 0 line 0 load: Queue(none) Done; Queueing(none); HOME\n\
+    # node 0 line 0 load: PrependValid Done; Fetching(none); FRESH lent 0: 0 QUEUED\n\
+    line 0 FRESH 0: 0 QUEUED\n";
+
+// A trace, and what it writes.
+fn traced(alloc: Global) -> (Option<SimFault>, Fixed) {
+    let mut out = empty();
+    let end = serve_trace(alloc, &mut SCRIPT.as_bytes(), &mut out);
+    (end.err(), out)
+}
+
+/// Whether these are whole lines at the front of the text.
+fn is_front(front: &[u8], text: &[u8]) -> bool {
+    text.starts_with(front) && (front.is_empty() || front.last() == Some(&b'\n'))
+}
+
+fn traces(rt: &impl Abort, alloc: Global) -> Result<(), Fail> {
+    let (end, out) = traced(alloc);
+    if end.is_none() {
+        assert!(rt; out.text() == TOLD.as_bytes());
+        return Ok(());
     }
-    checks(rt, alloc)?;
-    reads(rt, alloc)?;
-    if spend(alloc, 1).is_err() {
-        return Err(Fail::new("nothing answered 7"));
+    assert_eq!(rt; end, Some(SimFault::Refused(ScriptRefusal::OutOfMemory)));
+    assert!(rt; out.length < TOLD.len());
+    assert!(rt; is_front(out.text(), TOLD.as_bytes()));
+    let (end, out) = traced(alloc);
+    assert_eq!(rt; end, None);
+    assert!(rt; out.text() == TOLD.as_bytes());
+    Err(Fail::new("serve_trace answered 7"))
+}
+
+// A run, and what it writes.
+fn ran<T: Threads + Wait + Sync>(rt: &T, alloc: Global) -> (Option<SimFault>, Fixed) {
+    let mut out = empty();
+    let end = serve_run(rt, alloc, &mut ALONE.as_bytes(), &mut out);
+    (end.err(), out)
+}
+
+fn runs<T: Abort + Threads + Wait + Sync>(rt: &T, alloc: Global) -> Result<(), Fail> {
+    let (end, out) = ran(rt, alloc);
+    if end.is_none() {
+        assert!(rt; out.text() == ALONE_COUNTED.as_bytes());
+        return Ok(());
     }
-    Ok(())
+    assert_eq!(rt; out.length, 0);
+    let (again, out) = ran(rt, alloc);
+    assert_eq!(rt; again, None);
+    assert!(rt; out.text() == ALONE_COUNTED.as_bytes());
+    if end == Some(SimFault::NoRun(WorkRefusal::NoThread)) {
+        return Err(Fail::new("serve_run answered 26"));
+    }
+    assert_eq!(rt; end, Some(SimFault::Refused(ScriptRefusal::OutOfMemory)));
+    Err(Fail::new("serve_run answered 7"))
 }
 
+/// Growths: 11 of serve_check, 9 of read_settings, 1 of serve_trace, 3 made up for, 23 of serve_trace, 18 of serve_run,
+/// 1 thread of serve_run, 20 of serve_run.
 #[test]
-fn growth_0_of_spending(rt: HostRuntime) -> Result<(), Fail> {
-    refuses(&rt, rt.alloc(), LAST)
-}
-
-#[test]
-fn growth_1_of_serve_check(rt: HostRuntime) -> Result<(), Fail> {
-    refuses(&rt, rt.alloc(), LAST - 1)
-}
-
-#[test]
-fn growth_2_of_serve_check(rt: HostRuntime) -> Result<(), Fail> {
-    refuses(&rt, rt.alloc(), LAST - 2)
-}
-
-#[test]
-fn growth_3_of_serve_check(rt: HostRuntime) -> Result<(), Fail> {
-    refuses(&rt, rt.alloc(), LAST - 3)
-}
-
-#[test]
-fn growth_4_of_serve_check(rt: HostRuntime) -> Result<(), Fail> {
-    refuses(&rt, rt.alloc(), LAST - 4)
-}
-
-#[test]
-fn growth_5_of_serve_check(rt: HostRuntime) -> Result<(), Fail> {
-    refuses(&rt, rt.alloc(), LAST - 5)
-}
-
-#[test]
-fn growth_6_of_serve_check(rt: HostRuntime) -> Result<(), Fail> {
-    refuses(&rt, rt.alloc(), LAST - 6)
-}
-
-#[test]
-fn growth_7_of_serve_check(rt: HostRuntime) -> Result<(), Fail> {
-    refuses(&rt, rt.alloc(), LAST - 7)
-}
-
-#[test]
-fn growth_8_of_serve_check(rt: HostRuntime) -> Result<(), Fail> {
-    refuses(&rt, rt.alloc(), LAST - 8)
-}
-
-#[test]
-fn growth_9_of_serve_check(rt: HostRuntime) -> Result<(), Fail> {
-    refuses(&rt, rt.alloc(), LAST - 9)
-}
-
-#[test]
-fn growth_10_of_serve_check(rt: HostRuntime) -> Result<(), Fail> {
-    refuses(&rt, rt.alloc(), LAST - 10)
-}
-
-#[test]
-fn growth_11_of_serve_check(rt: HostRuntime) -> Result<(), Fail> {
-    refuses(&rt, rt.alloc(), LAST - 11)
-}
-
-#[test]
-fn growth_12_of_read_settings(rt: HostRuntime) -> Result<(), Fail> {
-    refuses(&rt, rt.alloc(), LAST - 12)
-}
-
-#[test]
-fn growth_13_of_read_settings(rt: HostRuntime) -> Result<(), Fail> {
-    refuses(&rt, rt.alloc(), LAST - 13)
-}
-
-#[test]
-fn growth_14_of_read_settings(rt: HostRuntime) -> Result<(), Fail> {
-    refuses(&rt, rt.alloc(), LAST - 14)
-}
-
-#[test]
-fn growth_15_of_read_settings(rt: HostRuntime) -> Result<(), Fail> {
-    refuses(&rt, rt.alloc(), LAST - 15)
-}
-
-#[test]
-fn growth_16_of_read_settings(rt: HostRuntime) -> Result<(), Fail> {
-    refuses(&rt, rt.alloc(), LAST - 16)
-}
-
-#[test]
-fn growth_17_of_read_settings(rt: HostRuntime) -> Result<(), Fail> {
-    refuses(&rt, rt.alloc(), LAST - 17)
-}
-
-#[test]
-fn growth_18_of_read_settings(rt: HostRuntime) -> Result<(), Fail> {
-    refuses(&rt, rt.alloc(), LAST - 18)
-}
-
-#[test]
-fn growth_19_of_read_settings(rt: HostRuntime) -> Result<(), Fail> {
-    refuses(&rt, rt.alloc(), LAST - 19)
-}
-
-#[test]
-fn growth_20_of_read_settings(rt: HostRuntime) -> Result<(), Fail> {
-    refuses(&rt, rt.alloc(), LAST - 20)
-}
-
-#[test]
-fn growth_21_of_nothing(rt: HostRuntime) -> Result<(), Fail> {
-    refuses(&rt, rt.alloc(), 0)
+fn refused_growths(rt: HostRuntime) -> Result<(), Fail> {
+    checks(&rt, rt.alloc())?;
+    reads(&rt, rt.alloc())?;
+    traces(&rt, rt.alloc())?;
+    runs(&rt, rt.alloc())
 }

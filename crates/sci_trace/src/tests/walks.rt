@@ -3,131 +3,126 @@ use super::{Case, check};
 use sci_script::ScriptRefusal;
 use std::test::Fail;
 
-/// Two readers, and then the head stores.
-const READERS_AND_A_STORE: Case = (
-    "memory 2 1\nload 0 0 0\ndone 0\nload 1 0 0\ndone 1\nlist 0\nstore 1 0 0 5\ndone 1\n",
-    None,
-    "# node 0 line 0 load: Queue(none) Done; Queueing(none); HOME\n\
-     # node 0 line 0 load: PrependValid Done; Fetching(none); FRESH lent 0: 0 QUEUED\n\
-     # node 0 line 0 load: ReturnMemory Done; InQueue(none); FRESH 0: 0 QUEUED\n\
-     # node 0 line 0 load: Settle Done; Idle; FRESH 0: 0 ONLY_FRESH\n\
-     node 0 read 0 stamp 0\n\
-     # node 1 line 0 load: Queue(0) Done; Queueing(0); FRESH 0: 0 ONLY_FRESH\n\
-     # node 1 line 0 load: PrependValid Done; Fetching(0); FRESH lent 1: 1 QUEUED, 0 ONLY_FRESH\n\
-     # node 1 line 0 load: ReturnMemory Done; InQueue(0); FRESH 1: 1 QUEUED, 0 ONLY_FRESH\n\
-     # node 1 line 0 load: AttachFresh(0 ONLY_FRESH) Done; Ready(0); FRESH 1: 1 QUEUED, 0 TAIL_VALID\n\
-     # node 1 line 0 load: Settle Done; Idle; FRESH 1: 1 HEAD_FRESH, 0 TAIL_VALID\n\
-     node 1 read 0 stamp 0\n\
-     line 0 FRESH 1: 1 HEAD_FRESH, 0 TAIL_VALID\n\
-     # node 1 line 0 store: Convert(HEAD_FRESH) Done; Converting(0); FRESH 1: 1 CONVERT, 0 TAIL_VALID\n\
-     # node 1 line 0 store: FreshToGone Done; Converting(0) turned; GONE 1: 1 CONVERT, 0 TAIL_VALID\n\
-     # node 1 line 0 store: Converted Done; Purging; GONE 1: 1 PURGING, 0 TAIL_VALID\n\
-     # node 1 line 0 store: PurgeOne(0 TAIL_VALID) Done; Advancing(0); GONE 1: 1 PURGING, 0 PURGED\n\
-     # node 1 line 0 store: Advance Done; Clearing(0); GONE 1: 1 PURGING\n\
-     # node 1 line 0 store: Clear Done; Purging; GONE 1: 1 PURGING\n\
-     # node 1 line 0 store: Written(words 5 0 0 0 0 0 0 0) Done; Idle; GONE 1: 1 ONLY_DIRTY\n\
-     node 1 wrote stamp 1\n",
-);
-
-/// Two readers that find nobody. Then a call is begun out of place.
-const REQUEUE: Case = (
-    "memory 2 1\nload 0 0 0\nturn 0\nload 1 0 0\nturn 1\nturn 0\nturn 1\nturn 0\nturn 1\nload 1 0 0\n",
-    Some(ScriptRefusal::BadCommand(10)),
-    "# node 0 line 0 load: Queue(none) Done; Queueing(none); HOME\n\
-     # node 1 line 0 load: Queue(none) Done; Queueing(none); HOME\n\
-     # node 0 line 0 load: PrependValid Done; Fetching(none); FRESH lent 0: 0 QUEUED\n\
-     # node 1 line 0 load: waits: memory is lent; Queueing(none); FRESH lent 0: 0 QUEUED\n\
-     node 1 waits\n\
-     # node 0 line 0 load: ReturnMemory Done; InQueue(none); FRESH 0: 0 QUEUED\n\
-     # node 1 line 0 load: Requeue(0) Done; Queueing(0); FRESH 0: 0 QUEUED\n",
-);
-
-/// A sharer that reads its own copy, while another node comes.
-const HOLD: Case = (
-    "memory 2 1\nadd 0 0 7 9\ndone 0\nload 0 0 7\nturn 0\nload 1 0 7\nturn 1\nturn 1\nturn 1\ntag 0 0\nturn 0\ndone 1\n",
-    None,
-    "# node 0 line 0 add: Queue(none) Done; Queueing(none); HOME\n\
-     # node 0 line 0 add: PrependValid Done; Fetching(none); FRESH lent 0: 0 QUEUED\n\
-     # node 0 line 0 add: ReturnMemory Done; InQueue(none); FRESH 0: 0 QUEUED\n\
-     # node 0 line 0 add: Settle Done; Idle; FRESH 0: 0 ONLY_FRESH\n\
-     # node 0 line 0 add: Convert(ONLY_FRESH) Done; Converting(none); FRESH 0: 0 CONVERT\n\
-     # node 0 line 0 add: FreshToGone Done; Converting(none) turned; GONE 0: 0 CONVERT\n\
-     # node 0 line 0 add: Converted Done; Purging; GONE 0: 0 PURGING\n\
-     # node 0 line 0 add: Written(words 0 0 0 0 0 0 0 9) Done; Idle; GONE 0: 0 ONLY_DIRTY\n\
-     node 0 wrote stamp 1\n\
-     # node 0 line 0 load: Hold(ONLY_DIRTY) Done; Holding; GONE 0: 0 ONLY_DIRTY held\n\
-     # node 1 line 0 load: Queue(0) Done; Queueing(0); GONE 0: 0 ONLY_DIRTY held\n\
-     # node 1 line 0 load: PrependGone Done; InQueue(0) dirty; GONE 1: 1 QUEUED, 0 ONLY_DIRTY held\n\
-     # node 1 line 0 load: waits: node 0 is ONLY_DIRTY forw none back none held; InQueue(0) dirty; GONE 1: 1 QUEUED, 0 ONLY_DIRTY held\n\
-     node 1 waits\n\
-     tag 0 0 ONLY_DIRTY forw - back - held\n\
-     # node 0 line 0 load: Unhold Done; Idle; GONE 1: 1 QUEUED, 0 ONLY_DIRTY\n\
-     node 0 read 9 stamp 1\n\
-     # node 1 line 0 load: AttachDirty(0 ONLY_DIRTY) Done; Copying(0); GONE 1: 1 QUEUED, 0 TAIL_VALID held\n\
-     # node 1 line 0 load: ReturnCopy Done; Ready(0) dirty; GONE 1: 1 QUEUED, 0 TAIL_VALID\n\
-     # node 1 line 0 load: Settle Done; Idle; GONE 1: 1 HEAD_DIRTY, 0 TAIL_VALID\n\
-     node 1 read 9 stamp 1\n",
-);
-
-/// A node whose cache has room for one line leaves that line's list first; then it leaves the other, and once more.
-const VICTIM: Case = (
-    "memory 1 2\ncapacity 1\nload 0 0 0\ndone 0\nload 0 1 0\ndone 0\nresidents 0\nevict 0 1\ndone 0\nevict 0 1\nturn 0\n",
-    None,
-    "# node 0 line 0 load: Queue(none) Done; Queueing(none); HOME\n\
-     # node 0 line 0 load: PrependValid Done; Fetching(none); FRESH lent 0: 0 QUEUED\n\
-     # node 0 line 0 load: ReturnMemory Done; InQueue(none); FRESH 0: 0 QUEUED\n\
-     # node 0 line 0 load: Settle Done; Idle; FRESH 0: 0 ONLY_FRESH\n\
-     node 0 read 0 stamp 0\n\
-     # node 0 line 0 evict: Leave(ONLY_FRESH) Done; Leaving; FRESH 0: 0 LEAVING\n\
-     # node 0 line 0 evict: ReturnHomeFresh Done; Parted(none); HOME\n\
-     # node 0 line 0 evict: Left Done; Idle; HOME\n\
-     # node 0 line 1 load: Queue(none) Done; Queueing(none); HOME\n\
-     # node 0 line 1 load: PrependValid Done; Fetching(none); FRESH lent 0: 0 QUEUED\n\
-     # node 0 line 1 load: ReturnMemory Done; InQueue(none); FRESH 0: 0 QUEUED\n\
-     # node 0 line 1 load: Settle Done; Idle; FRESH 0: 0 ONLY_FRESH\n\
-     node 0 read 0 stamp 0\n\
-     node 0 residents 1\n\
-     # node 0 line 1 evict: Leave(ONLY_FRESH) Done; Leaving; FRESH 0: 0 LEAVING\n\
-     # node 0 line 1 evict: ReturnHomeFresh Done; Parted(none); HOME\n\
-     # node 0 line 1 evict: Left Done; Idle; HOME\n\
-     node 0 out\n\
-     # node 0 line 1 evict: only looked; Idle; HOME\n\
-     node 0 out\n",
-);
-
-/// Two neighbours that leave at once: the one nearer the tail goes first, and the head waits for it.
-const ROLL: Case = (
-    "memory 2 1\nload 0 0 0\ndone 0\nload 1 0 0\ndone 1\nevict 0 0\nturn 0\nevict 1 0\nturn 1\nturn 1\nturn 0\nturn 0\ndone 1\n",
-    None,
-    "# node 0 line 0 load: Queue(none) Done; Queueing(none); HOME\n\
-     # node 0 line 0 load: PrependValid Done; Fetching(none); FRESH lent 0: 0 QUEUED\n\
-     # node 0 line 0 load: ReturnMemory Done; InQueue(none); FRESH 0: 0 QUEUED\n\
-     # node 0 line 0 load: Settle Done; Idle; FRESH 0: 0 ONLY_FRESH\n\
-     node 0 read 0 stamp 0\n\
-     # node 1 line 0 load: Queue(0) Done; Queueing(0); FRESH 0: 0 ONLY_FRESH\n\
-     # node 1 line 0 load: PrependValid Done; Fetching(0); FRESH lent 1: 1 QUEUED, 0 ONLY_FRESH\n\
-     # node 1 line 0 load: ReturnMemory Done; InQueue(0); FRESH 1: 1 QUEUED, 0 ONLY_FRESH\n\
-     # node 1 line 0 load: AttachFresh(0 ONLY_FRESH) Done; Ready(0); FRESH 1: 1 QUEUED, 0 TAIL_VALID\n\
-     # node 1 line 0 load: Settle Done; Idle; FRESH 1: 1 HEAD_FRESH, 0 TAIL_VALID\n\
-     node 1 read 0 stamp 0\n\
-     # node 0 line 0 evict: Roll(TAIL_VALID) Done; Rolling; FRESH 1: 1 HEAD_FRESH, 0 ROLL\n\
-     # node 1 line 0 evict: Leave(HEAD_FRESH) Done; Leaving; FRESH 1: 1 LEAVING, 0 ROLL\n\
-     # node 1 line 0 evict: waits: node 0 is ROLL forw none back 1; Leaving; FRESH 1: 1 LEAVING, 0 ROLL\n\
-     node 1 waits\n\
-     # node 0 line 0 evict: TellPredecessor(1 LEAVING) Done; Unlinked(none); FRESH 1: 1 LEAVING\n\
-     # node 0 line 0 evict: Rolled Done; Idle; FRESH 1: 1 LEAVING\n\
-     node 0 out\n\
-     # node 1 line 0 evict: ReturnHomeFresh Done; Parted(none); HOME\n\
-     # node 1 line 0 evict: Left Done; Idle; HOME\n\
-     node 1 out\n",
-);
+/// Each walk: a script, its refusal if it has one, and its trace.
+const WALKS: [Case; 5] = [
+    // Two readers, and then the head stores.
+    (
+        "memory 2 1\nload 0 0 0\ndone 0\nload 1 0 0\ndone 1\nlist 0\nstore 1 0 0 5\ndone 1\n",
+        None,
+        "# node 0 line 0 load: Queue(none) Done; Queueing(none); HOME\n\
+         # node 0 line 0 load: PrependValid Done; Fetching(none); FRESH lent 0: 0 QUEUED\n\
+         # node 0 line 0 load: ReturnMemory Done; InQueue(none); FRESH 0: 0 QUEUED\n\
+         # node 0 line 0 load: Settle Done; Idle; FRESH 0: 0 ONLY_FRESH\n\
+         node 0 read 0 stamp 0\n\
+         # node 1 line 0 load: Queue(0) Done; Queueing(0); FRESH 0: 0 ONLY_FRESH\n\
+         # node 1 line 0 load: PrependValid Done; Fetching(0); FRESH lent 1: 1 QUEUED, 0 ONLY_FRESH\n\
+         # node 1 line 0 load: ReturnMemory Done; InQueue(0); FRESH 1: 1 QUEUED, 0 ONLY_FRESH\n\
+         # node 1 line 0 load: AttachFresh(0 ONLY_FRESH) Done; Ready(0); FRESH 1: 1 QUEUED, 0 TAIL_VALID\n\
+         # node 1 line 0 load: Settle Done; Idle; FRESH 1: 1 HEAD_FRESH, 0 TAIL_VALID\n\
+         node 1 read 0 stamp 0\n\
+         line 0 FRESH 1: 1 HEAD_FRESH, 0 TAIL_VALID\n\
+         # node 1 line 0 store: Convert(HEAD_FRESH) Done; Converting(0); FRESH 1: 1 CONVERT, 0 TAIL_VALID\n\
+         # node 1 line 0 store: FreshToGone Done; Converting(0) turned; GONE 1: 1 CONVERT, 0 TAIL_VALID\n\
+         # node 1 line 0 store: Converted Done; Purging; GONE 1: 1 PURGING, 0 TAIL_VALID\n\
+         # node 1 line 0 store: PurgeOne(0 TAIL_VALID) Done; Advancing(0); GONE 1: 1 PURGING, 0 PURGED\n\
+         # node 1 line 0 store: Advance Done; Clearing(0); GONE 1: 1 PURGING\n\
+         # node 1 line 0 store: Clear Done; Purging; GONE 1: 1 PURGING\n\
+         # node 1 line 0 store: Written(words 5 0 0 0 0 0 0 0) Done; Idle; GONE 1: 1 ONLY_DIRTY\n\
+         node 1 wrote stamp 1\n",
+    ),
+    // Two readers that find nobody. Then a call is begun out of place.
+    (
+        "memory 2 1\nload 0 0 0\nturn 0\nload 1 0 0\nturn 1\nturn 0\nturn 1\nturn 0\nturn 1\nload 1 0 0\n",
+        Some(ScriptRefusal::BadCommand(10)),
+        "# node 0 line 0 load: Queue(none) Done; Queueing(none); HOME\n\
+         # node 1 line 0 load: Queue(none) Done; Queueing(none); HOME\n\
+         # node 0 line 0 load: PrependValid Done; Fetching(none); FRESH lent 0: 0 QUEUED\n\
+         # node 1 line 0 load: waits: memory is lent; Queueing(none); FRESH lent 0: 0 QUEUED\n\
+         node 1 waits\n\
+         # node 0 line 0 load: ReturnMemory Done; InQueue(none); FRESH 0: 0 QUEUED\n\
+         # node 1 line 0 load: Requeue(0) Done; Queueing(0); FRESH 0: 0 QUEUED\n",
+    ),
+    // A sharer that reads its own copy, while another node comes.
+    (
+        "memory 2 1\nadd 0 0 7 9\ndone 0\nload 0 0 7\nturn 0\nload 1 0 7\nturn 1\nturn 1\nturn 1\ntag 0 0\nturn 0\ndone 1\n",
+        None,
+        "# node 0 line 0 add: Queue(none) Done; Queueing(none); HOME\n\
+         # node 0 line 0 add: PrependValid Done; Fetching(none); FRESH lent 0: 0 QUEUED\n\
+         # node 0 line 0 add: ReturnMemory Done; InQueue(none); FRESH 0: 0 QUEUED\n\
+         # node 0 line 0 add: Settle Done; Idle; FRESH 0: 0 ONLY_FRESH\n\
+         # node 0 line 0 add: Convert(ONLY_FRESH) Done; Converting(none); FRESH 0: 0 CONVERT\n\
+         # node 0 line 0 add: FreshToGone Done; Converting(none) turned; GONE 0: 0 CONVERT\n\
+         # node 0 line 0 add: Converted Done; Purging; GONE 0: 0 PURGING\n\
+         # node 0 line 0 add: Written(words 0 0 0 0 0 0 0 9) Done; Idle; GONE 0: 0 ONLY_DIRTY\n\
+         node 0 wrote stamp 1\n\
+         # node 0 line 0 load: Hold(ONLY_DIRTY) Done; Holding; GONE 0: 0 ONLY_DIRTY held\n\
+         # node 1 line 0 load: Queue(0) Done; Queueing(0); GONE 0: 0 ONLY_DIRTY held\n\
+         # node 1 line 0 load: PrependGone Done; InQueue(0) dirty; GONE 1: 1 QUEUED, 0 ONLY_DIRTY held\n\
+         # node 1 line 0 load: waits: node 0 is ONLY_DIRTY forw none back none held; InQueue(0) dirty; GONE 1: 1 QUEUED, 0 ONLY_DIRTY held\n\
+         node 1 waits\n\
+         tag 0 0 ONLY_DIRTY forw - back - held\n\
+         # node 0 line 0 load: Unhold Done; Idle; GONE 1: 1 QUEUED, 0 ONLY_DIRTY\n\
+         node 0 read 9 stamp 1\n\
+         # node 1 line 0 load: AttachDirty(0 ONLY_DIRTY) Done; Copying(0); GONE 1: 1 QUEUED, 0 TAIL_VALID held\n\
+         # node 1 line 0 load: ReturnCopy Done; Ready(0) dirty; GONE 1: 1 QUEUED, 0 TAIL_VALID\n\
+         # node 1 line 0 load: Settle Done; Idle; GONE 1: 1 HEAD_DIRTY, 0 TAIL_VALID\n\
+         node 1 read 9 stamp 1\n",
+    ),
+    // A node whose cache has room for one line leaves that line's list first; then it leaves the other, and once more.
+    (
+        "memory 1 2\ncapacity 1\nload 0 0 0\ndone 0\nload 0 1 0\ndone 0\nresidents 0\nevict 0 1\ndone 0\nevict 0 1\nturn 0\n",
+        None,
+        "# node 0 line 0 load: Queue(none) Done; Queueing(none); HOME\n\
+         # node 0 line 0 load: PrependValid Done; Fetching(none); FRESH lent 0: 0 QUEUED\n\
+         # node 0 line 0 load: ReturnMemory Done; InQueue(none); FRESH 0: 0 QUEUED\n\
+         # node 0 line 0 load: Settle Done; Idle; FRESH 0: 0 ONLY_FRESH\n\
+         node 0 read 0 stamp 0\n\
+         # node 0 line 0 evict: Leave(ONLY_FRESH) Done; Leaving; FRESH 0: 0 LEAVING\n\
+         # node 0 line 0 evict: ReturnHomeFresh Done; Parted(none); HOME\n\
+         # node 0 line 0 evict: Left Done; Idle; HOME\n\
+         # node 0 line 1 load: Queue(none) Done; Queueing(none); HOME\n\
+         # node 0 line 1 load: PrependValid Done; Fetching(none); FRESH lent 0: 0 QUEUED\n\
+         # node 0 line 1 load: ReturnMemory Done; InQueue(none); FRESH 0: 0 QUEUED\n\
+         # node 0 line 1 load: Settle Done; Idle; FRESH 0: 0 ONLY_FRESH\n\
+         node 0 read 0 stamp 0\n\
+         node 0 residents 1\n\
+         # node 0 line 1 evict: Leave(ONLY_FRESH) Done; Leaving; FRESH 0: 0 LEAVING\n\
+         # node 0 line 1 evict: ReturnHomeFresh Done; Parted(none); HOME\n\
+         # node 0 line 1 evict: Left Done; Idle; HOME\n\
+         node 0 out\n\
+         # node 0 line 1 evict: only looked; Idle; HOME\n\
+         node 0 out\n",
+    ),
+    // Two neighbours that leave at once: the one nearer the tail goes first, and the head waits for it.
+    (
+        "memory 2 1\nload 0 0 0\ndone 0\nload 1 0 0\ndone 1\nevict 0 0\nturn 0\nevict 1 0\nturn 1\nturn 1\nturn 0\nturn 0\ndone 1\n",
+        None,
+        "# node 0 line 0 load: Queue(none) Done; Queueing(none); HOME\n\
+         # node 0 line 0 load: PrependValid Done; Fetching(none); FRESH lent 0: 0 QUEUED\n\
+         # node 0 line 0 load: ReturnMemory Done; InQueue(none); FRESH 0: 0 QUEUED\n\
+         # node 0 line 0 load: Settle Done; Idle; FRESH 0: 0 ONLY_FRESH\n\
+         node 0 read 0 stamp 0\n\
+         # node 1 line 0 load: Queue(0) Done; Queueing(0); FRESH 0: 0 ONLY_FRESH\n\
+         # node 1 line 0 load: PrependValid Done; Fetching(0); FRESH lent 1: 1 QUEUED, 0 ONLY_FRESH\n\
+         # node 1 line 0 load: ReturnMemory Done; InQueue(0); FRESH 1: 1 QUEUED, 0 ONLY_FRESH\n\
+         # node 1 line 0 load: AttachFresh(0 ONLY_FRESH) Done; Ready(0); FRESH 1: 1 QUEUED, 0 TAIL_VALID\n\
+         # node 1 line 0 load: Settle Done; Idle; FRESH 1: 1 HEAD_FRESH, 0 TAIL_VALID\n\
+         node 1 read 0 stamp 0\n\
+         # node 0 line 0 evict: Roll(TAIL_VALID) Done; Rolling; FRESH 1: 1 HEAD_FRESH, 0 ROLL\n\
+         # node 1 line 0 evict: Leave(HEAD_FRESH) Done; Leaving; FRESH 1: 1 LEAVING, 0 ROLL\n\
+         # node 1 line 0 evict: waits: node 0 is ROLL forw none back 1; Leaving; FRESH 1: 1 LEAVING, 0 ROLL\n\
+         node 1 waits\n\
+         # node 0 line 0 evict: TellPredecessor(1 LEAVING) Done; Unlinked(none); FRESH 1: 1 LEAVING\n\
+         # node 0 line 0 evict: Rolled Done; Idle; FRESH 1: 1 LEAVING\n\
+         node 0 out\n\
+         # node 1 line 0 evict: ReturnHomeFresh Done; Parted(none); HOME\n\
+         # node 1 line 0 evict: Left Done; Idle; HOME\n\
+         node 1 out\n",
+    ),
+];
 
 #[test]
 fn walks(rt: HostRuntime) -> Result<(), Fail> {
-    check(
-        &rt,
-        rt.alloc(),
-        &[READERS_AND_A_STORE, REQUEUE, HOLD, VICTIM, ROLL],
-    );
+    check(&rt, rt.alloc(), &WALKS);
     Ok(())
 }

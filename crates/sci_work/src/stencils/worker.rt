@@ -27,7 +27,7 @@ pub(crate) struct Work<'a> {
 }
 
 /// The words of a tile once it stands at this phase. Refusal 19 where it is found at a later one.
-#[tactic(auto, using(crate::proofs::Rests::led_then, crate::proofs::Rests::led_not))]
+#[tactic(auto, using(crate::proofs::Rests::led_then, crate::proofs::Rests::led_not, crate::proofs::Refusing::of_call))]
 fn awaited<R: Wait, G: Gate, B: Bank>(
     rt: &R,
     door: &mut Door<'_, G>,
@@ -123,7 +123,7 @@ fn cell_behind<R: Wait, G: Gate, B: Bank>(
 }
 
 /// Takes a tile one phase on.
-#[tactic(auto, using(crate::proofs::Rests::led_then, crate::proofs::Rests::led_not))]
+#[tactic(auto, using(crate::proofs::Rests::led_then, crate::proofs::Rests::led_not, crate::proofs::Refusing::of_call))]
 fn advance<R: Wait, G: Gate, B: Bank>(
     rt: &R,
     door: &mut Door<'_, G>,
@@ -151,7 +151,7 @@ fn advance<R: Wait, G: Gate, B: Bank>(
 }
 
 /// Writes the node's tiles as they open.
-#[tactic(auto, using(crate::proofs::Rests::led_then, crate::proofs::Rests::led_not))]
+#[tactic(auto, using(crate::proofs::Rests::led_then, crate::proofs::Rests::led_not, crate::proofs::Refusing::of_call))]
 fn open_all<R: Wait, G: Gate, B: Bank>(
     rt: &R,
     door: &mut Door<'_, G>,

@@ -1,22 +1,29 @@
-//! Each growth may be refused: its call then answers 7, has given all back, and a second try has the memory. With ample memory
-//! these tests pass. tools/growths runs them once more with allocation LAST refused: that is growth K of test K, which has
-//! spent LAST - K before, and the test ends by saying which call answered it.
-use crate::{OpenGate, WorkRefusal, count};
-use std::alloc::{AllocError, Global};
+//! Each growth may be refused: its call then answers 7, has given all back, and a second try has the memory. So may the memory of a
+//! node's thread: the answer is 26. With ample memory this test passes. tools/allocations runs it once for each growth of its table,
+//! with that one refused, and the test ends by saying which call answered it.
+use crate::tests::rings::opened;
+use crate::{OpenGate, RingFact, WorkRefusal, consume, count, produce, ring, stencil};
+use sci_cache::Node;
+use sci_words::NodeId;
+use std::alloc::Global;
 use std::process::Abort;
 use std::sync::Wait;
+use std::sync::atomic::AtomicBool;
 use std::test::Fail;
 use std::thread::Threads;
 
-const LAST: u16 = 23;
-
-// Makes so many allocations.
-fn spend(alloc: Global, count: u16) -> Result<(), AllocError> {
-    for place in 0..count {
-        let mut kept = Vec::with_capacity(alloc, 1)?;
-        kept.push(place)?;
+// What a call is told by that answered so, and answered well at a second try.
+fn told<R: Abort>(
+    rt: &R,
+    refusal: WorkRefusal,
+    no_memory: &'static str,
+    no_thread: &'static str,
+) -> Fail {
+    if refusal == WorkRefusal::NoThread {
+        return Fail::new(no_thread);
     }
-    Ok(())
+    assert_eq!(rt; refusal, WorkRefusal::OutOfMemory);
+    Fail::new(no_memory)
 }
 
 fn counts<R: Abort + Threads + Wait + Sync>(rt: &R, alloc: Global) -> Result<(), WorkRefusal> {
@@ -26,141 +33,67 @@ fn counts<R: Abort + Threads + Wait + Sync>(rt: &R, alloc: Global) -> Result<(),
     Ok(())
 }
 
-fn refuses<R: Abort + Threads + Wait + Sync>(
-    rt: &R,
-    alloc: Global,
-    spent: u16,
-) -> Result<(), Fail> {
-    if spend(alloc, spent).is_err() {
-        return Err(Fail::new("spending answered 7"));
-    }
-    if let Err(refusal) = counts(rt, alloc) {
-        assert_eq!(rt; refusal, WorkRefusal::OutOfMemory);
-        counts(rt, alloc)?;
-        return Err(Fail::new("count answered 7"));
-    }
-    if spend(alloc, 1).is_err() {
-        return Err(Fail::new("nothing answered 7"));
-    }
+fn takes_in<R: Abort + Threads + Wait + Sync>(rt: &R, alloc: Global) -> Result<(), WorkRefusal> {
+    let (cells, closed) = stencil(rt, alloc, &[1; 7], 1, 1, 1, &OpenGate)?;
+    assert_eq!(rt; cells.as_slice(), [2, 3, 3, 3, 3, 3, 2].as_slice());
+    assert_eq!(rt; closed.len(), 2);
     Ok(())
 }
 
-#[test]
-fn growth_0_of_spending(rt: HostRuntime) -> Result<(), Fail> {
-    refuses(&rt, rt.alloc(), LAST)
+fn passes<R: Abort + Threads + Wait + Sync>(rt: &R, alloc: Global) -> Result<(), WorkRefusal> {
+    let (items, closed) = ring(rt, alloc, &[7], 1, 2, &OpenGate)?;
+    assert_eq!(rt; items.as_slice(), [7].as_slice());
+    assert_eq!(rt; closed.len(), 2);
+    Ok(())
 }
 
-#[test]
-fn growth_1_of_count(rt: HostRuntime) -> Result<(), Fail> {
-    refuses(&rt, rt.alloc(), LAST - 1)
+// A ring's workers, one after the other, over lines that their node has alone.
+#[tactic(auto, using(crate::proofs::Items::is_ring, crate::proofs::Items::is_ring_of, crate::proofs::Items::zeros_fit))]
+fn works<R: Abort + Wait>(rt: &R, alloc: Global) -> Result<(), Fail> {
+    let (items, stop, again) = ([7], AtomicBool::new(false), AtomicBool::new(false));
+    let fact = RingFact::new(&items, 1);
+    let me = NodeId::new(0).ok_or("no node")?;
+    let Some(mut bank) = opened(alloc, fact, me, 2, [0; 8], 0) else {
+        return Err(Fail::new("open answered 7"));
+    };
+    let Ok(mut node) = Node::new(alloc, me, 2, 2) else {
+        return Err(Fail::new("new answered 7"));
+    };
+    if let Err(refusal) = produce(rt, &mut node, &mut bank, &items, 1, &OpenGate, &stop) {
+        assert_eq!(rt; refusal, WorkRefusal::OutOfMemory);
+        produce(rt, &mut node, &mut bank, &items, 1, &OpenGate, &again)?;
+        return Err(Fail::new("produce answered 7"));
+    }
+    match consume(rt, alloc, &mut node, &mut bank, 1, 1, &OpenGate, &stop) {
+        Ok(consumed) => {
+            assert_eq!(rt; consumed.as_slice(), items.as_slice());
+            Ok(())
+        }
+        Err(refusal) => {
+            assert_eq!(rt; refusal, WorkRefusal::OutOfMemory);
+            let consumed = consume(rt, alloc, &mut node, &mut bank, 1, 1, &OpenGate, &again)?;
+            assert_eq!(rt; consumed.as_slice(), items.as_slice());
+            Err(Fail::new("consume answered 7"))
+        }
+    }
 }
 
+/// Growths: 9 of count, 1 thread of count, 13 of count, 17 of stencil, 1 thread of stencil, 20 of stencil,
+/// 47 of ring or its threads, 7 of open, 6 of new, 1 of produce, 2 of consume.
 #[test]
-fn growth_2_of_count(rt: HostRuntime) -> Result<(), Fail> {
-    refuses(&rt, rt.alloc(), LAST - 2)
-}
-
-#[test]
-fn growth_3_of_count(rt: HostRuntime) -> Result<(), Fail> {
-    refuses(&rt, rt.alloc(), LAST - 3)
-}
-
-#[test]
-fn growth_4_of_count(rt: HostRuntime) -> Result<(), Fail> {
-    refuses(&rt, rt.alloc(), LAST - 4)
-}
-
-#[test]
-fn growth_5_of_count(rt: HostRuntime) -> Result<(), Fail> {
-    refuses(&rt, rt.alloc(), LAST - 5)
-}
-
-#[test]
-fn growth_6_of_count(rt: HostRuntime) -> Result<(), Fail> {
-    refuses(&rt, rt.alloc(), LAST - 6)
-}
-
-#[test]
-fn growth_7_of_count(rt: HostRuntime) -> Result<(), Fail> {
-    refuses(&rt, rt.alloc(), LAST - 7)
-}
-
-#[test]
-fn growth_8_of_count(rt: HostRuntime) -> Result<(), Fail> {
-    refuses(&rt, rt.alloc(), LAST - 8)
-}
-
-#[test]
-fn growth_9_of_count(rt: HostRuntime) -> Result<(), Fail> {
-    refuses(&rt, rt.alloc(), LAST - 9)
-}
-
-#[test]
-fn growth_10_of_count(rt: HostRuntime) -> Result<(), Fail> {
-    refuses(&rt, rt.alloc(), LAST - 10)
-}
-
-#[test]
-fn growth_11_of_count(rt: HostRuntime) -> Result<(), Fail> {
-    refuses(&rt, rt.alloc(), LAST - 11)
-}
-
-#[test]
-fn growth_12_of_count(rt: HostRuntime) -> Result<(), Fail> {
-    refuses(&rt, rt.alloc(), LAST - 12)
-}
-
-#[test]
-fn growth_13_of_count(rt: HostRuntime) -> Result<(), Fail> {
-    refuses(&rt, rt.alloc(), LAST - 13)
-}
-
-#[test]
-fn growth_14_of_count(rt: HostRuntime) -> Result<(), Fail> {
-    refuses(&rt, rt.alloc(), LAST - 14)
-}
-
-#[test]
-fn growth_15_of_count(rt: HostRuntime) -> Result<(), Fail> {
-    refuses(&rt, rt.alloc(), LAST - 15)
-}
-
-#[test]
-fn growth_16_of_count(rt: HostRuntime) -> Result<(), Fail> {
-    refuses(&rt, rt.alloc(), LAST - 16)
-}
-
-#[test]
-fn growth_17_of_count(rt: HostRuntime) -> Result<(), Fail> {
-    refuses(&rt, rt.alloc(), LAST - 17)
-}
-
-#[test]
-fn growth_18_of_count(rt: HostRuntime) -> Result<(), Fail> {
-    refuses(&rt, rt.alloc(), LAST - 18)
-}
-
-#[test]
-fn growth_19_of_count(rt: HostRuntime) -> Result<(), Fail> {
-    refuses(&rt, rt.alloc(), LAST - 19)
-}
-
-#[test]
-fn growth_20_of_count(rt: HostRuntime) -> Result<(), Fail> {
-    refuses(&rt, rt.alloc(), LAST - 20)
-}
-
-#[test]
-fn growth_21_of_count(rt: HostRuntime) -> Result<(), Fail> {
-    refuses(&rt, rt.alloc(), LAST - 21)
-}
-
-#[test]
-fn growth_22_of_count(rt: HostRuntime) -> Result<(), Fail> {
-    refuses(&rt, rt.alloc(), LAST - 22)
-}
-
-#[test]
-fn growth_23_of_nothing(rt: HostRuntime) -> Result<(), Fail> {
-    refuses(&rt, rt.alloc(), LAST - 23)
+fn refused_growths(rt: HostRuntime) -> Result<(), Fail> {
+    let alloc = rt.alloc();
+    if let Err(refusal) = counts(&rt, alloc) {
+        counts(&rt, alloc)?;
+        return Err(told(&rt, refusal, "count answered 7", "count answered 26"));
+    }
+    if let Err(refusal) = takes_in(&rt, alloc) {
+        takes_in(&rt, alloc)?;
+        return Err(told(&rt, refusal, "stencil answered 7", "stencil answered 26"));
+    }
+    if let Err(refusal) = passes(&rt, alloc) {
+        passes(&rt, alloc)?;
+        return Err(told(&rt, refusal, "ring answered 7", "ring answered 26"));
+    }
+    works(&rt, alloc)
 }

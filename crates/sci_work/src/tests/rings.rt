@@ -1,6 +1,8 @@
 //! A ring's two workers, over lines that one node has alone.
 ghost use Rattle.std.specs.Prelude.{◌≡◌, ◌<◌, ◌≤◌, length, IfSome};
+ghost use Rattle.sci_work.specs.Ring.{FitsRing};
 
+use crate::tests::meeting::MeetingGate;
 use crate::{Gate, OpenGate, RingFact, WorkRefusal, consume, produce};
 use sci_cache::Node;
 use sci_core::{Line, Whole};
@@ -11,35 +13,80 @@ use std::sync::Wait;
 use std::sync::atomic::{AtomicBool, Ordering};
 use std::test::Fail;
 
-// A node's bank of so many lines of zeros, which it has alone.
-fn opened<'a>(
+/// A node's bank of so many lines, which it has alone: line 0 has these words, the others are zeros, and all have this stamp.
+pub(crate) fn opened<'a>(
     alloc: Global,
     fact: RingFact<'a>,
     me: NodeId,
     count: u16,
+    first: [u64; 8],
+    stamp: u64,
 ) -> Option<SoloBank<RingFact<'a>>>
     requires count { (0 < count) × (count ≤ 1024) }
     requires me { me < 64 }
+    requires first { FitsRing fact.source.now fact.lines 0 first }
     ensures { IfSome result (λ bank. (bank.node ≡ me) × (length bank.wholes.items ≡ count) × (bank.keep ≡ fact.entry)) }
 {
-    let line = Line {
-        words: [0; 8],
-        stamp: 0,
-    };
     let mut wholes = Vec::new(alloc);
+    let mut words = first;
     for number in 0..count {
+        let line = Line { words, stamp };
         let Ok(whole) = Whole::open(alloc, me.get() + 1, number, line, fact) else {
             return None;
         };
         if wholes.push(whole).is_err() {
             return None;
         }
+        words = [0; 8];
     }
     Some(SoloBank::new(wholes, me))
 }
 
+// What the worker answers that produces the items, on lines of this stamp.
+#[tactic(auto, using(crate::proofs::Items::is_ring, crate::proofs::Items::zeros_fit))]
+fn produced<R: Wait, G: Gate>(
+    rt: &R,
+    alloc: Global,
+    items: &[u64],
+    lines: u16,
+    stamp: u64,
+    gate: &G,
+) -> Option<Result<(), WorkRefusal>>
+    requires { (0 < lines) × (lines ≤ 1023) }
+{
+    let stop = AtomicBool::new(false);
+    let me = NodeId::new(3)?;
+    let fact = RingFact::new(items, lines);
+    let mut bank = opened(alloc, fact, me, lines + 1, [0; 8], stamp)?;
+    let mut node = Node::new(alloc, me, lines + 1, 1).ok()?;
+    Some(produce(rt, &mut node, &mut bank, items, lines, gate, &stop))
+}
+
+// What the worker answers that consumes the items, on lines of this stamp, the first with these words.
+#[tactic(auto, using(crate::proofs::Items::is_ring_of))]
+fn consumed<R: Wait, G: Gate>(
+    rt: &R,
+    alloc: Global,
+    items: &[u64],
+    lines: u16,
+    first: [u64; 8],
+    stamp: u64,
+    gate: &G,
+) -> Option<Result<Vec<u64>, WorkRefusal>>
+    requires lines { (0 < lines) × (lines ≤ 1023) }
+    requires first { FitsRing items.now lines 0 first }
+{
+    let stop = AtomicBool::new(false);
+    let me = NodeId::new(3)?;
+    let fact = RingFact::new(items, lines);
+    let mut bank = opened(alloc, fact, me, lines + 1, first, stamp)?;
+    let mut node = Node::new(alloc, me, lines + 1, 1).ok()?;
+    let n = items.len();
+    Some(consume(rt, alloc, &mut node, &mut bank, n, lines, gate, &stop))
+}
+
 // What a node's workers answer that first produces the items and then consumes them, with a table of one line.
-#[tactic(auto, using(crate::proofs::Rings::is_ring, crate::proofs::Rings::is_ring_of))]
+#[tactic(auto, using(crate::proofs::Items::is_ring, crate::proofs::Items::is_ring_of, crate::proofs::Items::zeros_fit))]
 fn passed<R: Wait, G: Gate>(
     rt: &R,
     alloc: Global,
@@ -51,7 +98,8 @@ fn passed<R: Wait, G: Gate>(
     requires { (0 < lines) × (lines ≤ 1023) }
 {
     let me = NodeId::new(3)?;
-    let mut bank = opened(alloc, RingFact::new(items, lines), me, lines + 1)?;
+    let fact = RingFact::new(items, lines);
+    let mut bank = opened(alloc, fact, me, lines + 1, [0; 8], 0)?;
     let mut node = Node::new(alloc, me, lines + 1, 1).ok()?;
     let produced = produce(rt, &mut node, &mut bank, items, lines, gate, stop);
     let consumed = consume(
@@ -130,5 +178,36 @@ fn a_gate_that_stays_shut_is_20(rt: HostRuntime) -> Result<(), Fail> {
         assert_eq!(rt; ended.1.err(), Some(WorkRefusal::Stopped));
         assert!(rt; stop.load(Ordering::SeqCst));
     }
+    Ok(())
+}
+
+#[test]
+fn workers_in_one_thread_never_meet(rt: HostRuntime) -> Result<(), Fail> {
+    let gate = MeetingGate::new(10);
+    let produced = produced(&rt, rt.alloc(), &[7], 1, 0, &gate).ok_or("no bank")?;
+    assert_eq!(rt; produced, Err(WorkRefusal::Stalled));
+    let consumed = consumed(&rt, rt.alloc(), &[7], 1, [0; 8], 0, &gate).ok_or("no bank")?;
+    assert_eq!(rt; consumed.err(), Some(WorkRefusal::Stalled));
+    assert!(rt; !gate.has_met());
+    Ok(())
+}
+
+#[test]
+fn lines_of_the_last_stamp_are_11(rt: HostRuntime) -> Result<(), Fail> {
+    let (stamp, item) = (u64::MAX, [1, 7, 0, 0, 0, 0, 0, 0]);
+    let produced = produced(&rt, rt.alloc(), &[7], 1, stamp, &OpenGate).ok_or("no bank")?;
+    assert_eq!(rt; produced, Err(WorkRefusal::StampsSpent));
+    let consumed = consumed(&rt, rt.alloc(), &[7], 1, item, stamp, &OpenGate).ok_or("no bank")?;
+    assert_eq!(rt; consumed.err(), Some(WorkRefusal::StampsSpent));
+    Ok(())
+}
+
+#[test]
+fn a_line_with_a_later_item_is_19(rt: HostRuntime) -> Result<(), Fail> {
+    let third = [3, 6, 0, 0, 0, 0, 0, 0];
+    let consumed = consumed(&rt, rt.alloc(), &[0, 3, 6, 9], 2, third, 0, &OpenGate).ok_or(
+        "no bank",
+    )?;
+    assert_eq!(rt; consumed.err(), Some(WorkRefusal::Overrun));
     Ok(())
 }

@@ -1,27 +1,19 @@
 use Rattle.sci_cache.specs.declared.requests.Request.{Request}
-use Rattle.sci_work.specs.Workers.{stays}
-use Rattle.sci_work.proofs.Calling.{ready_again}
+use Rattle.sci_work.specs.Made.{none, load}
+use Rattle.sci_work.proofs.Making.{still_bank}
 use Rattle.sci_work.proofs.calls.loaded.Goals as goal
 
-pub returns-in_err-enter-clause-led : goal.returns-in_err-enter-clause-led
-returns-in_err-enter-clause-led g c = stays
+pub returns-in_err-enter-clause-made : goal.returns-in_err-enter-clause-made
+returns-in_err-enter-clause-made g c = none
+
+pub returns-in-Ok-Seen-clause-made : goal.returns-in-Ok-Seen-clause-made
+returns-in-Ok-Seen-clause-made g c = load c.args.line c.load-answer.result none c.load-answer.ensures.waits
 
 pub returns-in-Ok-Seen-clause-ready : goal.returns-in-Ok-Seen-clause-ready
-returns-in-Ok-Seen-clause-ready g c =
-    (ready_again g.B.Bank.gives g.B.Bank.at_step g.B.Bank.nodes_on (λ u line. g.B.Keep.Keeps.fits (g.B.Bank.keep u) line) (λ u. (g.B.Bank.way u).node) (λ u line call v h. g.met.B.Bank.owes u line call v h) (λ u line call v h. g.met.B.Bank.others u line call v h)
-    c.args.node.now (Request.Load c.args.line) (g.B.Bank.way c.args.bank.now) _ c.args.bank.now _ c.load-answer.new.bank c.load-answer.new.self c.requires.ready c.load-answer.ensures.same_way c.load-answer.ensures.same_node c.load-answer.ensures.waits).0
+returns-in-Ok-Seen-clause-ready g c = still_bank g.B.Bank.gives g.B.Bank.at_step c.args.node.now (Request.Load c.args.line) c.args.bank.now c.load-answer.result c.load-answer.new.bank c.load-answer.new.self _ _ c.load-answer.ensures.waits c.load-answer.ensures.same_node c.load-answer.ensures.same_way c.requires.ready
 
-pub returns-in-Ok-Seen-clause-led : goal.returns-in-Ok-Seen-clause-led
-returns-in-Ok-Seen-clause-led g c =
-    (ready_again g.B.Bank.gives g.B.Bank.at_step g.B.Bank.nodes_on (λ u line. g.B.Keep.Keeps.fits (g.B.Bank.keep u) line) (λ u. (g.B.Bank.way u).node) (λ u line call v h. g.met.B.Bank.owes u line call v h) (λ u line call v h. g.met.B.Bank.others u line call v h)
-    c.args.node.now (Request.Load c.args.line) (g.B.Bank.way c.args.bank.now) _ c.args.bank.now _ c.load-answer.new.bank c.load-answer.new.self c.requires.ready c.load-answer.ensures.same_way c.load-answer.ensures.same_node c.load-answer.ensures.waits).1
+pub returns-in-Err-clause-made : goal.returns-in-Err-clause-made
+returns-in-Err-clause-made g c = load c.args.line c.load-answer.result none c.load-answer.ensures.waits
 
 pub returns-in-Err-clause-ready : goal.returns-in-Err-clause-ready
-returns-in-Err-clause-ready g c =
-    (ready_again g.B.Bank.gives g.B.Bank.at_step g.B.Bank.nodes_on (λ u line. g.B.Keep.Keeps.fits (g.B.Bank.keep u) line) (λ u. (g.B.Bank.way u).node) (λ u line call v h. g.met.B.Bank.owes u line call v h) (λ u line call v h. g.met.B.Bank.others u line call v h)
-    c.args.node.now (Request.Load c.args.line) (g.B.Bank.way c.args.bank.now) _ c.args.bank.now _ c.load-answer.new.bank c.load-answer.new.self c.requires.ready c.load-answer.ensures.same_way c.load-answer.ensures.same_node c.load-answer.ensures.waits).0
-
-pub returns-in-Err-clause-led : goal.returns-in-Err-clause-led
-returns-in-Err-clause-led g c =
-    (ready_again g.B.Bank.gives g.B.Bank.at_step g.B.Bank.nodes_on (λ u line. g.B.Keep.Keeps.fits (g.B.Bank.keep u) line) (λ u. (g.B.Bank.way u).node) (λ u line call v h. g.met.B.Bank.owes u line call v h) (λ u line call v h. g.met.B.Bank.others u line call v h)
-    c.args.node.now (Request.Load c.args.line) (g.B.Bank.way c.args.bank.now) _ c.args.bank.now _ c.load-answer.new.bank c.load-answer.new.self c.requires.ready c.load-answer.ensures.same_way c.load-answer.ensures.same_node c.load-answer.ensures.waits).1
+returns-in-Err-clause-ready g c = still_bank g.B.Bank.gives g.B.Bank.at_step c.args.node.now (Request.Load c.args.line) c.args.bank.now c.load-answer.result c.load-answer.new.bank c.load-answer.new.self _ _ c.load-answer.ensures.waits c.load-answer.ensures.same_node c.load-answer.ensures.same_way c.requires.ready

@@ -1,5 +1,5 @@
 use Rattle.sci_work.specs.Workers.{stays}
 use Rattle.sci_work.proofs.starting.share_of.Goals as goal
 
-pub returns-in-Err-clause-led : goal.returns-in-Err-clause-led
-returns-in-Err-clause-led g c = stays
+pub returns-in-Err-OutOfMemory-clause-led : goal.returns-in-Err-OutOfMemory-clause-led
+returns-in-Err-OutOfMemory-clause-led g c = stays

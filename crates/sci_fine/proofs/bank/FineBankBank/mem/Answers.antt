@@ -1,8 +1,9 @@
+use borrow.Author.Rules.{scaled_Fits}
 use Rattle.std.proofs.Common.{rules, Some, refl, ap, get_or}
 use Rattle.sci_port.proofs.Banked.{written_back}
 use Rattle.sci_port.proofs.Seated.{same_steps}
 use Rattle.sci_port.specs.declared.calls.Call.TheVariants.{MemWas}
-use Rattle.sci_fine.proofs.Banked.{calls, makes_call, of_line, sit_after}
+use Rattle.sci_fine.proofs.Banked.{calls, inside, makes_call, near, of_line, sit_after}
 use Rattle.sci_fine.proofs.bank.FineBankBank.mem.Goals as goal
 
 pub mem-requires : goal.mem-requires
@@ -23,3 +24,24 @@ returns-clause-same_steps g c = same_steps (returns-clause-gives g c).2 (returns
 
 pub returns-clause-form : goal.returns-clause-form
 returns-clause-form g c = (returns-clause-gives g c).2.owes.1
+
+pub bounds-self-from : goal.bounds-self-from
+bounds-self-from g c = rw c.from.ensures (inside g.K.Keeps.fits c.args.self.now.keep c.args.self.now.node c.args.self.now.lines.now c.args.self.now.seats.items c.args.self.now.of c.args.line c.requires)
+
+pub offset_bounds-self-from : goal.offset_bounds-self-from
+offset_bounds-self-from g c = scaled_Fits _ _ _ (bounds-self-from g c) (search rules)
+
+pub bounds-seats-from : goal.bounds-seats-from
+bounds-seats-from g c = rw (c.as_mut_slice-seats.ensures.value, c.from-2.ensures) (near g.K.Keeps.fits c.args.self.now.keep c.args.self.now.node c.args.self.now.lines.now c.args.self.now.seats.items c.args.self.now.of c.args.line c.requires)
+
+pub offset_bounds-seats-from : goal.offset_bounds-seats-from
+offset_bounds-seats-from g c = scaled_Fits _ _ _ (bounds-seats-from g c) (search rules)
+
+pub returns-clause-same_way : goal.returns-clause-same_way
+returns-clause-same_way g c = refl
+
+pub returns-clause-same_nodes : goal.returns-clause-same_nodes
+returns-clause-same_nodes g c = λ m. refl
+
+pub returns-clause-same_fact : goal.returns-clause-same_fact
+returns-clause-same_fact g c = refl

@@ -1,8 +1,9 @@
+use borrow.Author.Rules.{scaled_Fits}
 use Rattle.std.proofs.Common.{rules, refl, ap, get_or}
 use Rattle.sci_port.proofs.Banked.{written_back}
 use Rattle.sci_core.specs.Answers.{FitsEvent}
 use Rattle.sci_port.specs.declared.calls.Call.TheVariants.{Stepped}
-use Rattle.sci_fine.proofs.Banked.{allowed_there, calls, makes_call, of_line, sit_after, there}
+use Rattle.sci_fine.proofs.Banked.{allowed_there, calls, inside, makes_call, near, of_line, sit_after, there}
 use Rattle.sci_fine.proofs.bank.FineBankBank.step.Goals as goal
 
 pub step-requires-clause-of : goal.step-requires-clause-of
@@ -32,3 +33,24 @@ returns-clause-row g c = (returns-clause-gives g c).2.owes.1
 
 pub returns-clause-content : goal.returns-clause-content
 returns-clause-content g c = (returns-clause-gives g c).2.owes.2
+
+pub bounds-self-from : goal.bounds-self-from
+bounds-self-from g c = rw c.from.ensures (inside g.K.Keeps.fits c.args.self.now.keep c.args.self.now.node c.args.self.now.lines.now c.args.self.now.seats.items c.args.self.now.of c.args.line c.requires.line)
+
+pub offset_bounds-self-from : goal.offset_bounds-self-from
+offset_bounds-self-from g c = scaled_Fits _ _ _ (bounds-self-from g c) (search rules)
+
+pub bounds-seats-from : goal.bounds-seats-from
+bounds-seats-from g c = rw (c.as_mut_slice-seats.ensures.value, c.from-2.ensures) (near g.K.Keeps.fits c.args.self.now.keep c.args.self.now.node c.args.self.now.lines.now c.args.self.now.seats.items c.args.self.now.of c.args.line c.requires.line)
+
+pub offset_bounds-seats-from : goal.offset_bounds-seats-from
+offset_bounds-seats-from g c = scaled_Fits _ _ _ (bounds-seats-from g c) (search rules)
+
+pub returns-clause-same_way : goal.returns-clause-same_way
+returns-clause-same_way g c = refl
+
+pub returns-clause-same_nodes : goal.returns-clause-same_nodes
+returns-clause-same_nodes g c = λ m. refl
+
+pub returns-clause-same_fact : goal.returns-clause-same_fact
+returns-clause-same_fact g c = refl

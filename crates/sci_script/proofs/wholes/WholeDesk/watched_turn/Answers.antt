@@ -8,6 +8,7 @@ use Rattle.sci_script.specs.Shared.{TakesTurnOf}
 use Rattle.sci_script.specs.Passed.{PassesOverOf, PassesTurnOf}
 use Rattle.sci_script.specs.Unused.{no_node, shared}
 use Rattle.sci_script.proofs.Desks.{takes_turn, passes_turn}
+use Rattle.sci_script.proofs.PassedLines.{passed_line}
 use Rattle.sci_script.proofs.wholes.WholeDesk.watched_turn.Goals as goal
 
 pub returns-clause-turned : goal.returns-clause-turned
@@ -51,3 +52,17 @@ returns-clause-passed c =
     let below = subst (λ (k : NodeState). IfSome k.call (λ d. line_by d.victim d.line < k.lines)) here c.watched_turn_on.ensures.below in
     subst (λ (i : ℕ). PassesTurnOf (shared desk.size.nodes wholes nodes) c.args.node n.call (shared desk.size.nodes after (set nodes i m)) p q) (sym place)
     (passes_turn desk.size.nodes wholes after nodes (set nodes c.args.node m) c.args.node p q desk.widths n n.call at.0 (at.1 ∙ sym desk.lines) below passed)
+
+pub returns-clause-line : goal.returns-clause-line
+returns-clause-line c = λ none.
+    let desk = c.args.self.now in
+    let nodes = desk.nodes.items in
+    let q = c.watched_turn_on.new.passed in
+    let k = c.index_mut.result.now in
+    let place : c.from.result ≡ c.args.node = search rules in
+    let inside : c.args.node < length nodes = search rules in
+    let found : k ≡ get_or nodes c.args.node k = subst (λ (i : ℕ). k ≡ get_or nodes i k) place c.index_mut.ensures.value in
+    let here : k ≡ get_or nodes c.args.node no_node = get_or_read nodes c.args.node k inside found no_node in
+    let at = desk.of c.args.node no_node inside in
+    let less = passed_line c.seat.new.self.wholes.items c.watched_turn_on.new.bank.wholes.items k k.call c.args.passed.now q k.lines c.watched_turn_on.ensures.below none c.watched_turn_on.ensures.passed in
+    subst (λ (lines : ℕ). q.line < lines) (ap (λ (n : NodeState). n.lines) here ∙ at.1) less

@@ -1,24 +1,36 @@
-use Rattle.std.proofs.Common.{rules, ◌≡◌, ℕ, ◌+◌, ◌<◌, ◌≤◌, arith, inl, inr, refl, sym, ap, subst, ◌∙◌, get_or, length, replicate}
+use Rattle.std.proofs.Common.{rules, ◌≡◌, ◌+◌, arith, inl, inr, refl, sym, ap, subst, ◌∙◌, get_or, length, replicate, vec_items}
 use Rattle.std.proofs.lemmas.List.{length-replicate}
 use Rattle.std.proofs.lemmas.Bool.{cases_lt}
 use Rattle.sci_core.specs.State.{invalid}
 use Rattle.sci_core.specs.Whole.{WholeLine, opened_whole}
 use Rattle.sci_port.specs.Banks.{IsLineOf}
 use Rattle.sci_work.specs.declared.facts.ring.RingFact.{RingFact}
-use Rattle.sci_work.proofs.Rings.{zeros_fit}
+use Rattle.sci_work.proofs.Items.{zeros_fit}
 use Rattle.sci_work.proofs.tests.rings.opened.Goals as goal
 
+pub loop-number-init : goal.loop-number-init
+loop-number-init c = record { len = search rules; fits = c.requires.first; each = λ k d low. absurd (omega (arith, low)) }
+
 pub open-requires : goal.open-requires
-open-requires c = zeros_fit c.args.fact.source.now c.args.fact.lines c.loop-number.number
+open-requires c = c.loop-number.invariant.fits
 
 pub loop-number-preserved : goal.loop-number-preserved
 loop-number-preserved c =
-    let was = c.loop-number.invariant in
+    let was = c.loop-number.invariant in let fact = c.args.fact in let me = c.args.me in
     record {
       len = search rules;
+      fits = zeros_fit fact.source.now fact.lines (c.loop-number.number + 1);
       each = λ k d low. elim (cases_lt k c.loop-number.number) [
-        | inl less ↦ let e = c.push.ensures.by_index.0 k d (omega (arith, was.len)) in e ∙ was.each k d less
-        | inr from ↦ let same : k ≡ c.loop-number.number = omega arith in let e = c.push.ensures.by_index.1 d in let w = c.in-Ok.ensures.opened in grind rules
+        | inl less ↦ let e = c.push.ensures.by_index.0 k d (omega (arith, was.len)) in subst (λ (w : WholeLine RingFact). IsLineOf fact me k w) (sym e) (was.each k d less)
+        | inr from ↦
+            let same : k ≡ c.loop-number.number = omega arith in
+            let e = c.push.ensures.by_index.1 d in let w = c.in-Ok.ensures.opened in
+            let at : get_or (vec_items c.push.new.self) k d ≡ opened_whole fact k (me + 1) (record { words = c.loop-number.words; stamp = c.args.stamp }) = grind rules in
+            subst (λ (w : WholeLine RingFact). IsLineOf fact me k w) (sym at) (record {
+              number = refl;
+              fact = refl;
+              below = let count = length-replicate (me + 1) invalid in omega (arith, count);
+            })
       ];
     }
 
@@ -31,12 +43,7 @@ new-requires c =
       record {
         some = omega (arith, n, asked.0);
         few = omega (arith, n, asked.1);
-        each = λ line d low.
-            subst (λ (w : WholeLine RingFact). IsLineOf c.args.fact c.args.me line w) (sym (c.loop-number.invariant.each line d (omega (arith, n, all)))) (record {
-              number = refl;
-              fact = refl;
-              below = let count = length-replicate (c.args.me + 1) invalid in omega (arith, count);
-            });
+        each = λ line d low. c.loop-number.invariant.each line d (omega (arith, n, all));
       },
     )
 
@@ -50,4 +57,4 @@ returns c =
     let len = ap (λ v. length v.items) same ∙ n in
     let h = c.new.result.of.each 0 d (omega (arith, len, asked.0)) in
     let e = c.loop-number.invariant.each 0 d (omega (arith, n, all, asked.0)) in
-    (c.new.ensures.node, len, sym h.fact ∙ ap (λ (w : WholeLine RingFact). w.keep) (ap (λ v. get_or v.items 0 d) same ∙ e))
+    (c.new.ensures.node, len, sym h.fact ∙ ap (λ v. (get_or v.items 0 d).keep) same ∙ e.fact)

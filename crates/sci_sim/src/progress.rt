@@ -1,0 +1,47 @@
+//! What a run says of itself while it goes on.
+ghost use Rattle.std.specs.Prelude.{◌≡◌, IsTrue};
+
+use sci_work::{Gate, OpenGate};
+use std::sync::atomic::{AtomicU64, Ordering};
+
+/// So many calls of the nodes end between two lines.
+const STEP: u64 = 100_000;
+
+/// Each call may start at once. Each time that 100,000 more have ended, of all nodes together, a line of the console says how many
+/// there were.
+#[derive(Drop)]
+pub struct Progress<'c, C> {
+    console: &'c C,
+    ended: AtomicU64,
+}
+
+impl<'c, C> Progress<'c, C> {
+    pub fn new(console: &'c C) -> Progress<'c, C> {
+        Progress {
+            console,
+            ended: AtomicU64::new(0),
+        }
+    }
+}
+
+impl<C: Eprint + Sync> Gate for Progress<'_, C> {
+    fn may_start(&self, node: u16, call: u64) -> bool
+        ensures { IsTrue result }
+    {
+        OpenGate.may_start(node, call)
+    }
+
+    fn ended(&self, _node: u16, _call: u64) {
+        let calls = self.ended.fetch_add(1, Ordering::SeqCst).wrapping_add(1);
+        if calls % STEP == 0 {
+            // a line that isn't written changes nothing of the run
+            let _ = eprintln!(self.console; "scisim: run: {calls} calls");
+        }
+    }
+
+    fn limit(&self) -> u64
+        ensures { result ≡ 1 }
+    {
+        OpenGate.limit()
+    }
+}

@@ -1,0 +1,94 @@
+-- One more command of a run that tells of its turns.
+use Rattle.std.proofs.Common.{◌≡◌, ◌∙◌, ◌<◌, ◌+◌, ◌⊎◌, inl, inr, ℕ, Bool, true, false, List, [], ◌∷◌, ◌++◌, length, get_or, take, Option, refl, sym, ap, subst, append_assoc}
+use Rattle.std.proofs.lemmas.List.{append-nil, take_more}
+use Rattle.sci_words.specs.declared.memory.Mem.{Mem}
+use Rattle.sci_words.specs.declared.tags.Tag.{Tag}
+use Rattle.sci_ops.specs.declared.answers.Turn.{Turn}
+use Rattle.sci_cache.specs.declared.requests.Request.{Request}
+use Rattle.sci_script.specs.declared.commands.Step.{Step}
+use Rattle.sci_script.specs.declared.commands.Command.{Command}
+use Rattle.sci_script.specs.declared.watching.Passed.{Passed}
+use Rattle.sci_script.specs.Event.{Event, Began, Turned, SawMem, SawTag, SawResidents}
+use Rattle.sci_script.specs.Passed.{shared_passes}
+use Rattle.sci_script.specs.Request.{words_after}
+use Rattle.sci_script.specs.Run.{Prints}
+use Rattle.sci_script.specs.Shared.{Shared, shared_does}
+use Rattle.sci_script.proofs.Runs.{words_behind}
+use Rattle.sci_trace.specs.Notes.{Told, line_of_turn}
+use Rattle.sci_trace.specs.Texts.{note_line}
+use Rattle.sci_trace.specs.Telling.{Telling, telling, nothing, AddsLine, telling_is_open, tells, TellsAll}
+
+-- what a run does that tells of its turns, the lines and nodes do
+pub told_does : (s : Telling) (event : Event) (t : Telling) → tells s event t → shared_does s.shared event t.shared
+told_does s (Began node request) t h = h.0
+told_does s (Turned node turn) t h = h.0
+told_does s (SawMem line mem) t h = h.0
+told_does s (SawTag line node tag) t h = h.0
+told_does s (SawResidents node lines) t h = h.0
+
+-- a line that was added tells of this
+pub told_line : (node : ℕ) (asked : Option Request) (passed : Passed) (turn : Turn) (mem : Mem) (entries : List (ℕ × Tag)) (before after : List ℕ) (cut still : Bool) (word : Mem) → mem ≡ word
+    → (still ≡ true) ⊎ ((still ≡ cut) × (after ≡ before ++ note_line node asked passed turn mem entries))
+    → (still ≡ true) ⊎ ((still ≡ cut) × (told : Told) × (told.node ≡ node) × (told.turn ≡ turn) × (told.passed ≡ passed) × (told.mem ≡ word) × (after ≡ before ++ line_of_turn told))
+told_line node asked passed turn mem entries before after cut still word is (inl h) = inl h
+told_line node asked passed turn mem entries before after cut still word is (inr (kept, added)) =
+    let told : Told = record { node = node; asked = asked; passed = passed; turn = turn; mem = mem; entries = entries } in
+    inr (kept, told, refl, refl, refl, is, added)
+
+-- a turn's line is added: the desk stands as the turn left it, and the line tells what passed
+pub adds_line : (s mid t : Shared) (node : ℕ) (turn : Turn) (q : Passed) (before after : List ℕ) (cut still : Bool) → t ≡ mid → shared_passes s node mid nothing q
+    → (still ≡ true) ⊎ ((still ≡ cut) × (told : Told) × (told.node ≡ node) × (told.turn ≡ turn) × (told.passed ≡ q) × (told.mem ≡ (mid.lines q.line).memory) × (after ≡ before ++ line_of_turn told))
+    → AddsLine (record { shared = s; notes = before; is_cut = cut }) node turn (record { shared = t; notes = after; is_cut = still })
+adds_line s mid t node turn q before after cut still same passes (inl h) = inl h
+adds_line s mid t node turn q before after cut still same passes (inr (kept, told, of, is, passed, mem, added)) =
+    subst (λ (x : Shared). AddsLine (record { shared = s; notes = before; is_cut = cut }) node turn (record { shared = x; notes = after; is_cut = still })) (sym same)
+    (inr (
+      kept,
+      told,
+      (of, is, subst (λ (p : Passed). shared_passes s node mid nothing p) (sym passed) passes, subst (λ (p : Passed). told.mem ≡ (mid.lines p.line).memory) (sym passed) mem),
+      added,
+    ))
+
+-- from no line and none refused, to none refused
+pub told_so : (words : List ℕ) (command : Command) (text : List ℕ) (s t : Shared) (before after : List ℕ) (cut still : Bool) → before ≡ [] → cut ≡ false → still ≡ false
+    → Prints telling_is_open tells words (record { shared = s; notes = before; is_cut = cut }) command text (record { shared = t; notes = after; is_cut = still })
+    → Prints telling_is_open tells words (telling s []) command text (telling t after)
+told_so words command text s t before after cut still none whole kept h =
+    subst (λ (b : Bool). Prints telling_is_open tells words (telling s []) command text (record { shared = t; notes = after; is_cut = b })) kept
+    (subst (λ (b : Bool). Prints telling_is_open tells words (record { shared = s; notes = []; is_cut = b }) command text (record { shared = t; notes = after; is_cut = still })) whole
+    (subst (λ (l : List ℕ). Prints telling_is_open tells words (record { shared = s; notes = l; is_cut = cut }) command text (record { shared = t; notes = after; is_cut = still })) none h))
+
+pub tells_none : (words : List ℕ) (s : Shared) → TellsAll words s [] [] s
+tells_none words s = (refl, refl)
+
+tells_more : (words : List ℕ) (steps : List Step) (step : Step) (traced notes text : List ℕ) (s mid t : Shared) → TellsAll words s steps traced mid
+    → Prints telling_is_open tells (words_behind words steps) (telling mid []) step.command text (telling t notes) → TellsAll words s (steps ++ step ∷ []) (traced ++ (notes ++ text)) t
+tells_more words [] step traced notes text s mid t (none, same) now = (
+  notes,
+  text,
+  [],
+  t,
+  subst (λ (m : Shared). Prints telling_is_open tells words (telling m []) step.command text (telling t notes)) same now,
+  (refl, refl),
+  ap (λ (x : List ℕ). x ++ (notes ++ text)) none ∙ sym (append-nil (notes ++ text)),
+)
+tells_more words (first ∷ steps) step traced notes text s mid t (told, printed, rest, next, now_first, behind, is) now = (
+  told,
+  printed,
+  rest ++ (notes ++ text),
+  next,
+  now_first,
+  tells_more (words_after words first.command) steps step rest notes text next mid t behind now,
+  ap (λ (x : List ℕ). x ++ (notes ++ text)) is ∙ append_assoc (told ++ printed) rest (notes ++ text),
+)
+
+-- one more of the commands of a list
+pub tells_step : (words : List ℕ) (items steps : List Step) (i : ℕ) (d : Step) (traced notes text : List ℕ) (s mid t : Shared) → items ≡ steps → i < length items → TellsAll words s (take i steps) traced mid
+    → Prints telling_is_open tells (words_behind words (take i steps)) (telling mid []) (get_or items i d).command text (telling t notes)
+    → TellsAll words s (take (i + 1) steps) ((traced ++ notes) ++ text) t
+tells_step words items steps i d traced notes text s mid t e lt before now =
+    let from : TellsAll words s (take i items) traced mid = rw e before in
+    let said : Prints telling_is_open tells (words_behind words (take i items)) (telling mid []) (get_or items i d).command text (telling t notes) =
+    subst (λ (l : List Step). Prints telling_is_open tells (words_behind words (take i l)) (telling mid []) (get_or items i d).command text (telling t notes)) (sym e) now in
+    let made : TellsAll words s (take (i + 1) items) (traced ++ (notes ++ text)) t = rw (take_more items i d lt) (tells_more words (take i items) (get_or items i d) traced notes text s mid t from said) in
+    subst (λ (x : List ℕ). TellsAll words s (take (i + 1) steps) x t) (sym (append_assoc traced notes text)) (rw e at made)

@@ -1,0 +1,41 @@
+-- Who has made calls that waited is Idle on every line again.
+use Rattle.std.proofs.Common.{◌≡◌, ◌≢◌, ℕ, None, List, []}
+use Rattle.sci_core.specs.declared.pending.Pending.{Pending}
+use Rattle.sci_port.specs.declared.calls.Call.{Call}
+use Rattle.sci_port.specs.Banks.{BankWay}
+use Rattle.sci_port.specs.Owes.{Owes}
+use Rattle.std.specs.Prelude.{Result, Ok, Err, OnOk, OnErr}
+use Rattle.sci_cache.specs.declared.requests.Request.{Request}
+use Rattle.sci_cache.specs.Nodes.{NodeState}
+use Rattle.sci_work.specs.Made.{IsBankOf, Made, none, load, write, refused}
+use Rattle.sci_work.specs.Workers.{IsReady, Led, stays}
+use Rattle.sci_work.proofs.Calling.{call_rests}
+use Rattle.sci_work.proofs.Rests.{led_then}
+
+module _ {U : Type 0} (gives : U → ℕ → Call → U → Type 0) (step : U → ℕ → Pending) (nodes : U → ℕ → ℕ) (fits : U → ℕ → List ℕ → Type 0) (me : U → ℕ)
+    (owes : (u : U) (line : ℕ) (c : Call) (v : U) → gives u line c v → Owes (nodes u line) (fits u line) (me u) (step u line) c (step v line))
+    (others : (u : U) (line : ℕ) (c : Call) (v : U) → gives u line c v → (m : ℕ) → m ≢ line → step v m ≡ step u m) where
+  abbrev pub IsIdle : U → Type 0
+  IsIdle u = (m : ℕ) → step u m ≡ Pending.Idle
+
+  made_rests : {ws : List (ℕ × List ℕ)} {n m : NodeState} {u v : U} → Made gives step ws n u m v → n.call ≡ None → IsIdle u → (m.call ≡ None) × IsIdle v × Led gives u v
+  made_rests none free idle = (free, idle, stays)
+  made_rests {m = m} {v = v} (load {k = k} {w = w} line result before h) free idle =
+      let b = made_rests before free idle in
+      let t = call_rests gives step nodes fits me owes others k (Request.Load line) w result v m h b.0 b.1 in (t.0, t.1, led_then b.2 t.2)
+  made_rests {m = m} {v = v} (write {k = k} {w = w} line words answer before h) free idle =
+      let b = made_rests before free idle in
+      let t = call_rests gives step nodes fits me owes others k (Request.WriteLine line words) w (Ok answer) v m h b.0 b.1 in (t.0, t.1, led_then b.2 t.2)
+  made_rests {m = m} {v = v} (refused {k = k} {w = w} line words refusal before h) free idle =
+      let b = made_rests before free idle in
+      let t = call_rests gives step nodes fits me owes others k (Request.WriteLine line words) w (Err refusal) v m h b.0 b.1 in (t.0, t.1, led_then b.2 t.2)
+
+  pub ready_made : (from to : BankWay) {ws : List (ℕ × List ℕ)} {n m : NodeState} {u v : U} → IsReady step from n u → IsBankOf to m → Made gives step ws n u m v → IsReady step to m v × Led gives u v
+  ready_made from to ready bank made =
+      let b = made_rests made ready.free ready.idle in (record { node = bank.node; lines = bank.lines; free = b.0; idle = b.1 }, b.2)
+
+  -- the same behind one write, whether it ended or was refused
+  pub ready_written : {A E : Type 0} (from to : BankWay) (result : Result A E) (ws : List (ℕ × List ℕ)) {n m : NodeState} {u v : U} → IsReady step from n u → IsBankOf to m
+      → OnOk result (Made gives step ws n u m v) → OnErr result (Made gives step [] n u m v) → IsReady step to m v × Led gives u v
+  ready_written from to (Ok a) ws ready bank ok err = ready_made from to ready bank ok
+  ready_written from to (Err e) ws ready bank ok err = ready_made from to ready bank err

@@ -1,0 +1,41 @@
+use Rattle.std.proofs.Common.{◌≡◌, ◌∷◌, [], ℕ, ◌+◌, List, length, refl, ap, sym, subst, arith, length-append}
+use mathlib.Core.Option.{some}
+use lib.ListN.{get_elem?}
+use Rattle.atomic_table.proofs.Lists.{at_last}
+use Rattle.sci_work.specs.Ended.{AreClosed}
+use Rattle.sci_work.specs.Ring.{FitsRing}
+use Rattle.sci_work.specs.Starts.{AreParts}
+use Rattle.sci_work.specs.declared.facts.ring.RingFact.{RingFact}
+use Rattle.sci_work.specs.declared.programs.Program.{Program}
+use Rattle.sci_work.proofs.Closing.{closed_under, nodes_under}
+use Rattle.sci_work.proofs.Items.{is_ring}
+use Rattle.sci_work.proofs.Opening.{parts_of}
+use Rattle.sci_work.proofs.rings.passing.passed.Goals as goal
+
+abbrev fits_of : RingFact → ℕ → List ℕ → Type 0
+fits_of fact line words = FitsRing fact.source.now fact.lines line words
+
+pub run_all-requires-after_bounds : goal.run_all-requires-after_bounds
+run_all-requires-after_bounds g c κs within =
+    let fact = c.new.result in let made = c.in_ok-shared in let lines = c.args.lines in
+    let size : length made.shared.items ≡ lines + 1 = omega (arith, made.ensures.count, made.shared.ok) in
+    subst (λ (z : List _). AreParts fits_of z (Program.Ring c.args.source lines) made.hands) (sym c.deref.ensures.value)
+    (parts_of fits_of 2 fact (lines + 1) (Program.Ring c.args.source lines) made.shared.items made.hands size (omega arith) (let few = c.requires.2 in omega (arith, few)) made.ensures.lines made.ensures.len (omega arith) made.ensures.hands
+    (λ k low. (is_ring fact.source.now c.args.source.now fact.lines lines (ap (λ z. z.now) c.new.ensures.source) c.new.ensures.lines, c.requires, omega arith)))
+
+pub returns-clause-items : goal.returns-clause-items
+returns-clause-items g c =
+    let ended = c.in_ok-hands.ensures.ok in let rest = c.pop.new.self.items in let last = c.in-Some.items in
+    let one : length rest ≡ 1 = omega (arith, ended.share_count, c.in_ok-shared.ensures.len, c.in_ok-hands.shares.ok, ap length c.in-Some.ensures.items, length-append rest (last ∷ [])) in
+    ended.shares_are 1 last (subst (λ (z : List _). get_elem? z 1 ≡ some last) (sym c.in-Some.ensures.items) (at_last rest last 1 one)) refl
+
+pub returns-clause-closed : goal.returns-clause-closed
+returns-clause-closed g c =
+    let fact = c.new.result in let made = c.in_ok-shared in let lines = c.args.lines in let all = c.in_ok-all.all.items in
+    let size : length made.shared.items ≡ lines + 1 = omega (arith, made.ensures.count, made.shared.ok) in
+    let ended = closed_under fits_of 2 fact (lines + 1) made.shared.items all size made.ensures.lines c.in_ok-all.ensures.ok in
+    subst (λ (s : List _). AreClosed (FitsRing s lines) (lines + 1) all) (ap (λ z. z.now) c.new.ensures.source)
+    (subst (λ (l : _). AreClosed (FitsRing fact.source.now l) (lines + 1) all) c.new.ensures.lines ended)
+
+pub returns-clause-nodes : goal.returns-clause-nodes
+returns-clause-nodes g c = nodes_under fits_of 2 c.new.result c.in_ok-shared.shared.items c.in_ok-all.all.items c.in_ok-shared.ensures.lines c.in_ok-all.ensures.ok

@@ -1,0 +1,94 @@
+//! A stencil with each node in a thread of its own.
+ghost use Rattle.std.specs.Prelude.{◌≡◌, ◌*◌, ◌/◌, ◌<◌, ◌≤◌, ◌↔◌, Err, length, IfOk, IfErr, IsTrue};
+ghost use Rattle.sci_work.specs.Ended.{AreClosed, HaveNodes};
+ghost use Rattle.sci_work.specs.Plain.{plain};
+ghost use Rattle.sci_work.specs.Starts.{ComesInStart};
+ghost use Rattle.sci_work.specs.Stencil.{FitsStencil, IsStencilSize};
+
+use crate::facts::StencilFact;
+use crate::gates::Gate;
+use crate::lines::{closed, opened};
+use crate::programs::Program;
+use crate::refusals::WorkRefusal;
+use crate::starting::run_all;
+use crate::stencils::gathering::gathered;
+use crate::stencils::worker::Work;
+use sci_core::Closed;
+use std::alloc::Global;
+use std::sync::Wait;
+use std::thread::Threads;
+
+// Cells in 1 to 512 whole tiles of seven, at most 1,000,000 phases, 1 to 64 nodes, and a capacity of 1 to 1,024.
+fn is_stencil_size(cells: usize, phases: u64, nodes: u16, capacity: u16) -> bool
+    ensures { IsTrue result ↔ IsStencilSize cells phases nodes capacity }
+{
+    cells % 7 == 0
+        && cells >= 7
+        && cells <= 3584
+        && phases <= 1_000_000
+        && nodes >= 1
+        && nodes <= 64
+        && capacity >= 1
+        && capacity <= 1024
+}
+
+// The cells after the last phase, and the lines as they are closed.
+#[tactic(auto, using(crate::proofs::Refusing::of_memory))]
+fn run<R: Threads + Wait + Sync, G: Gate>(
+    rt: &R,
+    alloc: Global,
+    work: Work<'_>,
+    capacity: u16,
+    gate: &G,
+) -> Result<(Vec<u64>, Vec<Closed>), WorkRefusal>
+    requires whole { length work.cells.now ≡ 7 * work.tiles }
+    requires tiles { (0 < work.tiles) × (work.tiles ≤ 512) }
+    requires phases { work.phases ≤ 1000000 }
+    requires nodes { (0 < work.nodes) × (work.nodes ≤ 64) }
+    ensures cells { IfOk result (λ r. r.0.items ≡ plain work.entry.cells.now work.entry.phases) }
+    ensures closed { IfOk result (λ r. AreClosed (FitsStencil work.entry.cells.now work.entry.phases) (2 * work.entry.tiles) r.1.items) }
+    ensures nodes { IfOk result (λ r. HaveNodes work.entry.nodes r.1.items) }
+    ensures err { IfErr result ComesInStart }
+{
+    let fact = StencilFact::new(work.cells, work.phases);
+    let (lines, hands) = opened(alloc, work.nodes, 2 * work.tiles, fact)?;
+    let program = Program::Stencil(work);
+    let (hands, shares) = run_all(rt, alloc, gate, &lines, hands, program, capacity)?;
+    let cells = gathered(alloc, &shares, work)?;
+    let lines = closed(alloc, lines, hands)?;
+    Ok((cells, lines))
+}
+
+/// Takes cells, in 1 to 512 whole tiles of seven, 0 to 1,000,000 phases on: in each phase a cell becomes the sum of itself and
+/// its two neighbours, modulo 2^64, with 0 outside. Of 1 to 64 nodes, each in a thread of its own, node k works on the tiles
+/// whose number modulo the nodes is k, with a table of at most `capacity` lines, 1 to 1,024. Gives the cells after the last
+/// phase, and the closed lines, exact sharing lists, two for each tile: line 2t + q is all zeros, or for some phase p, which is q
+/// modulo 2, its word 0 is p + 1 and its words 1 to 7 are tile t after that phase. It may wait for ever. The refusals: 22 for a
+/// number outside these limits; then that of the lowest node whose refusal isn't 25: 7, 11, 19, 20 where the gate held a call
+/// back to its limit, and 26 where the node's thread couldn't be started. A refused growth outside the nodes is 7.
+pub fn stencil<R: Threads + Wait + Sync, G: Gate>(
+    rt: &R,
+    alloc: Global,
+    cells: &[u64],
+    phases: u64,
+    nodes: u16,
+    capacity: u16,
+    gate: &G,
+) -> Result<(Vec<u64>, Vec<Closed>), WorkRefusal>
+    ensures limits { (result ≡ Err WorkRefusal.BadSettings) ↔ (IsStencilSize (length cells.now) phases nodes capacity → ⊥) }
+    ensures cells { IfOk result (λ r. r.0.items ≡ plain cells.now phases) }
+    ensures closed { IfOk result (λ r. AreClosed (FitsStencil cells.now phases) (2 * (length cells.now / 7)) r.1.items) }
+    ensures nodes { IfOk result (λ r. HaveNodes nodes r.1.items) }
+{
+    if !is_stencil_size(cells.len(), phases, nodes, capacity) {
+        return Err(WorkRefusal::BadSettings);
+    }
+    let tiles = (cells.len() / 7) as u16;
+    let work = Work {
+        cells,
+        phases,
+        tiles,
+        nodes,
+    };
+    run(rt, alloc, work, capacity, gate)
+}

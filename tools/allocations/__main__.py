@@ -1,0 +1,149 @@
+"""Runs tests with one allocation of their program refused: those of growths, and those of calls that take no memory.
+
+    python3 tools/allocations [--built] [NAME ..]
+
+It runs crates/NAME/out/NAME_tests, the program of a crate's tests, one test a process. refuse.c, loaded before it, refuses the
+program's allocation of one number, and says so. `rt test` proves, builds and runs that program first; with --built it is taken as
+`rt ci` built it just before.
+
+Growths: a test in src/tests/growths.rt of a crate makes calls, and above it stands which of them grow, in their order, as in
+`Growths: 3 of open, 1 made up for, 2 of chain.` It runs once for each growth. Where that is refused the test must fail, and say
+'CALL answered 7': so each growth has an answer of its own. A call that makes up for it by a later one answers Ok, and the test
+passes. In one more run nothing may be left to refuse. What a thread's start takes stands there too: `1 thread of CALL` must be
+answered by 26. Where a thread grows while the next is started, no order is sure: `9 of CALL or its threads` is 7 or 26.
+
+No memory: a test `CALLS_take_no_memory` in src/tests/memory.rt makes one allocation in its last line. Its text there says which
+number that has, as in 'allocation 4 is refused'. With that one refused it must fail there: had the calls made an allocation, it
+would have another number.
+
+With ample memory, as `rt ci` runs them, all these tests pass. The status is 0 where all is as it must be.
+"""
+
+import argparse
+import os
+import pathlib
+import re
+import resource
+import shutil
+import subprocess
+import sys
+import tempfile
+
+HERE = pathlib.Path(__file__).resolve().parent
+ROOT = HERE.parents[1]
+SAID = "an allocation was refused"
+PASSED = "test result: ok"
+GROWTHS = re.compile(r"/// Growths: ([^.]+)\.\n#\[test\]\nfn (\w+)\(")
+GROWTH = re.compile(r"(?P<count>\d+) (?:made up for|(?P<thread>threads? )?of (?P<call>\w+)(?P<either> or its threads)?)")
+TAKES_NONE = re.compile(r'(?s)\nfn (\w+_take_no_memory)\((?:(?!\n\}\n).)*"(allocation (\d+) is refused)"')
+
+
+def library(room):
+    """Builds refuse.c by the kit's compiler, and returns where."""
+    kit = pathlib.Path(os.path.realpath(shutil.which("rt") or sys.exit("allocations: there is no rt on the path"))).parents[1]
+    words = [kit / "toolchain/bin/clang", "-O2", "-shared", "-fPIC", "-nostdlib", "-fuse-ld=lld", "-o", f"{room}/refuse.so", HERE / "refuse.c"]
+    subprocess.run(words, check=True)
+    return f"{room}/refuse.so"
+
+
+class Program:
+    """The program of a crate's tests."""
+
+    def __init__(self, crate, refusing):
+        self.path, self.refusing = crate / "out" / f"{crate.name}_tests", refusing
+
+    def is_built(self):
+        """Whether it is there, and no older than its crate's sources."""
+        parts = [self.path.parents[1] / it for it in ("src", "specs", "proofs")]
+        sources = [it.stat().st_mtime for part in parts for it in part.rglob("*") if it.is_file()]
+        return self.path.is_file() and self.path.stat().st_mtime >= max(sources)
+
+    def run(self, test, refused):
+        """Runs a test with the allocation of this number refused. Returns whether it passed, whether there was that allocation, and
+        the first line that the test said."""
+        env = {"LD_PRELOAD": self.refusing, "REFUSED": str(refused)}
+        how = {"stdin": subprocess.DEVNULL, "capture_output": True, "errors": "replace", "timeout": 60, "env": env}
+        with tempfile.TemporaryDirectory() as room:
+            try:
+                ran = subprocess.run([self.path, test], cwd=room, **how)
+            except subprocess.TimeoutExpired:
+                return False, False, "no end within 60 seconds"
+        said = [it for it in ran.stderr.splitlines() if it != SAID]
+        is_refused = SAID in ran.stderr.splitlines()
+        return ran.returncode == 0 and PASSED in ran.stdout, is_refused, said[0] if said else ""
+
+
+def answers_of(row):
+    """Returns what the test may say of a growth of this row, '' where it is made up for."""
+    numbers = ["26"] if row["thread"] else ["7", "26"] if row["either"] else ["7"]
+    return [f"{row['call']} answered {it}" for it in numbers] if row["call"] else [""]
+
+
+def growths_of(table):
+    """Returns the answers of each growth; or nothing where the table can't be read."""
+    rows = [GROWTH.fullmatch(it) for it in re.sub(r"\s+(///)?\s*", " ", table).split(", ")]
+    return [answers_of(it) for it in rows for _ in range(int(it["count"]))] if all(rows) else []
+
+
+def faults_of_growths(program, file):
+    """Runs the tests of a crate's growths, and returns what isn't as it must be."""
+    tests, faults = GROWTHS.findall(file.read_text(encoding="utf-8")), []
+    for table, test in tests:
+        wanted = growths_of(table)
+        for number, answers in enumerate([*wanted, [""]], 1):
+            is_well, is_refused, said = program.run(f"tests::growths::{test}", number)
+            is_last = number > len(wanted)
+            if is_refused == is_last:
+                faults.append(f"{test}: growth {number} was {'refused, and must not be there' if is_last else 'not there'}")
+            elif said not in answers or is_well != (not said):
+                want, ended = "' or '".join(answers), "passed" if is_well else "failed"
+                faults.append(f"{test}: with growth {number} refused it must say '{want}', and {ended} with '{said}'")
+        if not wanted:
+            faults.append(f"{test}: NOTHING WAS REFUSED: its table says none")
+    return faults or ([] if tests else ["NOTHING WAS REFUSED: no test has a table of growths"])
+
+
+def faults_of_memory(program, file):
+    """Runs the tests of a crate's calls that take no memory, and returns what isn't as it must be."""
+    text, faults = file.read_text(encoding="utf-8"), []
+    found = TAKES_NONE.findall(text)
+    if not found or len(found) != len(re.findall(r"#\[test\]", text)):
+        return ["each test must be CALLS_take_no_memory, and say which allocation is refused"]
+    for test, want, number in found:
+        is_well, is_refused, said = program.run(f"tests::memory::{test}", int(number))
+        if is_well or not is_refused or said != want:
+            faults.append(f"{test} must fail where {want}, and {'passed' if is_well else 'failed'} with '{said}'")
+    return faults
+
+
+def faults_of(crate, refusing, is_built):
+    """Returns what isn't as it must be of a crate's tests, and what they are about."""
+    program, growths, memory = Program(crate, refusing), crate / "src/tests/growths.rt", crate / "src/tests/memory.rt"
+    if not is_built and subprocess.run(["rt", "test"], cwd=crate, stdin=subprocess.DEVNULL, stdout=sys.stderr).returncode:
+        return ["its tests weren't proved, or failed"]
+    if not program.is_built():
+        return ["the program of its tests is missing, or older than its sources"]
+    faults = faults_of_growths(program, growths) if growths.is_file() else []
+    return faults + (faults_of_memory(program, memory) if memory.is_file() else [])
+
+
+def main():
+    reader = argparse.ArgumentParser()
+    reader.add_argument("--built", action="store_true")
+    reader.add_argument("names", nargs="*")
+    given, failed = reader.parse_args(), 0
+    # A failed assertion aborts, and would leave a core file.
+    resource.setrlimit(resource.RLIMIT_CORE, (0, 0))
+    crates = {it.parents[2] for name in ("growths", "memory") for it in ROOT.glob(f"crates/*/src/tests/{name}.rt")}
+    with tempfile.TemporaryDirectory() as room:
+        refusing = library(room)
+        for crate in sorted(it for it in crates if not given.names or it.name in given.names):
+            faults = faults_of(crate, refusing, given.built)
+            failed += bool(faults)
+            for it in faults or ["each growth was answered as it must be, and no call took memory that takes none"]:
+                print(f"allocations: {crate.name}: {it}", flush=True)
+    return 1 if failed else 0
+
+
+if __name__ == "__main__":
+    sys.exit(main())
