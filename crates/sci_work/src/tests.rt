@@ -11,3 +11,4 @@ mod refusals;
 mod rings;
 mod stencils;
 mod threads;
+mod turns;
