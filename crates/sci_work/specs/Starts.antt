@@ -1,5 +1,5 @@
 -- What a node's thread is started with, and what it ends with. This project's own.
-use Rattle.std.specs.Prelude.{◌≡◌, ◌≢◌, ℕ, ◌<◌, ◌≤◌, List, length, Result, Err, IfOk, IfErr, vec_len}
+use Rattle.std.specs.Prelude.{◌≡◌, ◌≢◌, ℕ, ◌<◌, ◌≤◌, ◌⊎◌, List, length, Result, Err, IfOk, IfErr, vec_len}
 use Rattle.std.specs.Global.{Vec}
 use mathlib.Core.Option.{some}
 use lib.ListN.{get_elem?}
@@ -55,3 +55,8 @@ pub record IsLowestRefusal (shares : ℕ → Result (Vec ℕ) WorkRefusal) (node
   pub refuses : shares node ≡ Err refusal
   pub own : refusal ≢ WorkRefusal.Stopped
   pub below : (k : ℕ) → k < node → IsNoRefusal (shares k)
+
+-- of so many nodes that were started, out of all: that refusal, or 26 where none of them refuses and not all were started
+abbrev pub IsAnswerOf : (ℕ → Result (Vec ℕ) WorkRefusal) → ℕ → ℕ → WorkRefusal → Type 0
+IsAnswerOf shares started nodes refusal =
+    IsLowestRefusal shares started refusal ⊎ ((refusal ≡ WorkRefusal.NoThread) × (started < nodes) × ((k : ℕ) → k < started → IsNoRefusal (shares k)))

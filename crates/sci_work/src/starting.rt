@@ -5,7 +5,7 @@ ghost use Rattle.sci_core.specs.declared.pending.Pending.TheVariants.{Idle};
 ghost use Rattle.sci_work.specs.Hands.{AtEach};
 ghost use Rattle.sci_work.specs.Made.{ComesInWork};
 ghost use Rattle.sci_work.specs.Programs.{IsShareOf, Suits};
-ghost use Rattle.sci_work.specs.Starts.{AreEnded, AreParts, ComesInStart, IsLowestRefusal, IsNoRefusal, IsPart, IsPartDone};
+ghost use Rattle.sci_work.specs.Starts.{AreEnded, AreParts, ComesInStart, IsAnswerOf, IsLowestRefusal, IsNoRefusal, IsPart, IsPartDone};
 ghost use Rattle.sci_work.specs.Workers.{Led};
 
 use crate::doors::Door;
@@ -208,6 +208,22 @@ fn first_refusal<K: Keeps>(done: &[Done<K, Vec<u64>>]) -> Result<(), WorkRefusal
     Ok(())
 }
 
+// Whether so many nodes have ended well: else the refusal of the first whose refusal isn't 25, or 26 where one wasn't started.
+#[tactic(auto, using(crate::proofs::Refusing::of_worker))]
+fn settled<K: Keeps>(done: &[Done<K, Vec<u64>>], nodes: usize) -> Result<(), WorkRefusal>
+    requires { All (λ one. IfErr one.share ComesInWork) done.now }
+    ensures comes { IfErr result ComesInStart }
+    ensures answer { IfErr result (λ e. (d : _) → IsAnswerOf (λ k. (slice_index_or done.now k d).share) (length done.now) nodes e) }
+    ensures all { OnOk result (nodes ≤ length done.now) }
+    ensures none { OnOk result ((k : ℕ) (d : _) → k < length done.now → IsNoRefusal (slice_index_or done.now k d).share) }
+{
+    match first_refusal(done) {
+        Err(refusal) => Err(refusal),
+        Ok(()) if done.len() < nodes => Err(WorkRefusal::NoThread),
+        Ok(()) => Ok(()),
+    }
+}
+
 // Each node's seats, and each node's share.
 #[tactic(auto, using(crate::proofs::Refusing::of_memory))]
 fn parted<K: Keeps>(
@@ -240,7 +256,6 @@ fn parted<K: Keeps>(
 /// Runs the program in a thread for each node, over these lines: their seats again, all Idle, and each node's share. The
 /// refusals: 7 before the first start, then that of the first node whose refusal isn't 25, then 26 where a node's thread
 /// couldn't be started.
-#[tactic(auto, using(crate::proofs::Refusing::of_worker))]
 pub(crate) fn run_all<R: Threads + Wait + Sync, G: Gate, K: Keeps + Send + Sync>(
     rt: &R,
     alloc: Global,
@@ -271,9 +286,6 @@ pub(crate) fn run_all<R: Threads + Wait + Sync, G: Gate, K: Keeps + Send + Sync>
             )
         },
     )?;
-    first_refusal(&done)?;
-    if done.len() < nodes {
-        return Err(WorkRefusal::NoThread);
-    }
+    settled(&done, nodes)?;
     parted(alloc, lines, program, done)
 }

@@ -4,7 +4,7 @@ use Rattle.sci_fine.proofs.Elements.{each_all}
 use Rattle.sci_work.specs.Made.{ComesInWork}
 use Rattle.sci_work.proofs.starting.run_all.Goals as goal
 
-pub first_refusal-requires : goal.first_refusal-requires
-first_refusal-requires g c =
+pub settled-requires : goal.settled-requires
+settled-requires g c =
     subst (λ (xs : List _). All (λ one. IfErr one.share ComesInWork) xs) (sym c.deref.ensures.value)
     (each_all (λ one. IfErr one.share ComesInWork) c.in_ok-done.done.items (λ k one at. (c.in_ok-done.ensures.1.1.0 k one at).refused))
