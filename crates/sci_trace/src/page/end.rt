@@ -168,8 +168,9 @@ function view(turn) {
 }
 
 const titleOf = item => item.node === "memory" ? "memory" : "node " + item.node;
-const SAYS = { name: value => value, forw: value => "forward link " + word(value), back: value => "back link " + word(value), step: value => "pending step " + value, slot: value => value };
-const changesOf = item => item.changes.map(key => titleOf(item) + ": " + SAYS[key](item.was[key]) + " became " + SAYS[key](item.now[key]));
+const SAYS = { name: "", forw: "forward link ", back: "back link ", step: "pending step ", slot: "slot " };
+const plain = value => value === null ? "none" : String(value).replace(/^slot /, "");
+const changesOf = item => item.changes.map(key => titleOf(item) + ": " + SAYS[key] + plain(item.was[key]) + " became " + plain(item.now[key]));
 
 function describe(shown) {
   const one = item => titleOf(item) + " " + item.now.name + ", forward link " + word(item.now.forw)
@@ -210,7 +211,7 @@ function table(shown) {
   const body = made.createTBody();
   for (const item of [shown.memory, ...shown.list, ...shown.out]) {
     const row = body.insertRow();
-    row.append(element("th", titleOf(item) + (item.acts ? " (acts)" : "") + (item.node === "memory" || item.isIn ? "" : " (out of the list)")));
+    row.append(element("th", titleOf(item) + (item.acts ? " (acts)" : "") + (item.isIn ? "" : " (out of the list)")));
     for (const key of ["name", "forw", "back", "step", "slot"]) {
       const value = key === "forw" || key === "back" ? word(item.now[key]) : item.now[key];
       row.append(element("td", item.changes.includes(key) ? value + " (changed)" : value, item.changes.includes(key) ? "changed" : ""));
@@ -243,14 +244,13 @@ function place(shown, width) {
     row += Math.ceil(items.length / across);
   };
   lay([shown.memory, ...shown.list]);
-  const outAt = TOP + row * (HEIGHT + ROWS);
   lay(shown.out);
   const columns = Math.min(across, Math.max(shown.list.length + 1, shown.out.length, 1));
-  return { cells, outAt, width: 2 * SIDE + columns * (WIDTH + GAP) - GAP, height: TOP + row * (HEIGHT + ROWS), right: SIDE + columns * (WIDTH + GAP) - GAP };
+  return { cells, width: 2 * SIDE + columns * (WIDTH + GAP) - GAP, height: TOP + row * (HEIGHT + ROWS) };
 }
 
 // Beside each other, at the end of a row, or far apart.
-function route(from, to, key, laid) {
+function route(from, to, key) {
   const high = key === "forw" ? 26 : 46, shift = key === "forw" ? 8 : 20;
   if (from.row === to.row && Math.abs(from.x - to.x) === WIDTH + GAP && from.item.isIn !== false) {
     return to.x > from.x ? `M${from.x + WIDTH} ${from.y + high} H${to.x - 2}` : `M${from.x} ${from.y + high} H${to.x + WIDTH + 2}`;
@@ -274,7 +274,7 @@ function drawLinks(svg, laid) {
       const to = laid.cells[from.item.now[key]];
       if (!to || to === from) continue;
       const isNew = from.item.changes.includes(key);
-      shape("path", { d: route(from, to, key, laid), class: "link " + key + (isNew ? " new" : ""), "marker-end": "url(#" + key + ")" }, svg);
+      shape("path", { d: route(from, to, key), class: "link " + key + (isNew ? " new" : ""), "marker-end": "url(#" + key + ")" }, svg);
     }
   }
 }
@@ -286,11 +286,11 @@ function drawBox(svg, cell) {
   if (item.acts) shape("rect", { x: x - 6, y: y - 6, width: WIDTH + 12, height: HEIGHT + 12, class: "acts" }, group);
   const links = item.node === "memory" ? "forw " + word(item.now.forw) : "forw " + word(item.now.forw) + ", back " + word(item.now.back);
   const lines = [
-    [titleOf(item) + (item.acts ? " acts" : ""), "head"], [item.now.name, "name"],
+    [titleOf(item) + (item.acts ? " acts" : "") + (item.isIn ? "" : ", out of list"), "head"], [item.now.name, "name"],
     [item.changes.includes("name") ? "was " + item.was.name : "", "was"], [links, ""],
     [item.now.step === "" ? "" : item.now.step, ""], [item.now.slot, ""],
   ];
-  lines.forEach(([text, kind], i) => shape("text", { x: x + 10, y: y + 18 + i * 17.5, class: kind }, group, text));
+  lines.forEach(([text, kind], i) => shape("text", { x: x + 10, y: y + 17 + i * 17.4, class: kind }, group, text));
 }
 
 function markers(svg) {
@@ -324,7 +324,6 @@ function picture(turn, at, shown, width) {
   markers(svg);
   drawLinks(svg, laid);
   Object.values(laid.cells).forEach(cell => drawBox(svg, cell));
-  if (shown.out.length) shape("text", { x: SIDE, y: laid.outAt - 12, class: "halo" }, svg, "Out of the list:");
   legend(svg, shown, laid);
   return svg;
 }
