@@ -10,7 +10,8 @@ use Rattle.sci_script.specs.Event.{Event}
 use Rattle.sci_script.specs.Request.{no_words}
 use Rattle.sci_script.specs.Run.{Leaves, PrintsAll}
 use Rattle.sci_script.specs.Shared.{Shared, shared_is_open, shared_does}
-use Rattle.sci_trace.specs.Traces.{Traces, TraceLeaves}
+use Rattle.sci_trace.specs.Traces.{Traces, TraceLeaves, FormLeaves}
+use Rattle.sci_trace.specs.Pages.{page_of}
 use Rattle.sci_sim.specs.declared.faults.SimFault.{SimFault}
 use Rattle.sci_sim.specs.declared.faults.SimFault.TheVariants.{CannotRead, CannotWrite, InputTooLong, Refused, NoDump, Unlawful, NoRun}
 use Rattle.sci_sim.specs.declared.serve.Form.{Form}
@@ -50,12 +51,27 @@ trace_front nodes steps s WriteFailed written t n less (k, mid, traced, m, so_fa
     let (inside, again) = front_again n m traced written less is in
     (k, mid, traced, n, so_far, inside, again)
 
+-- of what is left of a run in some form
+form_front : (form : List ℕ → List ℕ) (nodes : ℕ) (steps : List Step) (s : Shared) (e : ScriptRefusal) (written : List ℕ) (t : Shared) (n : ℕ) → n < length written
+    → FormLeaves form nodes steps s e written t → FormLeaves form nodes steps s WriteFailed (take n written) t
+form_front form nodes steps s OutOfMemory written t n less (traced, so_far, is) =
+    (traced, so_far, (n, subst (λ (x : List ℕ). n < length x) is less, ap (take n) is))
+form_front form nodes steps s (BadCommand l) written t n less (traced, (k, mid, step, so_far, at, stops), is) =
+    (traced, (k, mid, so_far), (n, subst (λ (x : List ℕ). n < length x) is less, ap (take n) is))
+form_front form nodes steps s (BadNumber l) written t n less (traced, stops, is) = absurd stops
+form_front form nodes steps s (NotDone l) written t n less (traced, (k, mid, step, so_far, at, stops), is) =
+    (traced, (k, mid, so_far), (n, subst (λ (x : List ℕ). n < length x) is less, ap (take n) is))
+form_front form nodes steps s WriteFailed written t n less (traced, so_far, (m, short, is)) =
+    let (inside, again) = front_again n m (form traced) written less is in
+    (traced, so_far, (n, inside, again))
+
 front_of_left : (form : Form) (size : Size) (capacity : ℕ) (openings : List Opening) (steps : List Step) (e : ScriptRefusal) (written : List ℕ) (n : ℕ) → n < length written
     → IsLeft form size capacity openings steps e written → IsLeft form size capacity openings steps WriteFailed (take n written)
 front_of_left Form.Script size capacity openings steps e written n less (s, t, opens, left) =
     let (u, front) = script_front shared_is_open shared_does size.nodes s steps e written t n less left in
     (s, u, opens, front)
 front_of_left Form.Trace size capacity openings steps e written n less (s, t, opens, left) = (s, t, opens, trace_front size.nodes steps s e written t n less left)
+front_of_left Form.Draw size capacity openings steps e written n less (s, t, opens, left) = (s, t, opens, form_front page_of size.nodes steps s e written t n less left)
 
 front_of_written : (form : Form) (size : Size) (capacity : ℕ) (openings : List Opening) (steps : List Step) (text : List ℕ) (n : ℕ) → n < length text
     → IsWritten form size capacity openings steps text → IsLeft form size capacity openings steps WriteFailed (take n text)
@@ -63,6 +79,9 @@ front_of_written Form.Script size capacity openings steps text n less (s, t, ope
     (s, t, opens, (length steps, text, n, subst (λ (l : List Step). PrintsAll shared_is_open shared_does no_words s l text t) (sym (take_all (length steps) steps (omega arith))) printed, less, refl))
 front_of_written Form.Trace size capacity openings steps traced n less (s, t, opens, all, told) =
     (s, t, opens, (length steps, t, traced, n, subst (λ (l : List Step). Traces l s traced t) (sym (take_all (length steps) steps (omega arith))) all, less, refl))
+front_of_written Form.Draw size capacity openings steps text n less (s, t, traced, opens, all, told, is) =
+    let so_far = subst (λ (l : List Step). Traces l s traced t) (sym (take_all (length steps) steps (omega arith))) all in
+    (s, t, opens, (traced, (length steps, t, so_far), (n, subst (λ (x : List ℕ). n < length x) is less, ap (take n) is)))
 
 front_of_run : (form : Form) (e : ScriptRefusal) (input written : List ℕ) (n : ℕ) → n < length written → StopsRunning form e input written → StopsRunning form WriteFailed input (take n written)
 front_of_run form e input written n less (short, size, capacity, openings, steps, is, left) =

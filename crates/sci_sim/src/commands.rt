@@ -14,8 +14,8 @@ Statuses: 0 all went well; 1 a refusal, `scisim: refused R` or `scisim: refused 
 Example:
   printf 'memory 2 1\\nstore 0 0 0 5\\ndone 0\\nload 1 0 0\\ndone 1\\nlist 0\\n' | scisim script
 
-`scisim script --help` lists the commands of scripts, `scisim trace --help` has the lines of turns, `scisim run --help` the keys of
-settings, and `scisim check --help` the format of dumps; they say what each refusal means.";
+`scisim script --help` lists the commands of scripts, `scisim trace --help` has the lines of turns, `scisim draw --help` the keys of
+pages, `scisim run --help` the keys of settings, and `scisim check --help` the format of dumps; they say what each refusal means.";
 
 const SCRIPTS: &str = "\
 One command a line. N is a node, L a line, W a word of it (0 to 7), V a number below 2^64. A line that begins with # is a comment.
@@ -71,6 +71,23 @@ STEP is the node's pending step after the turn, with the node that it keeps. LIS
 
 Example:
   printf 'memory 1 1\\nload 0 0 0\\ndone 0\\n' | scisim trace";
+
+const PAGES: &str = "\
+Runs a script as `trace` does, and writes a page of HTML to standard output: a picture of each turn's list, and the trace as text.
+The page is one file, needs no network, and shows nothing without JavaScript but the trace. `scisim script --help` lists the commands
+of scripts, and the refusals.
+
+In a browser: the right and left arrow keys, or a click on a line of the trace, go from turn to turn. #step=7 behind the page's
+address opens the seventh turn, and #all shows all turns, up to 200, to be printed.
+
+A picture has memory's word, the list with its forward and back links, each node's tag, pending step and slot, and the nodes that
+are out of the list with something still to do. Who acts is framed twice, what changed is bold. More than 16 nodes are shown as a
+table.
+
+Where a script is faulty, nothing is written. Where a command of its run is refused, the page has the turns before, and is whole.
+
+Example:
+  printf 'memory 1 1\\nload 0 0 0\\ndone 0\\n' | scisim draw > page.html";
 
 const SETTINGS: &str = "\
 Settings are TOML. A work has these keys and no others, and needs each but dump.
@@ -161,6 +178,10 @@ pub fn commands<'a>(rt: &impl AllocGlobal) -> Result<Command<'a>, AllocError> {
         .about("Runs a script, and says of each turn what it did")
         .after_help(TRACES)
         .arg(file(rt, "the script; without it standard input is read"))?;
+    let draw = Command::new(rt.alloc(), "draw")
+        .about("Runs a script, and writes a page that shows each turn")
+        .after_help(PAGES)
+        .arg(file(rt, "the script; without it standard input is read"))?;
     let run = Command::new(rt.alloc(), "run")
         .about("Runs a workload, each node in a thread of its own, and prints its result")
         .after_help(SETTINGS)
@@ -178,6 +199,7 @@ pub fn commands<'a>(rt: &impl AllocGlobal) -> Result<Command<'a>, AllocError> {
         .subcommand_required(true)
         .subcommand(script)?
         .subcommand(trace)?
+        .subcommand(draw)?
         .subcommand(run)?
         .subcommand(check)
 }

@@ -1,5 +1,5 @@
-//! `scisim script [FILE]` runs a script; `scisim trace [FILE]` says of each turn what it did; `scisim run [FILE]` runs a workload;
-//! `scisim check [FILE]` checks a dump.
+//! `scisim script [FILE]` runs a script; `scisim trace [FILE]` says of each turn what it did, and `scisim draw [FILE]` shows it on a
+//! page; `scisim run [FILE]` runs a workload; `scisim check [FILE]` checks a dump.
 #![tactic(auto)]
 
 mod checking;
@@ -96,6 +96,7 @@ fn served<T: Threads + Wait + Eprint + Sync>(
     match name {
         "script" => script(rt, Form::Script, path)?,
         "trace" => script(rt, Form::Trace, path)?,
+        "draw" => script(rt, Form::Draw, path)?,
         "run" => run(rt, threads, path, options.get_flag("progress"))?,
         "check" => check(rt, path)?,
         _ => return Ok(ExitCode::from(2)),

@@ -1,4 +1,4 @@
-//! The commands `script` and `trace`, from the bytes of a script to what is written of its run.
+//! The commands `script`, `trace` and `draw`, from the bytes of a script to what is written of its run.
 
 ghost use Rattle.std.specs.Prelude.{◌≡◌, ◌≤◌, ℕ, List, length, OnOk, IfErr, IfSome};
 ghost use Rattle.std.specs.Io.Buffered.{writer_contents};
@@ -11,7 +11,7 @@ ghost use Rattle.sci_sim.specs.Serve.{IsWritten, FailsWith, Serves, Stops, Leave
 use crate::faults::SimFault;
 use crate::input::read_input;
 use sci_script::{Script, ScriptRefusal, WholeDesk, put, read_script};
-use sci_trace::{TraceDesk, trace};
+use sci_trace::{TraceDesk, draw, trace};
 use std::alloc::Global;
 use std::io::{BufWriter, Read, Write};
 
@@ -22,6 +22,8 @@ pub enum Form {
     Script,
     /// That text with a line for each turn.
     Trace,
+    /// A page of HTML that shows the trace.
+    Draw,
 }
 
 /// Runs a script, and writes its run in this form.
@@ -44,6 +46,10 @@ fn run<W: Write>(
         Form::Trace => {
             let mut desk = TraceDesk::open(alloc, script)?;
             trace(alloc, script, &mut desk, writer)
+        }
+        Form::Draw => {
+            let mut desk = TraceDesk::open(alloc, script)?;
+            draw(alloc, script, &mut desk, writer)
         }
     }
 }
@@ -113,6 +119,22 @@ pub fn serve_trace<R: Read, W: Write>(
     ensures in_time { IfErr result (λ e. IsToldInTime e (R.remaining reader.new)) }
 {
     serve(alloc, Form::Trace, reader, writer)
+}
+
+/// Reads a script to its end, runs it, and writes a page of HTML that shows its trace.
+pub fn serve_draw<R: Read, W: Write>(
+    alloc: Global,
+    reader: &mut R,
+    writer: &mut W,
+) -> Result<(), SimFault>
+    ensures ok { OnOk result (IfSome (R.remaining reader.old) (λ input. (page : List ℕ) × Serves forms.Draw input page
+        × Appends (W.contents writer.old) (W.contents writer.new) page)) }
+    ensures err { IfErr result (λ e. IfSome (R.remaining reader.old) (λ input. (written : List ℕ) × Stops forms.Draw e input written
+        × Appends (W.contents writer.old) (W.contents writer.new) written)) }
+    ensures end { OnOk result (IsAtEnd (R.remaining reader.new)) }
+    ensures in_time { IfErr result (λ e. IsToldInTime e (R.remaining reader.new)) }
+{
+    serve(alloc, Form::Draw, reader, writer)
 }
 
 /// The same through a buffer, which is written out before the writer comes back: what is written of a script that ends or is

@@ -1,6 +1,7 @@
 ghost use Rattle.std.specs.Prelude.{Some};
 
 mod checks;
+mod drawing;
 mod faltering;
 mod growths;
 mod runs;

@@ -1,4 +1,6 @@
+pub mod Coded
 pub mod Weaving
 pub mod Tracing
+pub mod Pages
 pub mod Tellings
 pub mod Same

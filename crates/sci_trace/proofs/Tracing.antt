@@ -1,7 +1,5 @@
 -- One more command of a traced run, and where it stops.
-use Rattle.std.proofs.Common.{◌≡◌, ◌∙◌, ◌<◌, ◌+◌, ℕ, List, [], ◌++◌, Some, length, get_or, take, sym, ap, subst, arith, append-nil, append_assoc}
-use Rattle.std.proofs.Math.Seq.{take-append-add}
-use Rattle.std.proofs.lemmas.List.{length-append}
+use Rattle.std.proofs.Common.{◌≡◌, ◌∙◌, ◌<◌, ◌+◌, ℕ, List, [], ◌++◌, Some, length, get_or, take, refl, sym, ap, subst, append-nil, append_assoc}
 use Rattle.std.specs.Prelude.{slice_get}
 use Rattle.sci_script.specs.declared.commands.Step.{Step}
 use Rattle.sci_script.specs.declared.refusals.ScriptRefusal.{ScriptRefusal}
@@ -11,7 +9,10 @@ use Rattle.sci_script.specs.Run.{Prints, StopsAt}
 use Rattle.sci_script.specs.Shared.{Shared, shared_is_open, shared_does}
 use Rattle.sci_script.proofs.Runs.{prints_none, run_step, words_behind}
 use Rattle.sci_trace.specs.Notes.{AreNotes, IsWoven}
-use Rattle.sci_trace.specs.Traces.{Traces, NotesLeft, TraceLeaves}
+use Rattle.sci_trace.specs.declared.coding.Coding.{Coding}
+use Rattle.sci_trace.specs.Coding.{coded, IsFront}
+use Rattle.sci_trace.specs.Traces.{Traces, TraceStops, NotesLeft, TraceLeaves, FormLeaves}
+use Rattle.sci_trace.proofs.Coded.{coded_front}
 use Rattle.sci_trace.proofs.Weaving.{woven_none, woven_more, woven_notes}
 
 pub traces_none : (s : Shared) → Traces [] s [] s
@@ -31,28 +32,35 @@ pub traces_notes : (steps : List Step) (traced notes : List ℕ) (s t : Shared) 
 traces_notes steps traced notes s t (text, printed, woven) are = (text, printed, woven_notes text traced notes woven are)
 
 -- a command failed
-pub trace_stops : (nodes : ℕ) (steps : List Step) (k : ℕ) (step : Step) (traced : List ℕ) (e : ScriptRefusal) (s mid t : Shared) → Traces (take k steps) s traced mid → slice_get steps k ≡ Some step
-    → StopsAt shared_is_open shared_does nodes mid step e t → TraceLeaves nodes steps s e traced t
-trace_stops nodes steps k step traced OutOfMemory s mid t so_far at stop = (k, mid, so_far)
-trace_stops nodes steps k step traced (BadCommand n) s mid t so_far at stop = (k, mid, step, so_far, at, stop)
-trace_stops nodes steps k step traced (BadNumber n) s mid t so_far at stop = absurd stop
-trace_stops nodes steps k step traced (NotDone n) s mid t so_far at stop = (k, mid, step, so_far, at, stop)
-trace_stops nodes steps k step traced WriteFailed s mid t so_far at stop = absurd stop
+pub trace_stops : (coding : Coding) (nodes : ℕ) (steps : List Step) (k : ℕ) (step : Step) (traced : List ℕ) (e : ScriptRefusal) (s mid t : Shared) → Traces (take k steps) s traced mid
+    → slice_get steps k ≡ Some step → StopsAt shared_is_open shared_does nodes mid step e t → FormLeaves (coded coding) nodes steps s e (coded coding traced) t
+trace_stops coding nodes steps k step traced OutOfMemory s mid t so_far at stop = (traced, (k, mid, so_far), refl)
+trace_stops coding nodes steps k step traced (BadCommand n) s mid t so_far at stop = (traced, (k, mid, step, so_far, at, stop), refl)
+trace_stops coding nodes steps k step traced (BadNumber n) s mid t so_far at stop = absurd stop
+trace_stops coding nodes steps k step traced (NotDone n) s mid t so_far at stop = (traced, (k, mid, step, so_far, at, stop), refl)
+trace_stops coding nodes steps k step traced WriteFailed s mid t so_far at stop = absurd stop
 
 -- a front of a traced text, and not all
-pub trace_cut : (nodes : ℕ) (steps : List Step) (k : ℕ) (traced more : List ℕ) (n : ℕ) (s mid t : Shared) → Traces (take k steps) s (traced ++ more) mid → n < length more
-    → TraceLeaves nodes steps s WriteFailed (traced ++ take n more) t
-trace_cut nodes steps k traced more n s mid t all less =
-    (k, mid, traced ++ more, length traced + n, all, omega (arith, less, length-append traced more), sym (take-append-add traced more n))
+pub trace_cut : (coding : Coding) (nodes : ℕ) (steps : List Step) (k : ℕ) (traced more front : List ℕ) (s mid t : Shared) → Traces (take k steps) s (traced ++ more) mid
+    → IsFront (coded coding more) front → FormLeaves (coded coding) nodes steps s WriteFailed (coded coding traced ++ front) t
+trace_cut coding nodes steps k traced more front s mid t all cut = (traced ++ more, (k, mid, all), coded_front coding traced more front cut)
 
 -- the lines of the turns of a command weren't all written
-pub notes_stop : (nodes : ℕ) (steps : List Step) (k : ℕ) (traced notes written : List ℕ) (e : ScriptRefusal) (s mid t : Shared) → Traces (take k steps) s traced mid → AreNotes notes
-    → NotesLeft e notes written → TraceLeaves nodes steps s e (traced ++ written) t
-notes_stop nodes steps k traced notes written OutOfMemory s mid t so_far are left =
-    (k, mid, subst (λ (x : List ℕ). Traces (take k steps) s x mid) (sym (append-nil traced) ∙ ap (λ (x : List ℕ). traced ++ x) (sym left)) so_far)
-notes_stop nodes steps k traced notes written (BadCommand n) s mid t so_far are left = absurd left
-notes_stop nodes steps k traced notes written (BadNumber n) s mid t so_far are left = absurd left
-notes_stop nodes steps k traced notes written (NotDone n) s mid t so_far are left = absurd left
-notes_stop nodes steps k traced notes written WriteFailed s mid t so_far are (n, less, is) =
-    subst (λ (x : List ℕ). TraceLeaves nodes steps s WriteFailed (traced ++ x) t) (sym is)
-    (trace_cut nodes steps k traced notes n s mid t (traces_notes (take k steps) traced notes s mid so_far are) less)
+pub notes_stop : (coding : Coding) (nodes : ℕ) (steps : List Step) (k : ℕ) (traced notes written : List ℕ) (e : ScriptRefusal) (s mid t : Shared) → Traces (take k steps) s traced mid
+    → AreNotes notes → NotesLeft coding e notes written → FormLeaves (coded coding) nodes steps s e (coded coding traced ++ written) t
+notes_stop coding nodes steps k traced notes written OutOfMemory s mid t so_far are left =
+    (traced, (k, mid, so_far), ap (λ (x : List ℕ). coded coding traced ++ x) left ∙ append-nil (coded coding traced))
+notes_stop coding nodes steps k traced notes written (BadCommand n) s mid t so_far are left = absurd left
+notes_stop coding nodes steps k traced notes written (BadNumber n) s mid t so_far are left = absurd left
+notes_stop coding nodes steps k traced notes written (NotDone n) s mid t so_far are left = absurd left
+notes_stop coding nodes steps k traced notes written WriteFailed s mid t so_far are left =
+    trace_cut coding nodes steps k traced notes written s mid t (traces_notes (take k steps) traced notes s mid so_far are) left
+
+-- what is left of a trace that is written as it is
+pub plain_leaves : (nodes : ℕ) (steps : List Step) (s : Shared) (e : ScriptRefusal) (written : List ℕ) (t : Shared) → FormLeaves (coded Coding.Plain) nodes steps s e written t
+    → TraceLeaves nodes steps s e written t
+plain_leaves nodes steps s OutOfMemory written t (traced, (k, mid, so_far), is) = (k, mid, subst (λ (x : List ℕ). Traces (take k steps) s x mid) (sym is) so_far)
+plain_leaves nodes steps s (BadCommand n) written t (traced, stops, is) = subst (λ (x : List ℕ). TraceStops nodes steps s (BadCommand n) x t) (sym is) stops
+plain_leaves nodes steps s (BadNumber n) written t (traced, stops, is) = absurd stops
+plain_leaves nodes steps s (NotDone n) written t (traced, stops, is) = subst (λ (x : List ℕ). TraceStops nodes steps s (NotDone n) x t) (sym is) stops
+plain_leaves nodes steps s WriteFailed written t (traced, (k, mid, so_far), (n, less, is)) = (k, mid, traced, n, so_far, less, is)

@@ -3,6 +3,8 @@ pub mod Events
 pub mod Steps
 pub mod Lists
 pub mod Texts
+pub mod Coding
 pub mod Notes
 pub mod Telling
 pub mod Traces
+pub mod Pages

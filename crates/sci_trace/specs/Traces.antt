@@ -6,6 +6,8 @@ use Rattle.sci_script.specs.declared.refusals.ScriptRefusal.TheVariants.{OutOfMe
 use Rattle.sci_script.specs.Request.{no_words}
 use Rattle.sci_script.specs.Run.{PrintsAll, StopsAt}
 use Rattle.sci_script.specs.Shared.{Shared, shared_is_open, shared_does}
+use Rattle.sci_trace.specs.declared.coding.Coding.{Coding}
+use Rattle.sci_trace.specs.Coding.{coded, IsFront}
 use Rattle.sci_trace.specs.Notes.{IsWoven}
 
 -- the commands print a text, one after the other, and this is it with lines of turns between
@@ -13,10 +15,10 @@ abbrev pub Traces : List Step → Shared → List ℕ → Shared → Type 0
 Traces steps s traced t = (text : List ℕ) × PrintsAll shared_is_open shared_does no_words s steps text t × IsWoven text traced
 
 -- what is written of these lines of turns where that fails: none where memory was refused for one, or a front of them
-abbrev pub NotesLeft : ScriptRefusal → List ℕ → List ℕ → Type 0
-NotesLeft OutOfMemory notes written = written ≡ []
-NotesLeft WriteFailed notes written = (n : ℕ) × (n < length notes) × (written ≡ take n notes)
-NotesLeft _ notes written = ⊥
+abbrev pub NotesLeft : Coding → ScriptRefusal → List ℕ → List ℕ → Type 0
+NotesLeft coding OutOfMemory notes written = written ≡ []
+NotesLeft coding WriteFailed notes written = IsFront (coded coding notes) written
+NotesLeft coding _ notes written = ⊥
 
 -- a command fails behind those that were traced
 abbrev pub TraceStops : ℕ → List Step → Shared → ScriptRefusal → List ℕ → Shared → Type 0
@@ -31,3 +33,20 @@ TraceLeaves nodes steps s (BadCommand n) written t = TraceStops nodes steps s (B
 TraceLeaves nodes steps s (BadNumber n) written t = ⊥
 TraceLeaves nodes steps s (NotDone n) written t = TraceStops nodes steps s (NotDone n) written t
 TraceLeaves nodes steps s WriteFailed written t = (k : ℕ) × (mid : Shared) × (traced : List ℕ) × (n : ℕ) × Traces (take k steps) s traced mid × (n < length traced) × (written ≡ take n traced)
+
+-- what was traced where a run fails: the commands before, and the lines of the turns of the refused one
+abbrev pub TracedTo : ℕ → List Step → Shared → ScriptRefusal → List ℕ → Shared → Type 0
+TracedTo nodes steps s OutOfMemory traced t = (k : ℕ) × (mid : Shared) × Traces (take k steps) s traced mid
+TracedTo nodes steps s (BadCommand n) traced t = TraceStops nodes steps s (BadCommand n) traced t
+TracedTo nodes steps s (BadNumber n) traced t = ⊥
+TracedTo nodes steps s (NotDone n) traced t = TraceStops nodes steps s (NotDone n) traced t
+TracedTo nodes steps s WriteFailed traced t = (k : ℕ) × (mid : Shared) × Traces (take k steps) s traced mid
+
+-- what is written of a text where a run fails: all of it, or, where the writer failed, a front, and not all
+abbrev pub IsWrittenOf : ScriptRefusal → List ℕ → List ℕ → Type 0
+IsWrittenOf WriteFailed text written = IsFront text written
+IsWrittenOf _ text written = written ≡ text
+
+-- what is left of a run that is written in some form
+abbrev pub FormLeaves : (List ℕ → List ℕ) → ℕ → List Step → Shared → ScriptRefusal → List ℕ → Shared → Type 0
+FormLeaves form nodes steps s e written t = (traced : List ℕ) × TracedTo nodes steps s e traced t × IsWrittenOf e (form traced) written

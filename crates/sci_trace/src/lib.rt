@@ -1,10 +1,13 @@
 //! A script's run with a line for each turn: what the turn did, and how the list stands after it.
 #![tactic(auto)]
 
+mod coding;
 mod desk;
+mod drawing;
 mod events;
 mod lists;
 mod notes;
+mod page;
 mod running;
 mod steps;
 #[cfg(test)]
@@ -13,4 +16,5 @@ mod texts;
 mod words;
 
 pub use desk::TraceDesk;
+pub use drawing::draw;
 pub use running::trace;

@@ -5,18 +5,24 @@ ghost use Rattle.std.specs.Io.KnownBytes.{Appends};
 ghost use Rattle.sci_script.specs.Request.{no_words};
 ghost use Rattle.sci_script.specs.Wholes.{shared_of};
 ghost use Rattle.sci_trace.specs.Telling.{TellsAll};
-ghost use Rattle.sci_trace.specs.Traces.{Traces, NotesLeft, TraceLeaves};
+ghost use Rattle.sci_trace.specs.Coding.{coded};
+ghost use Rattle.sci_trace.specs.Traces.{Traces, NotesLeft, TraceLeaves, FormLeaves};
 
+use crate::coding::{Coding, put_coded};
 use crate::desk::TraceDesk;
 use crate::notes::Notes;
-use sci_script::{Script, ScriptRefusal, note, perform, put};
+use sci_script::{Script, ScriptRefusal, note, perform};
 use std::alloc::Global;
 use std::io::Write;
 
 /// Writes the lines of the turns that were taken, and drops them.
-fn put_notes<W: Write>(desk: &mut TraceDesk, out: &mut W) -> Result<(), ScriptRefusal>
-    ensures ok { OnOk result (Appends (W.contents out.old) (W.contents out.new) (string_bytes desk.old.notes.text)) }
-    ensures err { IfErr result (λ e. (written : List ℕ) × NotesLeft e (string_bytes desk.old.notes.text) written
+fn put_notes<W: Write>(
+    desk: &mut TraceDesk,
+    coding: Coding,
+    out: &mut W,
+) -> Result<(), ScriptRefusal>
+    ensures ok { OnOk result (Appends (W.contents out.old) (W.contents out.new) (coded coding (string_bytes desk.old.notes.text))) }
+    ensures err { IfErr result (λ e. (written : List ℕ) × NotesLeft coding e (string_bytes desk.old.notes.text) written
         × Appends (W.contents out.old) (W.contents out.new) written) }
     ensures whole { OnOk result (desk.old.notes.is_cut ≡ false) }
     ensures dropped { OnOk result ((string_bytes desk.new.notes.text ≡ []) × (desk.new.notes.is_cut ≡ false)) }
@@ -26,13 +32,49 @@ fn put_notes<W: Write>(desk: &mut TraceDesk, out: &mut W) -> Result<(), ScriptRe
     if desk.notes.is_cut() {
         return Err(ScriptRefusal::OutOfMemory);
     }
-    match put(out, desk.notes.as_bytes()) {
+    match put_coded(out, coding, desk.notes.as_bytes()) {
         Ok(()) => {
             desk.notes.clear();
             Ok(())
         }
         Err(_) => Err(ScriptRefusal::WriteFailed),
     }
+}
+
+/// Runs the script over a desk of its nodes and lines, and writes its trace in this way.
+pub(crate) fn trace_as<W: Write>(
+    alloc: Global,
+    script: &Script,
+    desk: &mut TraceDesk,
+    coding: Coding,
+    out: &mut W,
+) -> Result<(), ScriptRefusal>
+    requires { desk.old.size ≡ script.now.size }
+    ensures ok { OnOk result ((traced : List ℕ) × Traces script.now.steps.items (shared_of desk.old.desk) traced (shared_of desk.new.desk)
+        × TellsAll no_words (shared_of desk.old.desk) script.now.steps.items traced (shared_of desk.new.desk) × Appends (W.contents out.old) (W.contents out.new) (coded coding traced)) }
+    ensures err { IfErr result (λ e. (written : List ℕ)
+        × FormLeaves (coded coding) script.now.size.nodes script.now.steps.items (shared_of desk.old.desk) e written (shared_of desk.new.desk)
+        × Appends (W.contents out.old) (W.contents out.new) written) }
+    ensures size { desk.new.size ≡ desk.old.size }
+{
+    let size = desk.size;
+    // what was told before is no part of this run
+    desk.notes = Notes::new(alloc);
+    let mut words = [0; 64];
+    // one text for all commands, so that not each takes memory
+    let mut text = String::new(alloc);
+    for step in script.steps() {
+        text.clear();
+        let performed = perform(alloc, &mut text, desk, size.nodes, &words, *step);
+        put_notes(desk, coding, out)?;
+        performed?;
+        note(&mut words, size, step.command);
+        match put_coded(out, coding, text.as_bytes()) {
+            Ok(()) => {}
+            Err(_) => return Err(ScriptRefusal::WriteFailed),
+        }
+    }
+    Ok(())
 }
 
 /// Runs the script over a desk of its nodes and lines, and writes its text, with a line for each turn in front of what the turn's
@@ -53,22 +95,5 @@ pub fn trace<W: Write>(
         × Appends (W.contents out.old) (W.contents out.new) written) }
     ensures size { desk.new.size ≡ desk.old.size }
 {
-    let size = desk.size;
-    // what was told before is no part of this run
-    desk.notes = Notes::new(alloc);
-    let mut words = [0; 64];
-    // one text for all commands, so that not each takes memory
-    let mut text = String::new(alloc);
-    for step in script.steps() {
-        text.clear();
-        let performed = perform(alloc, &mut text, desk, size.nodes, &words, *step);
-        put_notes(desk, out)?;
-        performed?;
-        note(&mut words, size, step.command);
-        match put(out, text.as_bytes()) {
-            Ok(()) => {}
-            Err(_) => return Err(ScriptRefusal::WriteFailed),
-        }
-    }
-    Ok(())
+    trace_as(alloc, script, desk, Coding::Plain, out)
 }

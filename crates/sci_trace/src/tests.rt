@@ -1,6 +1,7 @@
 //! Traces, against the walks of the protocol.
 
 mod growths;
+mod pages;
 mod walks;
 
 use super::*;

@@ -1,8 +1,9 @@
-use Rattle.std.proofs.Common.{inr}
+use Rattle.std.proofs.Common.{inr, refl}
 use Rattle.sci_script.specs.Request.{no_words}
 use Rattle.sci_script.specs.Shared.{shared_is_open, shared_does}
 use Rattle.sci_script.specs.Wholes.{shared_of}
 use Rattle.sci_script.proofs.Through.{prints_all, leaves}
+use Rattle.sci_trace.specs.Pages.{page_of}
 use Rattle.sci_sim.proofs.Serving.{ok_then, err_then}
 use Rattle.sci_sim.proofs.serve.run.Goals as goal
 
@@ -39,3 +40,15 @@ returns-in_ok-desk-in-Trace-clause-err g c =
     let desk = c.in_ok-desk-in-Trace.desk in
     rw c.in-Trace.is (err_then c.trace.result _ _ c.trace.ensures.err
     (λ e (written, left, appended). (written, inr (shared_of desk.desk, shared_of c.trace.new.desk.desk, c.in_ok-desk-in-Trace.ensures.opened, left), appended)))
+
+pub returns-in_ok-desk-in-Draw-clause-ok : goal.returns-in_ok-desk-in-Draw-clause-ok
+returns-in_ok-desk-in-Draw-clause-ok g c =
+    let desk = c.in_ok-desk-in-Draw.desk in
+    rw c.in-Draw.is (ok_then c.draw.result _ _ c.draw.ensures.ok
+    (λ (traced, all, told, appended). (page_of traced, (shared_of desk.desk, shared_of c.draw.new.desk.desk, traced, c.in_ok-desk-in-Draw.ensures.opened, all, told, refl), appended)))
+
+pub returns-in_ok-desk-in-Draw-clause-err : goal.returns-in_ok-desk-in-Draw-clause-err
+returns-in_ok-desk-in-Draw-clause-err g c =
+    let desk = c.in_ok-desk-in-Draw.desk in
+    rw c.in-Draw.is (err_then c.draw.result _ _ c.draw.ensures.err
+    (λ e (written, left, appended). (written, inr (shared_of desk.desk, shared_of c.draw.new.desk.desk, c.in_ok-desk-in-Draw.ensures.opened, left), appended)))

@@ -3,9 +3,10 @@ use Rattle.std.specs.Io.KnownBytes.{Appends}
 use Rattle.sci_script.specs.Request.{no_words}
 use Rattle.sci_script.specs.Wholes.{shared_of}
 use Rattle.sci_script.proofs.Runs.{words_behind}
+use Rattle.sci_trace.specs.Coding.{coded}
 use Rattle.sci_trace.specs.Telling.{TellsAll}
 use Rattle.sci_trace.specs.Traces.{Traces}
-use Rattle.sci_trace.proofs.running.trace.Given as goal
+use Rattle.sci_trace.proofs.running.trace_as.Given as goal
 
 -- what is written is the traced text of the commands so far, and no line waits
 abbrev pub invariant-loop-step : goal.invariant-loop-step
@@ -17,5 +18,5 @@ invariant-loop-step g l =
       empty : string_bytes l.desk.notes.text ≡ [];
       whole : l.desk.notes.is_cut ≡ false;
       written : (traced : List ℕ) × Traces (take l.step-index l.script.steps.items) (shared_of l.fn.desk.desk) traced (shared_of l.desk.desk)
-          × TellsAll no_words (shared_of l.fn.desk.desk) (take l.step-index l.script.steps.items) traced (shared_of l.desk.desk) × Appends (g.W.Write.contents l.fn.out) (g.W.Write.contents l.out) traced;
+          × TellsAll no_words (shared_of l.fn.desk.desk) (take l.step-index l.script.steps.items) traced (shared_of l.desk.desk) × Appends (g.W.Write.contents l.fn.out) (g.W.Write.contents l.out) (coded l.coding traced);
     }

@@ -1,0 +1,76 @@
+-- Pages: their fronts, and what stands in them where a run fails.
+use Rattle.std.proofs.Common.{◌≡◌, ◌∙◌, ◌<◌, ℕ, List, [], ◌++◌, length, take, true, false, Option, Result, Ok, Err, OnOk, IfErr, refl, sym, subst}
+use Rattle.std.specs.Io.KnownBytes.{Appends}
+use Rattle.std.proofs.KnownBytes.{Appends-trans}
+use Rattle.std.proofs.Math.Seq.{take-length}
+use Rattle.sci_script.specs.declared.commands.Step.{Step}
+use Rattle.sci_script.specs.declared.refusals.ScriptRefusal.{ScriptRefusal}
+use Rattle.sci_script.specs.declared.refusals.ScriptRefusal.TheVariants.{OutOfMemory, BadCommand, BadNumber, NotDone, WriteFailed}
+use Rattle.sci_script.specs.Shared.{Shared}
+use Rattle.sci_trace.specs.Coding.{escaped, IsFront}
+use Rattle.sci_trace.specs.Pages.{page_in, is_cut}
+use Rattle.sci_trace.specs.Traces.{Traces, FormLeaves}
+use Rattle.sci_trace.proofs.Coded.{front_behind, front_before}
+use Rattle.sci_trace.proofs.Tracing.{traces_none}
+
+-- a front of the page's front
+pub cut_in_front : (front end : List ℕ) (n : ℕ) (nodes : ℕ) (steps : List Step) (s t : Shared) → n < length front → FormLeaves (page_in front end) nodes steps s WriteFailed (take n front) t
+cut_in_front front end n nodes steps s t less =
+    let (m, short, is) = front_before front (escaped []) n less in
+    let (k, shorter, also) = front_before (front ++ escaped []) end m short in
+    ([], (0, s, traces_none s), (k, shorter, is ∙ also))
+
+-- a front of the page, which ends in the text
+pub cut_in_text : (front end written : List ℕ) (nodes : ℕ) (steps : List Step) (s t : Shared) → FormLeaves escaped nodes steps s WriteFailed written t
+    → FormLeaves (page_in front end) nodes steps s WriteFailed (front ++ written) t
+cut_in_text front end written nodes steps s t (traced, so_far, (n, less, is)) =
+    let (m, short, now) = front_behind front (escaped traced) n less in
+    let (k, shorter, also) = front_before (front ++ escaped traced) end m short in
+    (traced, so_far, subst (λ (x : List ℕ). IsFront (page_in front end traced) (front ++ x)) (sym is) (k, shorter, now ∙ also))
+
+-- a front of the page, which ends in its end
+pub cut_in_end : (front end traced : List ℕ) (n : ℕ) (nodes : ℕ) (steps : List Step) (s t : Shared) → ((k : ℕ) × (mid : Shared) × Traces (take k steps) s traced mid) → n < length end
+    → FormLeaves (page_in front end) nodes steps s WriteFailed ((front ++ escaped traced) ++ take n end) t
+cut_in_end front end traced n nodes steps s t so_far less = (traced, so_far, front_behind (front ++ escaped traced) end n less)
+
+pub cut_then : (r : Result (Unit {0}) ScriptRefusal) (P : ScriptRefusal → Type 0) → is_cut r ≡ true → IfErr r P → P WriteFailed
+cut_then (Ok done) P is h = absurd (let q : false ≡ true = is in cc)
+cut_then (Err OutOfMemory) P is h = absurd (let q : false ≡ true = is in cc)
+cut_then (Err (BadCommand n)) P is h = absurd (let q : false ≡ true = is in cc)
+cut_then (Err (BadNumber n)) P is h = absurd (let q : false ≡ true = is in cc)
+cut_then (Err (NotDone n)) P is h = absurd (let q : false ≡ true = is in cc)
+cut_then (Err WriteFailed) P is h = h
+
+-- where the writer took all of it, the whole of what was traced stands there
+pub whole_then : (r : Result (Unit {0}) ScriptRefusal) (nodes : ℕ) (steps : List Step) (s t : Shared) (a b : Option (List ℕ)) → is_cut r ≡ false
+    → OnOk r ((traced : List ℕ) × Traces steps s traced t × Appends a b (escaped traced))
+    → IfErr r (λ e. (written : List ℕ) × FormLeaves escaped nodes steps s e written t × Appends a b written)
+    → (traced : List ℕ) × ((k : ℕ) × (mid : Shared) × Traces (take k steps) s traced mid) × Appends a b (escaped traced)
+whole_then (Ok done) nodes steps s t a b is (traced, all, appended) stopped =
+    (traced, (length steps, t, subst (λ (x : List Step). Traces x s traced t) (sym (take-length steps)) all), appended)
+whole_then (Err OutOfMemory) nodes steps s t a b is done (written, (traced, so_far, whole), appended) = (traced, so_far, subst (λ (x : List ℕ). Appends a b x) whole appended)
+whole_then (Err (BadCommand n)) nodes steps s t a b is done (written, (traced, (k, mid, step, so_far, at, stop), whole), appended) =
+    (traced, (k, mid, so_far), subst (λ (x : List ℕ). Appends a b x) whole appended)
+whole_then (Err (BadNumber n)) nodes steps s t a b is done (written, (traced, stops, whole), appended) = absurd stops
+whole_then (Err (NotDone n)) nodes steps s t a b is done (written, (traced, (k, mid, step, so_far, at, stop), whole), appended) =
+    (traced, (k, mid, so_far), subst (λ (x : List ℕ). Appends a b x) whole appended)
+whole_then (Err WriteFailed) nodes steps s t a b is done stopped = absurd (let q : true ≡ false = is in cc)
+
+closed : (front end : List ℕ) (nodes : ℕ) (steps : List Step) (s t : Shared) (a b c d : Option (List ℕ)) (written traced : List ℕ) → Appends a b front → Appends b c written
+    → Appends c d end → written ≡ escaped traced → Appends a d (page_in front end traced)
+closed front end nodes steps s t a b c d written traced before text behind whole =
+    Appends-trans a c d (front ++ escaped traced) end (Appends-trans a b c front (escaped traced) before (subst (λ (x : List ℕ). Appends b c x) whole text)) behind
+
+-- a page of what was traced before a refusal
+pub closed_then : (r : Result (Unit {0}) ScriptRefusal) (front end : List ℕ) (nodes : ℕ) (steps : List Step) (s t : Shared) (a b c d : Option (List ℕ)) → is_cut r ≡ false
+    → Appends a b front → IfErr r (λ e. (written : List ℕ) × FormLeaves escaped nodes steps s e written t × Appends b c written) → Appends c d end
+    → IfErr r (λ e. (written : List ℕ) × FormLeaves (page_in front end) nodes steps s e written t × Appends a d written)
+closed_then (Ok done) front end nodes steps s t a b c d is before stopped behind = tt
+closed_then (Err OutOfMemory) front end nodes steps s t a b c d is before (written, (traced, so_far, whole), text) behind =
+    (page_in front end traced, (traced, so_far, refl), closed front end nodes steps s t a b c d written traced before text behind whole)
+closed_then (Err (BadCommand n)) front end nodes steps s t a b c d is before (written, (traced, so_far, whole), text) behind =
+    (page_in front end traced, (traced, so_far, refl), closed front end nodes steps s t a b c d written traced before text behind whole)
+closed_then (Err (BadNumber n)) front end nodes steps s t a b c d is before (written, (traced, so_far, whole), text) behind = absurd so_far
+closed_then (Err (NotDone n)) front end nodes steps s t a b c d is before (written, (traced, so_far, whole), text) behind =
+    (page_in front end traced, (traced, so_far, refl), closed front end nodes steps s t a b c d written traced before text behind whole)
+closed_then (Err WriteFailed) front end nodes steps s t a b c d is before stopped behind = absurd (let q : true ≡ false = is in cc)

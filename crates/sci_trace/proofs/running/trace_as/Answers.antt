@@ -1,0 +1,124 @@
+use Rattle.std.proofs.Common.{arith, ◌<◌, [], refl, ◌++◌, ◌+◌, ◌∙◌, List, ℕ, get_or, take, string_bytes, subst, sym, ap}
+use Rattle.std.proofs.KnownBytes.{Appends-trans}
+use Rattle.std.proofs.lemmas.List.Elements.{All-replicate}
+use Rattle.std.proofs.lemmas.Result.{err_from_is_err_and}
+use Rattle.sci_script.specs.declared.commands.Size.{Size}
+use Rattle.sci_script.specs.declared.commands.Step.{Step}
+use Rattle.sci_script.specs.declared.wholes.WholeDesk.{WholeDesk}
+use Rattle.sci_script.specs.Request.{no_words, words_after}
+use Rattle.sci_script.specs.Run.{Prints, StopsAt}
+use Rattle.sci_script.specs.Shared.{shared_is_open, shared_does}
+use Rattle.sci_script.specs.Wholes.{shared_of}
+use Rattle.sci_script.proofs.Runs.{step_is, words_behind, words_step}
+use Rattle.sci_script.proofs.Through.{prints, stops_at}
+use Rattle.sci_trace.specs.declared.desk.TraceDesk.{TraceDesk}
+use Rattle.sci_trace.specs.Coding.{coded}
+use Rattle.sci_trace.specs.Telling.{telling, telling_of, telling_is_open, tells}
+use Rattle.sci_trace.proofs.Coded.{coded_nil, coded_behind}
+use Rattle.sci_trace.proofs.Tellings.{told_does, told_so, tells_none, tells_step}
+use Rattle.sci_trace.proofs.Tracing.{traces_none, traces_more, traces_notes, trace_stops, trace_cut, notes_stop}
+use Rattle.sci_trace.proofs.running.trace_as.Goals as goal
+
+pub loop-step-init : goal.loop-step-init
+loop-step-init g c =
+    record {
+      size = c.requires;
+      noted = refl;
+      range = All-replicate (λ (w : ℕ). w < 8) 64 0 (omega arith);
+      empty = c.new.ensures.empty;
+      whole = c.new.ensures.whole;
+      written = ([], traces_none (shared_of c.args.desk.now.desk), tells_none no_words (shared_of c.args.desk.now.desk), coded_nil c.args.coding _);
+    }
+
+pub returns-in_err-put_notes-clause-err : goal.returns-in_err-put_notes-clause-err
+returns-in_err-put_notes-clause-err g c =
+    let p = err_from_is_err_and c.from_residual.result c.from_residual.ensures.1 in
+    let (traced, so_far, told, appended) = c.loop-step.invariant.written in
+    let (written, left, front) = c.in_err-put_notes.ensures.err in
+    let notes = c.perform-performed.new.desk.notes in
+    rw (p.1, p.2) (
+      coded c.args.coding traced ++ written,
+      notes_stop c.args.coding c.args.script.now.size.nodes c.args.script.now.steps.items c.loop-step.step-index traced (string_bytes notes.text) written c.in_err-put_notes.field-0.0 (shared_of c.args.desk.now.desk)
+          (shared_of c.loop-step.desk.desk) (shared_of c.put_notes.new.desk.desk) so_far notes.lines left,
+      Appends-trans _ _ _ _ _ appended front,
+    )
+
+pub returns-in_err-performed-clause-err : goal.returns-in_err-performed-clause-err
+returns-in_err-performed-clause-err g c =
+    let p = err_from_is_err_and c.from_residual-in_err-performed.result c.from_residual-in_err-performed.ensures.1 in
+    let (traced, so_far, told, appended) = c.loop-step.invariant.written in
+    let steps = c.args.script.now.steps.items in
+    let i = c.loop-step.step-index in
+    let s = shared_of c.args.desk.now.desk in
+    let mid = shared_of c.loop-step.desk.desk in
+    let desk = c.perform-performed.new.desk in
+    let notes = string_bytes desk.notes.text in
+    let e = c.in_err-performed.field-0.0 in
+    let at = step_is c.steps-step-items.result.now steps i c.step-item.result c.steps-step-items.ensures c.loop-step-test.true c.step-item.is in
+    let seen = stops_at (λ (d : TraceDesk). shared_of d.desk) shared_is_open (λ d event e. tells (telling_of d) event (telling_of e)) shared_does (λ d event e h. told_does (telling_of d) event (telling_of e) h) c.args.desk.now.size.nodes c.loop-step.desk c.step-item.result e desk c.in_err-performed.ensures.err in
+    let sized = subst (λ (z : Size). StopsAt shared_is_open shared_does z.nodes mid c.step-item.result e (shared_of desk.desk)) c.requires seen in
+    let stops = subst (λ (d : WholeDesk). StopsAt shared_is_open shared_does c.args.script.now.size.nodes mid c.step-item.result e (shared_of d)) (sym c.in_ok-put_notes.ensures.desk) sized in
+    rw (p.1, p.2) (
+      coded c.args.coding (traced ++ notes),
+      trace_stops c.args.coding c.args.script.now.size.nodes steps i c.step-item.result (traced ++ notes) e s mid (shared_of c.put_notes.new.desk.desk) (traces_notes (take i steps) traced notes s mid so_far desk.notes.lines) at stops,
+      coded_behind c.args.coding _ _ _ traced notes appended c.in_ok-put_notes.ensures.ok,
+    )
+
+pub returns-in-Err-clause-err : goal.returns-in-Err-clause-err
+returns-in-Err-clause-err g c =
+    let (traced, so_far, told, appended) = c.loop-step.invariant.written in
+    let items = c.steps-step-items.result.now in
+    let steps = c.args.script.now.steps.items in
+    let i = c.loop-step.step-index in
+    let s = shared_of c.args.desk.now.desk in
+    let mid = shared_of c.loop-step.desk.desk in
+    let desk = c.perform-performed.new.desk in
+    let notes = string_bytes desk.notes.text in
+    let text = string_bytes c.perform-performed.new.text in
+    let n = c.in-Err.ensures.err.0 in
+    let front = rw c.as_bytes.ensures.value at c.in-Err.ensures.err.2 in
+    let less = rw c.as_bytes.ensures.value at c.in-Err.ensures.err.1 in
+    let seen = prints (λ (d : TraceDesk). shared_of d.desk) shared_is_open (λ d event e. tells (telling_of d) event (telling_of e)) shared_does (λ d event e h. told_does (telling_of d) event (telling_of e) h) c.loop-step.words c.loop-step.desk c.step-item.result.command text desk c.in_ok-performed.ensures.ok in
+    let printed = subst (λ (step : Step). Prints shared_is_open shared_does c.loop-step.words mid step.command text (shared_of desk.desk)) c.step-item.is seen in
+    let shown = subst (λ (words : List ℕ). Prints shared_is_open shared_does words mid (get_or items i c.step-item.result).command text (shared_of desk.desk)) c.loop-step.invariant.noted printed in
+    let after = subst (λ (d : WholeDesk). Prints shared_is_open shared_does (words_behind no_words (take i steps)) mid (get_or items i c.step-item.result).command text (shared_of d)) (sym c.in_ok-put_notes.ensures.desk) shown in
+    let t = shared_of c.put_notes.new.desk.desk in
+    let all = traces_more items steps i c.step-item.result traced notes text s mid t c.steps-step-items.ensures c.loop-step-test.true so_far desk.notes.lines after in (
+      coded c.args.coding (traced ++ notes) ++ take n (coded c.args.coding text),
+      trace_cut c.args.coding c.args.script.now.size.nodes steps (i + 1) (traced ++ notes) text (take n (coded c.args.coding text)) s t t all (n, less, refl),
+      Appends-trans _ _ _ _ _ (coded_behind c.args.coding _ _ _ traced notes appended c.in_ok-put_notes.ensures.ok) front,
+    )
+
+pub loop-step-preserved : goal.loop-step-preserved
+loop-step-preserved g c =
+    let (traced, so_far, told, appended) = c.loop-step.invariant.written in
+    let items = c.steps-step-items.result.now in
+    let steps = c.args.script.now.steps.items in
+    let i = c.loop-step.step-index in
+    let s = shared_of c.args.desk.now.desk in
+    let mid = shared_of c.loop-step.desk.desk in
+    let desk = c.perform-performed.new.desk in
+    let notes = string_bytes desk.notes.text in
+    let text = string_bytes c.perform-performed.new.text in
+    let put = rw c.as_bytes.ensures.value at c.in-Ok.ensures.ok in
+    let seen = prints (λ (d : TraceDesk). shared_of d.desk) shared_is_open (λ d event e. tells (telling_of d) event (telling_of e)) shared_does (λ d event e h. told_does (telling_of d) event (telling_of e) h) c.loop-step.words c.loop-step.desk c.step-item.result.command text desk c.in_ok-performed.ensures.ok in
+    let printed = subst (λ (step : Step). Prints shared_is_open shared_does c.loop-step.words mid step.command text (shared_of desk.desk)) c.step-item.is seen in
+    let shown = subst (λ (words : List ℕ). Prints shared_is_open shared_does words mid (get_or items i c.step-item.result).command text (shared_of desk.desk)) c.loop-step.invariant.noted printed in
+    let after = subst (λ (d : WholeDesk). Prints shared_is_open shared_does (words_behind no_words (take i steps)) mid (get_or items i c.step-item.result).command text (shared_of d)) (sym c.in_ok-put_notes.ensures.desk) shown in
+    let all = traces_more items steps i c.step-item.result traced notes text s mid (shared_of c.put_notes.new.desk.desk) c.steps-step-items.ensures c.loop-step-test.true so_far desk.notes.lines after in
+    let telling_so = prints telling_of telling_is_open (λ (d : TraceDesk) event e. tells (telling_of d) event (telling_of e)) tells (λ d event e h. h) c.loop-step.words c.loop-step.desk c.step-item.result.command text desk c.in_ok-performed.ensures.ok in
+    let now = told_so c.loop-step.words c.step-item.result.command text mid (shared_of desk.desk) (string_bytes c.loop-step.desk.notes.text) notes c.loop-step.desk.notes.is_cut desk.notes.is_cut c.loop-step.invariant.empty c.loop-step.invariant.whole c.in_ok-put_notes.ensures.whole telling_so in
+    let as_read = subst (λ (step : Step). Prints telling_is_open tells c.loop-step.words (telling mid []) step.command text (telling (shared_of desk.desk) notes)) c.step-item.is now in
+    let as_noted = subst (λ (words : List ℕ). Prints telling_is_open tells words (telling mid []) (get_or items i c.step-item.result).command text (telling (shared_of desk.desk) notes)) c.loop-step.invariant.noted as_read in
+    let as_put = subst (λ (d : WholeDesk). Prints telling_is_open tells (words_behind no_words (take i steps)) (telling mid []) (get_or items i c.step-item.result).command text (telling (shared_of d) notes)) (sym c.in_ok-put_notes.ensures.desk) as_noted in
+    let more = tells_step no_words items steps i c.step-item.result traced notes text s mid (shared_of c.put_notes.new.desk.desk) c.steps-step-items.ensures c.loop-step-test.true told as_put in
+    record {
+      size = c.in_ok-put_notes.ensures.size ∙ c.in_ok-performed.ensures.size ∙ c.loop-step.invariant.size;
+      noted = c.note.ensures.words ∙ ap (λ (step : Step). words_after c.loop-step.words step.command) c.step-item.is
+          ∙ ap (λ (words : List ℕ). words_after words (get_or items i c.step-item.result).command) c.loop-step.invariant.noted
+          ∙ sym (words_step no_words items steps i c.step-item.result c.steps-step-items.ensures c.loop-step-test.true);
+      range = c.note.ensures.range;
+      empty = c.in_ok-put_notes.ensures.dropped.0;
+      whole = c.in_ok-put_notes.ensures.dropped.1;
+      written = ((traced ++ notes) ++ text, all, more, coded_behind c.args.coding _ _ _ (traced ++ notes) text (coded_behind c.args.coding _ _ _ traced notes appended c.in_ok-put_notes.ensures.ok) put);
+    }
