@@ -1,8 +1,17 @@
 //! The command `draw`: its page has what `trace` writes, and its faults are those of `script`.
 
-use super::tracing::SCRIPTS;
+use super::SHARERS;
 use crate::serve::{serve_draw, serve_script, serve_trace};
 use std::test::Fail;
+
+/// Two runs that end, one that is refused, and two scripts that can't be read.
+const DRAWN: [&str; 5] = [
+    SHARERS,
+    "memory 1 1",
+    "memory 2 1\nload 0 0 0\nturn 0\nload 0 0 0\nturn 0\n",
+    "",
+    "memory 1 1\nload 0 0 8\n",
+];
 
 /// A page, and that of an empty trace: the empty one is what stands round the text.
 fn has_text(page: &[u8], empty: &[u8], front: usize, text: &[u8]) -> bool {
@@ -33,7 +42,7 @@ fn a_page_has_the_trace(rt: HostRuntime) -> Result<(), Fail> {
         .take_while(|(a, b)| a == b)
         .count();
     assert!(rt; has_text(&listed, &empty, front, "line 0 HOME\n".as_bytes()));
-    for script in SCRIPTS {
+    for script in DRAWN {
         let mut text = Vec::new(rt.alloc());
         let mut told = Vec::new(rt.alloc());
         let mut page = Vec::new(rt.alloc());
