@@ -66,7 +66,7 @@ fn a_walk_is_told(rt: HostRuntime) {
 }
 
 /// Scripts that end in each way. Their text is known from elsewhere; here the two commands are compared.
-pub(super) const SCRIPTS: [&str; 12] = [
+const SCRIPTS: [&str; 12] = [
     SHARERS,
     LEAVER,
     "memory 1 1",

@@ -401,7 +401,7 @@ function key(event) {
 }
 
 function printed(isPrinted) {
-  width = isPrinted ? 700 : null;
+  width = isPrinted ? 920 : null; // four boxes across, a little smaller
   follow();
 }
 

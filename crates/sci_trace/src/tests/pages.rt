@@ -68,10 +68,6 @@ fn pages_have_the_trace(rt: HostRuntime) -> Result<(), Fail> {
             "memory 1 1\nload 0 0 0\nturn 0\nload 0 0 0\n",
             Some(ScriptRefusal::BadCommand(4)),
         ),
-        (
-            "memory 2 1\nload 0 0 0\nturn 0\nturn 0\nload 1 0 0\ndone 1\n",
-            Some(ScriptRefusal::NotDone(6)),
-        ),
     ];
     for (text, refusal) in cases {
         assert_eq!(rt; drawn(&rt, rt.alloc(), text).err(), refusal, "of {text}");
