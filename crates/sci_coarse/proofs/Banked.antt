@@ -1,17 +1,15 @@
 -- A node's seats at lines of a memory, and a call on one of them.
-use Rattle.std.proofs.Common.{◌≡◌, ◌≢◌, ◌⊎◌, ⊎_elim, ℕ, ◌<◌, List, map, length, get_or, set, true, Option, Some, None, IfSome, refl, sym, ap, subst, ◌∙◌}
+use Rattle.std.proofs.Common.{◌≡◌, ◌≢◌, ◌⊎◌, ⊎_elim, ℕ, ◌<◌, List, map, length, get_or, set, true, refl, sym, ap, subst, ◌∙◌}
 use Rattle.std.proofs.lemmas.List.{get_or_default, length-set, length-map}
 use mathlib.Core.Option.{some}
 use lib.ListN.{get_elem?}
 use Rattle.atomic_table.proofs.Lists.{at_index, at_set}
-use Rattle.sci_words.specs.declared.tags.Tag.{Tag}
 use Rattle.sci_core.specs.declared.keeps.Keeps as keeps
 use Rattle.sci_core.specs.declared.events.Event.{Event}
 use Rattle.sci_core.specs.Answers.{is_allowed}
 use Rattle.sci_core.specs.declared.pending.Pending.{Pending}
-use Rattle.sci_core.specs.PendingStep.{IsOwnWord}
 use Rattle.sci_port.specs.declared.calls.Call.{Call}
-use Rattle.sci_port.specs.Owes.{IsTag, Owes}
+use Rattle.sci_port.specs.Owes.{Owes}
 use Rattle.sci_port.specs.Seated.{Seated, CallsOn}
 use Rattle.sci_port.proofs.Seated.{at_place, read_at, calls_on}
 use Rattle.sci_coarse.specs.declared.line.CoarseLine.{CoarseLine}
@@ -19,11 +17,6 @@ use Rattle.sci_coarse.specs.declared.seats.Seat.{Seat}
 use Rattle.sci_coarse.specs.declared.views.Terms.{Terms}
 use Rattle.sci_coarse.specs.Banks.{AreLines, AreSeatsAt, AreSeatsOf, IsOnePerLine, IsSeatAt, MakesCall, seated}
 use Rattle.sci_coarse.specs.Seats.{IsSeatOf, HasMade}
-
--- a tag that was looked at is the node's own
-pub own_word : (n : ℕ) (p : Pending) (answer : Option Tag) → IfSome answer (λ (t : Tag). IsOwnWord p t × IsTag n t) → IfSome answer (λ (t : Tag). IsOwnWord p t)
-own_word n p None h = tt
-own_word n p (Some t) h = h.0
 
 module _ {K : Type 0} {g : keeps.Ghosts K} (lines : List (CoarseLine K)) (seats : List (Seat K g)) (are : AreLines lines) (one : IsOnePerLine lines seats) where
   pub first_fact : (d l : CoarseLine K) → l ≡ get_or lines 0 d → l.terms.keep ≡ are.keep

@@ -1,9 +1,9 @@
 use borrow.Author.Rules.{scaled_Fits}
 use Rattle.std.proofs.Common.{rules, refl, ap, get_or}
 use Rattle.sci_port.proofs.Banked.{written_back}
-use Rattle.sci_port.proofs.Seated.{own_form}
+use Rattle.sci_port.proofs.Seated.{own_form, own_word}
 use Rattle.sci_port.specs.declared.calls.Call.TheVariants.{Own}
-use Rattle.sci_coarse.proofs.Banked.{calls, inside, makes_call, near, of_line, own_word, sit_after}
+use Rattle.sci_coarse.proofs.Banked.{calls, inside, makes_call, near, of_line, sit_after}
 use Rattle.sci_coarse.proofs.bank.CoarseBankBank.own.Goals as goal
 
 pub own-requires : goal.own-requires
