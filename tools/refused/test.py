@@ -28,6 +28,16 @@ pub fn second(number: u32) -> u32
     next(next(number))
 }
 
+/// Three more.
+pub fn third(number: u32) -> u32
+    requires { number < 800 }
+    ensures more { number + 2 < result }
+    ensures some { 2 < result }
+{
+    let two = second(number);
+    next(two)
+}
+
 /// A number that is at most the one given.
 pub fn below(number: u32) -> u32
     ensures { result ≤ number }
@@ -49,10 +59,24 @@ impl Number {
 }
 """
 
+# what `third` ensures: the second answer rests on the first, which names a call
+ANSWERS = """use Rattle.std.proofs.Common.{arith}
+use Rattle.lib_of_halves.proofs.third.Goals as goal
+
+pub returns-clause-more : goal.returns-clause-more
+returns-clause-more c = omega (arith, c.second-two.ensures)
+
+pub returns-clause-some : goal.returns-clause-some
+returns-clause-some c = let more = returns-clause-more c in omega arith
+"""
+
 # the name of an edit, its text, and a word of what the tool says of it
 EDITS = [
     ("refused_in_a_function", "file: src/lib.rt\nold:     number + 1\nnew:     number + 2\n", "lib::next did not prove"),
     ("refused_in_a_method", "file: src/lib.rt\nold:         self.0\nnew:         self.0 / 2\n", "lib::Number::get did not prove"),
+    ("refused_by_an_answer", "file: src/lib.rt\nold:     next(two)\nnew:     next(two) - 1\n", "`returns-clause-more`"),
+    # the same value, without the call that an answer names
+    ("only_names_fail", "file: src/lib.rt\nold: second(number);\nnew: number + 2;\n", "only a proof file that names"),
     ("accepted", "file: src/lib.rt\nold:     number / 2\nnew:     number / 3\n", "NOT REFUSED"),
     # the same value, while the function that it calls is edited beside it in the same check
     ("only_what_it_calls_is_refused", "file: src/lib.rt\nold: next(next(number))\nnew: next(next(number) + 0)\n", "NOT REFUSED"),
@@ -70,6 +94,8 @@ def make(root):
     (crate / "refused").mkdir()
     (root / "crates.txt").write_text("lib_of_halves:\n", encoding="utf-8")
     (crate / "src" / "lib.rt").write_text(CODE, encoding="utf-8")
+    (crate / "proofs" / "third").mkdir(parents=True)
+    (crate / "proofs" / "third" / "Answers.antt").write_text(ANSWERS, encoding="utf-8")
     for name, text, _ in EDITS:
         (crate / "refused" / f"{name}.edit").write_text(text, encoding="utf-8")
 

@@ -17,6 +17,8 @@ LINE = re.compile(r"^fn (\S+): (.*)$", re.M)
 ASKED = re.compile(r"^only=(\d+) proved=(\d+)$", re.M)
 # what the prover says of a function whose own goals it could not show
 GOALS = re.compile(r"`search` did not prove (`[^`]+`(?:, `[^`]+`)*)")
+# an answer's own error; that others rest on a refused one, or that a file can't be read, is none
+ANSWER = re.compile(r": error: `[^`]+`: ")
 # a proof file that names what the edit took away says nothing of the contract
 NAMES = re.compile(r"has no field|is not in scope|has no `|was not admitted")
 
@@ -125,7 +127,7 @@ class Trial:
             return True, f"{edit.function} did not prove {goals[1][:160]}"
         place = re.escape("/".join(edit.function.split("::")[1:]))
         errors = re.findall(rf"(?m)^(?:\./)?proofs/{place}/\w+\.antt:\d+:\d+: error.*$", said)
-        own = [it for it in errors if not NAMES.search(it)]
+        own = [it for it in errors if ANSWER.search(it) and not NAMES.search(it)]
         if line != "proved" and own:
             return True, f"{edit.function}: {own[0][:200]}"
         if line == "proved":

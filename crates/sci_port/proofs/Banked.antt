@@ -35,6 +35,18 @@ module _ {K : Type 0} (fits : K → ℕ → List ℕ → Type 0) (s : LentLines 
   read_at : (i : ℕ) (x : WholeLine K) → i ≡ line → x ≡ get_or s.wholes i x → x ≡ whole_at s line
   read_at i x e r = read_from i x x e r
 
+  -- what holds of the line holds of what was read there
+  pub holds_of_read : (P : WholeLine K → Type 0) (i : ℕ) (y x : WholeLine K) → i ≡ line → x ≡ get_or s.wholes i y → P (whole_at s line) → P x
+  holds_of_read P i y x e r h = subst P (sym (read_from i y x e r)) h
+
+  pub node_below : (i : ℕ) (y x : WholeLine K) → i ≡ line → x ≡ get_or s.wholes i y → s.node < nodes_of x
+  node_below i y x e r = holds_of_read (λ (w : WholeLine K). s.node < nodes_of w) i y x e r is.below
+
+  pub fits_as_read : (P : (List ℕ → Type 0) → Type 0) (i : ℕ) (y x : WholeLine K) → i ≡ line → x ≡ get_or s.wholes i y → P (fits s.keep line) → P (fits x.keep x.number)
+  fits_as_read P i y x e r h =
+      holds_of_read (λ (w : WholeLine K). P (fits w.keep w.number)) i y x e r
+      (subst (λ (n : ℕ). P (fits (whole_at s line).keep n)) (sym is.number) (subst (λ (k : K). P (fits k line)) (sym is.fact) h))
+
   pub sound_at : (i : ℕ) (x : WholeLine K) (p : Pending) (t : Tag) → i ≡ line → x ≡ get_or s.wholes i x → p ≡ (state_of x).steps s.node → t ≡ (state_of x).tags s.node → tag_well_formed t ≡ true → tag_links_below (nodes_of x) t ≡ true
       → IsLawfulLine (nodes_of x) (fits x.keep x.number) (state_of x) → IsSoundStep (nodes_at s line) (fits s.keep line) p
   sound_at i x p t il r ep et form links lawful =

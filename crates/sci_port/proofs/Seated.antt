@@ -57,3 +57,8 @@ module _ {K : Type 0} {fits : K → ℕ → List ℕ → Type 0} {s t : Seated K
 pub own_form : (n : ℕ) (p : Pending) (answer : Option Tag) → IfSome answer (λ (t : Tag). IsOwnWord p t × IsTag n t) → IfSome answer (λ (t : Tag). IsTag n t)
 own_form n p None h = tt
 own_form n p (Some t) h = h.1
+
+-- and it is the node's own
+pub own_word : (n : ℕ) (p : Pending) (answer : Option Tag) → IfSome answer (λ (t : Tag). IsOwnWord p t × IsTag n t) → IfSome answer (λ (t : Tag). IsOwnWord p t)
+own_word n p None h = tt
+own_word n p (Some t) h = h.0

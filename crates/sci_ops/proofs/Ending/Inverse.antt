@@ -31,6 +31,12 @@ pub record MadeRow (n me : ℕ) (p : Pending) (e : Event) (end : End) (s : State
   pub turn : r ≡ ended end ((row_of me p e).answer taken)
   pub next : t ≡ stepped s me (exchange_with taken (row_of me p e))
 
+same_some : {A : Type 0} (a b : A) → ◌≡◌ {A = Option A} (Some a) (Some b) → a ≡ b
+same_some a b h = cc
+
+no_some : {A : Type 0} (a : A) → ◌≡◌ {A = Option A} None (Some a) → ⊥
+no_some a h = cc
+
 -- done but for a look is made
 as_made : (n : ℕ) (s : State) (me : ℕ) (e : Event) (answer : Option Line) (t : State) → is_look e ≡ false → IsDone n s me e answer t → Makes n s me e answer t
 as_made n s me Event.Look answer t h d = cc
@@ -54,14 +60,14 @@ module _ (n : ℕ) (fits : List ℕ → Type 0) (me : ℕ) where
 
   along_own : (next : Tag → Plan) (s : State) (r : Turn) (t : State) (cs : List Call) → Chain (on_line n fits me) s cs t → Follows (own next) cs r → LookedOn next s r t
   along_own next s r t (Own (Some m) ∷ cs) h f =
-      let e : m ≡ s.tags me = cc h.1.0.0 in
+      let e : m ≡ s.tags me = same_some m (s.tags me) h.1.0.0 in
       let to : h.0 ≡ looked s me = h.1.0.1.0.1 in
       record {
         form = subst (λ (x : Tag). IsTag n x) e h.1.1.1.1;
         lawful = subst (λ (v : State). KeepsLawful n fits s me Event.Look (Ok (Outcome.Done None)) v) to h.1.0.1.1;
         rest = record { calls = cs; chain = subst (λ (v : State). Chain (on_line n fits me) v cs t) to h.2; follows = subst (λ (x : Tag). Follows (next x) cs r) e f };
       }
-  along_own next s r t (Own None ∷ []) h f = cc h.1.0.0
+  along_own next s r t (Own None ∷ []) h f = absurd (no_some (s.tags me) h.1.0.0)
   along_own next s r t _ h f = absurd f
 
   pub of_own : {next : Tag → Plan} {s : State} {r : Turn} {t : State} → Takes (on_line n fits me) (own next) s r t → LookedOn next s r t
@@ -69,9 +75,9 @@ module _ (n : ℕ) (fits : List ℕ → Type 0) (me : ℕ) where
 
   along_mem : (next : Mem → Plan) (s : State) (r : Turn) (t : State) (cs : List Call) → Chain (on_line n fits me) s cs t → Follows (mem next) cs r → Takes (on_line n fits me) (next s.memory) s r t
   along_mem next s r t (MemWas (Some m) ∷ cs) h f =
-      let e : m ≡ s.memory = cc h.1.0.0 in
+      let e : m ≡ s.memory = same_some m s.memory h.1.0.0 in
       record { calls = cs; chain = subst (λ (v : State). Chain (on_line n fits me) v cs t) h.1.0.1 h.2; follows = subst (λ (x : Mem). Follows (next x) cs r) e f }
-  along_mem next s r t (MemWas None ∷ []) h f = cc h.1.0.0
+  along_mem next s r t (MemWas None ∷ []) h f = absurd (no_some s.memory h.1.0.0)
   along_mem next s r t _ h f = absurd f
 
   pub of_mem : {next : Mem → Plan} {s : State} {r : Turn} {t : State} → Takes (on_line n fits me) (mem next) s r t → Takes (on_line n fits me) (next s.memory) s r t
@@ -79,9 +85,9 @@ module _ (n : ℕ) (fits : List ℕ → Type 0) (me : ℕ) where
 
   along_tag : (x : ℕ) (next : Tag → Plan) (s : State) (r : Turn) (t : State) (cs : List Call) → Chain (on_line n fits me) s cs t → Follows (tag x next) cs r → Takes (on_line n fits me) (next (s.tags x)) s r t
   along_tag x next s r t (TagWas y (Some m) ∷ cs) h f =
-      let e : m ≡ s.tags x = cc (h.1.0.0, f.0) in
+      let e : m ≡ s.tags x = same_some m (s.tags y) h.1.0.0 ∙ ap s.tags f.0 in
       record { calls = cs; chain = subst (λ (v : State). Chain (on_line n fits me) v cs t) h.1.0.1 h.2; follows = subst (λ (z : Tag). Follows (next z) cs r) e f.1 }
-  along_tag x next s r t (TagWas y None ∷ []) h f = cc h.1.0.0
+  along_tag x next s r t (TagWas y None ∷ []) h f = absurd (no_some (s.tags y) h.1.0.0)
   along_tag x next s r t _ h f = absurd f
 
   pub of_tag : {x : ℕ} {next : Tag → Plan} {s : State} {r : Turn} {t : State} → Takes (on_line n fits me) (tag x next) s r t → Takes (on_line n fits me) (next (s.tags x)) s r t

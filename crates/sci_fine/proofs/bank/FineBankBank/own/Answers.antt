@@ -3,7 +3,7 @@ use Rattle.std.proofs.Common.{rules, Some, refl, ap, get_or}
 use Rattle.sci_port.proofs.Banked.{written_back}
 use Rattle.sci_port.proofs.Seated.{own_form}
 use Rattle.sci_port.specs.declared.calls.Call.TheVariants.{Own}
-use Rattle.sci_fine.proofs.Banked.{calls, inside, makes_call, of_line, sit_after}
+use Rattle.sci_fine.proofs.Banked.{calls, inside, makes_call, near, of_line, sit_after}
 use Rattle.sci_fine.proofs.bank.FineBankBank.own.Goals as goal
 
 pub own-requires : goal.own-requires
@@ -28,11 +28,20 @@ returns-clause-look g c = (returns-clause-gives g c).2.owes.0
 pub returns-clause-form : goal.returns-clause-form
 returns-clause-form g c = own_form _ _ (Some c.own.result) (returns-clause-gives g c).2.owes.1
 
+pub returns-clause-own : goal.returns-clause-own
+returns-clause-own g c = (returns-clause-gives g c).2.owes.1.0
+
 pub bounds-self-from : goal.bounds-self-from
 bounds-self-from g c = rw c.from.ensures (inside g.K.Keeps.fits c.args.self.now.keep c.args.self.now.node c.args.self.now.lines.now c.args.self.now.seats.items c.args.self.now.of c.args.line c.requires)
 
 pub offset_bounds-self-from : goal.offset_bounds-self-from
 offset_bounds-self-from g c = scaled_Fits _ _ _ (bounds-self-from g c) (search rules)
+
+pub bounds-seats-from : goal.bounds-seats-from
+bounds-seats-from g c = rw (c.as_mut_slice-seats.ensures.value, c.from-2.ensures) (near g.K.Keeps.fits c.args.self.now.keep c.args.self.now.node c.args.self.now.lines.now c.args.self.now.seats.items c.args.self.now.of c.args.line c.requires)
+
+pub offset_bounds-seats-from : goal.offset_bounds-seats-from
+offset_bounds-seats-from g c = scaled_Fits _ _ _ (bounds-seats-from g c) (search rules)
 
 pub returns-clause-same_way : goal.returns-clause-same_way
 returns-clause-same_way g c = refl
