@@ -20,7 +20,7 @@ GOALS = re.compile(r"`search` did not prove (`[^`]+`(?:, `[^`]+`)*)")
 # an answer's own error; that others rest on a refused one, or that a file can't be read, is none
 ANSWER = re.compile(r": error: `[^`]+`: ")
 # a proof file that names what the edit took away says nothing of the contract
-NAMES = re.compile(r"has no field|is not in scope|has no `|was not admitted")
+NAMES = re.compile(r"has no field|\(nearest: |is not in scope|has no `|was not admitted")
 
 
 def run(words, folder):
