@@ -168,38 +168,81 @@ fn progress<'a>(rt: &impl AllocGlobal) -> Arg<'a> {
         .help("says on standard error each time that 100000 more calls of the nodes have ended")
 }
 
+/// A command that reads a file. It says nothing of its texts, so that no proof of the commands above it carries them.
+fn reader_of<'a>(
+    rt: &impl AllocGlobal,
+    name: &'a str,
+    about: &'a str,
+    help: &'a str,
+    file_help: &'a str,
+) -> Result<Command<'a>, AllocError> {
+    Command::new(rt.alloc(), name)
+        .about(about)
+        .after_help(help)
+        .arg(file(rt, file_help))
+}
+
+/// Adds the commands that run a script.
+fn with_scripts<'a>(
+    rt: &impl AllocGlobal,
+    program: Command<'a>,
+) -> Result<Command<'a>, AllocError> {
+    const FILE: &str = "the script; without it standard input is read";
+    let script = reader_of(
+        rt,
+        "script",
+        "Runs a script and prints its text",
+        SCRIPTS,
+        FILE,
+    )?;
+    let trace = reader_of(
+        rt,
+        "trace",
+        "Runs a script, and says of each turn what it did",
+        TRACES,
+        FILE,
+    )?;
+    let draw = reader_of(
+        rt,
+        "draw",
+        "Runs a script, and writes a page that shows each turn",
+        PAGES,
+        FILE,
+    )?;
+    program
+        .subcommand(script)?
+        .subcommand(trace)?
+        .subcommand(draw)
+}
+
+/// Adds the commands that run a workload, and check a dump.
+fn with_works<'a>(rt: &impl AllocGlobal, program: Command<'a>) -> Result<Command<'a>, AllocError> {
+    let run = reader_of(
+        rt,
+        "run",
+        "Runs a workload, each node in a thread of its own, and prints its result",
+        SETTINGS,
+        "the settings; without it standard input is read",
+    )?
+    .arg(progress(rt))?;
+    let check = reader_of(
+        rt,
+        "check",
+        "Checks that each line of a dump is an exact sharing list",
+        DUMPS,
+        "the dump; without it standard input is read",
+    )?;
+    program.subcommand(run)?.subcommand(check)
+}
+
 /// The program's commands.
 pub fn commands<'a>(rt: &impl AllocGlobal) -> Result<Command<'a>, AllocError> {
-    let script = Command::new(rt.alloc(), "script")
-        .about("Runs a script and prints its text")
-        .after_help(SCRIPTS)
-        .arg(file(rt, "the script; without it standard input is read"))?;
-    let trace = Command::new(rt.alloc(), "trace")
-        .about("Runs a script, and says of each turn what it did")
-        .after_help(TRACES)
-        .arg(file(rt, "the script; without it standard input is read"))?;
-    let draw = Command::new(rt.alloc(), "draw")
-        .about("Runs a script, and writes a page that shows each turn")
-        .after_help(PAGES)
-        .arg(file(rt, "the script; without it standard input is read"))?;
-    let run = Command::new(rt.alloc(), "run")
-        .about("Runs a workload, each node in a thread of its own, and prints its result")
-        .after_help(SETTINGS)
-        .arg(file(rt, "the settings; without it standard input is read"))?
-        .arg(progress(rt))?;
-    let check = Command::new(rt.alloc(), "check")
-        .about("Checks that each line of a dump is an exact sharing list")
-        .after_help(DUMPS)
-        .arg(file(rt, "the dump; without it standard input is read"))?;
-    Command::new(rt.alloc(), "scisim")
+    let program = Command::new(rt.alloc(), "scisim")
         .bin_name("scisim")?
         .version("0.1.0")
         .about(ABOUT)
         .after_help(STATUSES)
-        .subcommand_required(true)
-        .subcommand(script)?
-        .subcommand(trace)?
-        .subcommand(draw)?
-        .subcommand(run)?
-        .subcommand(check)
+        .subcommand_required(true);
+    let program = with_scripts(rt, program)?;
+    with_works(rt, program)
 }
