@@ -1,4 +1,5 @@
-"""Scripts: how many turns a second `scisim script` makes, beside a plain Rust simulator, and with small caches beside large ones."""
+"""Scripts: how many turns a second `scisim script` makes, beside a plain Rust simulator, and with small caches beside large ones;
+and how many `scisim trace` makes beside it."""
 
 import collections
 import os
@@ -19,6 +20,8 @@ SETTINGS = [
 ]
 # nodes, lines, bytes of the script, and the capacities that are compared; 1,024 is no bound
 CAPACITIES = (64, 1024, MEBIBYTE, [1024, 4, 64])
+# nodes, lines, bytes of the script that is traced
+TRACES = [(8, 1, MEBIBYTE // 4), (64, 1, MEBIBYTE // 4), (8, 1024, MEBIBYTE // 4), (64, 1024, MEBIBYTE // 4)]
 # where the output goes
 OUTPUTS = {"null": subprocess.DEVNULL, "pipe": subprocess.PIPE}
 
@@ -125,9 +128,9 @@ def check(program, script, calls):
     return printed
 
 
-def seconds(program, script, output):
+def seconds(program, script, output, command="script"):
     """The seconds that a whole run was on a processor."""
-    process = subprocess.Popen([program, "script", script], stdout=OUTPUTS[output])
+    process = subprocess.Popen([program, command, script], stdout=OUTPUTS[output])
     if process.stdout:
         with process.stdout as pipe:
             while os.read(pipe.fileno(), 1 << 16):
@@ -176,6 +179,34 @@ def measure_capacities(program, runs, each_turn):
         rates = {capacity: turns / best[capacity] / 1e6 for capacity, (_, _, turns) in scripts.items()}
         for capacity, (_, length, turns) in scripts.items():
             print(f"{nodes:5} {lines:5} {capacity:8} {length:9} {turns:8} {rates[capacity]:8.2f} M/s {rates[capacity] / rates[1024]:5.2f}", flush=True)
+
+
+def check_trace(program, script, turns):
+    """A trace has a line for each turn, and beside these the lines of the script's text."""
+    traced = subprocess.run([program, "trace", script], stdout=subprocess.PIPE, check=True).stdout.splitlines(True)
+    printed = subprocess.run([program, "script", script], stdout=subprocess.PIPE, check=True).stdout
+    if b"".join(line for line in traced if not line.startswith(b"#")) != printed or len(traced) - printed.count(b"\n") != turns:
+        sys.exit(f"{program}: a trace is to have a line for each of {turns} turns, and the text of the script")
+    return sum(map(len, traced))
+
+
+def measure_traces(program, runs):
+    """The turns that `trace` makes beside those of `script`, in turn, where `done` takes them and where each is a command."""
+    print("nodes lines by    turns    bytes of the trace       script        trace ratio", flush=True)
+    for nodes, lines, size in TRACES:
+        for each_turn in (False, True):
+            text, _, turns = script_of(nodes, lines, size, each_turn)
+            with tempfile.NamedTemporaryFile("w", suffix=".txt") as script:
+                script.write(text)
+                script.flush()
+                length = check_trace(program, script.name, turns)
+                best = dict.fromkeys(["script", "trace"], float("inf"))
+                for _ in range(runs):
+                    for command in best:
+                        best[command] = min(best[command], seconds(program, script.name, "null", command))
+            rates = [f"{turns / taken / 1e6:8.2f} M/s" for taken in best.values()]
+            by = "turn" if each_turn else "done"
+            print(f"{nodes:5} {lines:5} {by} {turns:7} {length:21}", *rates, f"{best['script'] / best['trace']:5.2f}", flush=True)
 
 
 def measure_all(programs, runs, each_turn):
