@@ -186,15 +186,31 @@ fn faults(rt: HostRuntime) -> Result<(), Fail> {
     Ok(())
 }
 
-/// A dump with one byte changed is refused at that byte's line or at a later one, or it is the dump of other lines.
+/// The line where SHARED is at fault with the byte at this place of this line changed to that: its own, but where another count or
+/// node's number stands that might be right. Then a later line is the first that can't be.
+fn fault_behind(place: usize, line: u64, byte: u8) -> u64 {
+    match (place, byte) {
+        // one node or two: the next node's tag stands where `end` must
+        (10, b'1') => 4,
+        (10, b'2') => 5,
+        // more lines: `end` stands where line 1 must
+        (12, b'2'..=b'9') => 6,
+        // a greater node: the next tag is not behind it
+        (62, b'1' | b'2') => 4,
+        (105, b'2') => 5,
+        _ => line,
+    }
+}
+
+/// A dump with one byte changed, to any other, is refused at that byte's line, but for the changes above; or it is a dump.
 #[test]
 fn changed_in_each_byte(rt: HostRuntime) -> Result<(), Fail> {
     let mut line = 1;
     for (place, old) in SHARED.as_bytes().iter().enumerate() {
-        for byte in b"\n\r 019afgx-" {
+        for byte in 0..=u8::MAX {
             let mut text = Vec::from_slice(rt.alloc(), SHARED.as_bytes())?;
             if let Some(changed) = text.get_mut(place) {
-                *changed = *byte;
+                *changed = byte;
             }
             match read_dump(rt.alloc(), &text) {
                 Ok(read) => {
@@ -202,10 +218,8 @@ fn changed_in_each_byte(rt: HostRuntime) -> Result<(), Fail> {
                     assert!(rt; again.as_bytes() == text.as_slice(), "byte {place}");
                 }
                 Err(refusal) => {
-                    assert!(rt;
-                        matches!(refusal, DumpRefusal::DumpFault(at) if line <= at && at <= 6),
-                        "byte {place}"
-                    );
+                    let fault = fault_behind(place, line, byte);
+                    assert_eq!(rt; refusal, DumpRefusal::DumpFault(fault), "byte {place}");
                 }
             }
         }

@@ -3,6 +3,7 @@ mod counts;
 mod doors;
 mod gates;
 mod growths;
+mod locked;
 mod lowest;
 mod meeting;
 mod nodes;

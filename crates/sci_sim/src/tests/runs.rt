@@ -73,6 +73,61 @@ fn runs(rt: HostRuntime) -> Result<(), Fail> {
     Ok(())
 }
 
+/// One node takes seven cells a phase on, from line 0 to line 1. Where it may name one line, it has left line 0 to memory.
+const TILE: &str =
+    "work = \"stencil\"\nnodes = 1\nphases = 1\ncells = [1, 1, 1, 1, 1, 1, 1]\ndump = true\n";
+
+const TILE_LEFT: &str = "cells 2 3 3 3 3 3 2\n\
+    scidump 1 1 2\n\
+    line 0 000000000000ff00 1 1 1 1 1 1 1 1 1\n\
+    line 1 0000000000000002 0 0 0 0 0 0 0 0 0\n\
+    tag 1 0 0000000000ffff03 1 2 2 3 3 3 3 3 2\n\
+    end\n";
+
+const TILE_KEPT: &str = "cells 2 3 3 3 3 3 2\n\
+    scidump 1 1 2\n\
+    line 0 0000000000000002 0 0 0 0 0 0 0 0 0\n\
+    tag 0 0 0000000000ffff03 1 1 1 1 1 1 1 1 1\n\
+    line 1 0000000000000002 0 0 0 0 0 0 0 0 0\n\
+    tag 1 0 0000000000ffff03 1 2 2 3 3 3 3 3 2\n\
+    end\n";
+
+/// One node passes an item to another, which has it at the head of line 0's list, or has left that list for the line behind.
+const ITEM: &str = "work = \"ring\"\nlines = 1\nitems = [7]\ndump = true\n";
+
+const ITEM_LEFT: &str = "items 7\n\
+    scidump 1 2 2\n\
+    line 0 0000000000000002 0 0 0 0 0 0 0 0 0\n\
+    tag 0 0 0000000000ffff03 1 1 7 0 0 0 0 0 0\n\
+    line 1 0000000000000102 0 0 0 0 0 0 0 0 0\n\
+    tag 1 1 0000000000ffff03 1 1 0 0 0 0 0 0 0\n\
+    end\n";
+
+const ITEM_KEPT: &str = "items 7\n\
+    scidump 1 2 2\n\
+    line 0 0000000000000102 0 0 0 0 0 0 0 0 0\n\
+    tag 0 0 000000000001ff07 1 1 7 0 0 0 0 0 0\n\
+    tag 0 1 0000000000ff0003 1 1 7 0 0 0 0 0 0\n\
+    line 1 0000000000000102 0 0 0 0 0 0 0 0 0\n\
+    tag 1 1 0000000000ffff03 1 1 0 0 0 0 0 0 0\n\
+    end\n";
+
+#[test]
+fn a_node_keeps_as_many_lines_as_it_may(rt: HostRuntime) -> Result<(), Fail> {
+    for (settings, capacity, text) in [
+        (TILE, 1, TILE_LEFT),
+        (TILE, 2, TILE_KEPT),
+        (ITEM, 1, ITEM_LEFT),
+        (ITEM, 2, ITEM_KEPT),
+    ] {
+        let settings = format!(in rt.alloc(); "{settings}capacity = {capacity}\n")?;
+        let (end, out) = ran(&rt, rt.alloc(), settings.as_bytes());
+        assert_eq!(rt; end, None, "of {settings}");
+        assert!(rt; out.as_slice() == text.as_bytes(), "text of {settings}");
+    }
+    Ok(())
+}
+
 /// So many numbers, each the three times of its place, with this in front of each and this between them.
 fn threes(alloc: Global, count: u64, front: &str, between: &str) -> Result<String, AllocError> {
     let mut text = String::new(alloc);

@@ -41,8 +41,8 @@ fn takes_in<R: Abort + Threads + Wait + Sync>(rt: &R, alloc: Global) -> Result<(
 }
 
 fn passes<R: Abort + Threads + Wait + Sync>(rt: &R, alloc: Global) -> Result<(), WorkRefusal> {
-    let (items, closed) = ring(rt, alloc, &[7], 1, 2, &OpenGate)?;
-    assert_eq!(rt; items.as_slice(), [7].as_slice());
+    let (items, closed) = ring(rt, alloc, &[7, 8], 1, 2, &OpenGate)?;
+    assert_eq!(rt; items.as_slice(), [7, 8].as_slice());
     assert_eq!(rt; closed.len(), 2);
     Ok(())
 }
