@@ -14,7 +14,7 @@ use Rattle.sci_coarse.specs.Seats.{AreIdleFrom}
 use Rattle.sci_coarse.proofs.Listed.{inside, at_end}
 use Rattle.sci_work.specs.declared.programs.Program.{Program}
 use Rattle.sci_work.specs.Hands.{AtEach}
-use Rattle.sci_work.specs.Locked.{AreIdleSeats, IsIdleSeatOf}
+use Rattle.sci_work.specs.Locked.{AreIdleSeats, IsIdleSeatOf, IsLockedPart}
 use Rattle.sci_work.specs.Programs.{Suits}
 
 module _ {K : Type 0} {g : keeps.Ghosts K} where
@@ -46,24 +46,31 @@ module _ {K : Type 0} {g : keeps.Ghosts K} where
   idle_on (x ∷ xs) idle zero = idle 0 x refl
   idle_on (x ∷ xs) idle (suc k) = idle_on xs (λ j s at. idle (suc j) s at) k
 
+  -- lines of one memory, numbered and under one fact, and a node's seats at them, are its part where the program suits the fact
+  pub part_of : (fits : K → ℕ → List ℕ → Type 0) (nodes : ℕ) (keep : K) (program : Program) (number : ℕ) (lines : List (CoarseLine K)) (seats : List (Seat K g))
+      → 0 < length lines → length lines ≤ 1024 → AtEach (IsLine nodes keep) lines → AreIdleSeats lines seats → Suits program (fits keep) (length lines) number → IsLockedPart fits lines program number seats
+  part_of fits nodes keep program number lines seats some_are few are all suits = record {
+    lines_are = record { some_are = some_are; few = few; nodes = nodes; keep = keep; each = are };
+    seats_are = all;
+    suits = λ l at. subst (λ (k : K). Suits program (fits k) (length lines) number) (sym (are 0 l at).fact) suits;
+  }
+
   -- a bank of these seats at these lines
-  module _ (nodes : ℕ) (keep : K) (lines : List (CoarseLine K)) (some_are : 0 < length lines) (are : AtEach (IsLine nodes keep) lines) (hand : List (Seat K g)) (all : AreIdleSeats lines hand)
-      (ls : List (CoarseLine K)) (seats : List (Seat K g)) (same : ls ≡ lines) (is : seats ≡ hand) (kept : K) (node : ℕ) (of : AreSeatsAt kept node ls seats) where
+  module _ (lines : List (CoarseLine K)) (hand : List (Seat K g)) (are : AreLines lines) (all : AreIdleSeats lines hand)
+      (ls : List (CoarseLine K)) (seats : List (Seat K g)) (same : ls ≡ lines) (is : seats ≡ hand) (keep : K) (node : ℕ) (of : AreSeatsAt keep node ls seats) where
     -- is Idle on every line
     pub idle_bank : (line : ℕ) → get_or (map (λ (s : Seat K g). s.standing.pending) seats) line Pending.Idle ≡ Pending.Idle
     idle_bank line = subst (λ (z : List (Seat K g)). get_or (map (λ (s : Seat K g). s.standing.pending) z) line Pending.Idle ≡ Pending.Idle) (sym is)
         (idle_on hand (λ k s at. let l = at_place lines k (subst (λ (n : ℕ). k < n) all.count (inside hand s k at)) in (all.each k l.0 s l.1 at).idle) line)
 
-    kept_is : kept ≡ keep
-    kept_is =
-        let at : AreSeatsAt kept node lines hand = subst (λ (z : List (Seat K g)). AreSeatsAt kept node lines z) is (subst (λ (z : List (CoarseLine K)). AreSeatsAt kept node z seats) same of) in
-        let l = at_place lines 0 some_are in let s = at_place hand 0 (subst (λ (n : ℕ). 0 < n) (sym all.count) some_are) in
-        sym (at.each 0 l.0 s.0 l.1 s.1).fact ∙ (are 0 l.0 l.1).fact
+    at_these : AreSeatsAt keep node lines hand
+    at_these = subst (λ (z : List (Seat K g)). AreSeatsAt keep node lines z) is (subst (λ (z : List (CoarseLine K)). AreSeatsAt keep node z seats) same of)
 
-    -- and what suits their fact suits its own
-    pub bank_suits : (fits : K → ℕ → List ℕ → Type 0) (program : Program) (number : ℕ) → Suits program (fits keep) (length lines) number
-        → Suits program (fits kept) (length (map (λ (l : CoarseLine K). l.terms.nodes) ls)) number
+    -- and what suits the first line's fact suits its own
+    pub bank_suits : (fits : K → ℕ → List ℕ → Type 0) (program : Program) (number : ℕ) → ((l : CoarseLine K) → get_elem? lines 0 ≡ some l → Suits program (fits l.terms.keep) (length lines) number)
+        → Suits program (fits keep) (length (map (λ (l : CoarseLine K). l.terms.nodes) ls)) number
     bank_suits fits program number suits =
-        subst (λ (z : List (CoarseLine K)). Suits program (fits kept) (length (map (λ (x : CoarseLine K). x.terms.nodes) z)) number) (sym same)
-        (subst (λ (n : ℕ). Suits program (fits kept) n number) (sym (length-map lines (λ (x : CoarseLine K). x.terms.nodes)))
-        (subst (λ (k : K). Suits program (fits k) (length lines) number) (sym kept_is) suits))
+        let l = at_place lines 0 are.some_are in let s = at_place hand 0 (subst (λ (n : ℕ). 0 < n) (sym all.count) are.some_are) in
+        subst (λ (z : List (CoarseLine K)). Suits program (fits keep) (length (map (λ (x : CoarseLine K). x.terms.nodes) z)) number) (sym same)
+        (subst (λ (n : ℕ). Suits program (fits keep) n number) (sym (length-map lines (λ (x : CoarseLine K). x.terms.nodes)))
+        (subst (λ (k : K). Suits program (fits k) (length lines) number) (at_these.each 0 l.0 s.0 l.1 s.1).fact (suits l.0 l.1)))

@@ -213,7 +213,8 @@ fn first_refusal<K: Keeps>(
 
 // All of so many nodes were started, and each has its share.
 fn have_ended<K: Keeps>(done: &[Done<K, Vec<u64>>], nodes: usize) -> bool
-    ensures { (d : _) → IsTrue result ↔ HaveEnded (λ k. (slice_index_or done.now k d).share) (length done.now) nodes }
+    ensures all { IsTrue result → nodes ≤ length done.now }
+    ensures ended { (d : _) → IsTrue result ↔ HaveEnded (λ k. (slice_index_or done.now k d).share) (length done.now) nodes }
 {
     for one in done {
         if one.share.is_err() {
@@ -233,7 +234,8 @@ fn settled<K: Keeps>(
     requires { All (λ one. IfErr one.share (ComesInPart program)) done.now }
     ensures comes { IfErr result (ComesInStart program.entry) }
     ensures answer { IfErr result (λ e. (d : _) → IsAnswerOf (λ k. (slice_index_or done.now k d).share) (length done.now) nodes e) }
-    ensures ended { OnOk result ((d : _) → HaveEnded (λ k. (slice_index_or done.now k d).share) (length done.now) nodes) }
+    ensures all { OnOk result (nodes ≤ length done.now) }
+    ensures ended { OnOk result ((k : ℕ) (d : _) → k < length done.now → IsOk (slice_index_or done.now k d).share) }
 {
     match first_refusal(done, program) {
         Err(refusal) => Err(refusal),

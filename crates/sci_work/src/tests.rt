@@ -7,6 +7,7 @@ mod locked;
 mod lowest;
 mod meeting;
 mod nodes;
+mod overrun;
 mod passing;
 mod refusals;
 mod rings;

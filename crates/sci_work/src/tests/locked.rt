@@ -1,9 +1,8 @@
 //! The workers over lines under a lock word, in two threads: what they give is what they give on separate words.
-ghost use Rattle.std.specs.Prelude.{◌≡◌, ◌<◌, ◌≤◌, ◌≢◌, ℕ, length, replicate, IfSome};
+ghost use Rattle.std.specs.Prelude.{◌≡◌, ◌<◌, ◌≤◌, ℕ, length, replicate, IfSome};
 ghost use Rattle.sci_coarse.specs.Banks.{IsLine};
-ghost use Rattle.sci_core.specs.declared.pending.Pending.TheVariants.{Idle};
 ghost use Rattle.sci_work.specs.Hands.{AtEach};
-ghost use Rattle.sci_work.specs.Locked.{AreIdleSeats};
+ghost use Rattle.sci_work.specs.Locked.{AreIdleSeats, IsLockedPart};
 ghost use Rattle.sci_work.specs.Programs.{Suits};
 
 use crate::doors::Door;
@@ -18,7 +17,7 @@ use sci_ops::Answer;
 use sci_port::Bank;
 use std::alloc::Global;
 use std::sync::Wait;
-use std::sync::atomic::{AtomicBool, Ordering};
+use std::sync::atomic::AtomicBool;
 use std::test::Fail;
 use std::thread;
 use std::thread::Threads;
@@ -60,71 +59,39 @@ fn opened<K: Keeps>(
     Some((lines, first, second))
 }
 
-// The program as this node runs it in its thread, with a table of two lines; and its bank.
-fn ran<R: Wait, B: Bank + Drop>(
-    rt: &R,
-    alloc: Global,
-    stop: &AtomicBool,
-    bank: B,
-    program: Program<'_>,
-    number: u16,
-) -> (Share, B)
-    requires idle { (line : ℕ) → B.at_step bank line ≡ Idle }
-    requires suits { Suits program (B.Keep.fits (B.keep bank)) (B.way bank).lines number }
-{
-    let mut bank = bank;
-    let mut door = Door::new(&OpenGate, stop, number);
-    let share = share_of(rt, alloc, &mut door, &mut bank, program, number, 2);
-    if share.is_err() {
-        door.raise();
-    }
-    (share, bank)
-}
-
-// Word 0 of a line as the bank's node sees it.
-fn word_on<R: Wait, B: Bank>(rt: &R, alloc: Global, bank: &mut B, line: u16) -> Option<u64> {
-    if line >= bank.lines() {
-        return None;
-    }
+// Word 0 of the last line as the bank's node sees it.
+fn last_word<R: Wait, B: Bank>(rt: &R, alloc: Global, bank: &mut B) -> Option<u64> {
+    let last = bank.lines().checked_sub(1)?;
     let mut node = Node::new(alloc, bank.node(), bank.lines(), 1).ok()?;
-    let Ok(Answer::Seen { words, .. }) = node.load(rt, bank, line) else {
+    let Ok(Answer::Seen { words, .. }) = node.load(rt, bank, last) else {
         return None;
     };
     Some(words[0])
 }
 
-// Both nodes' shares, each run in a thread of its own, and word 0 of the last line behind them.
-fn both<R: Threads + Wait + Sync, B: Bank + Drop + Send>(
+// A node's thread, with a table of two lines: its share, and what it then sees of the last line.
+fn ran<R: Wait, K: Keeps>(
     rt: &R,
     alloc: Global,
-    zero: B,
-    one: B,
+    stop: &AtomicBool,
+    lines: &[CoarseLine<K>],
+    seats: Vec<Seat<K>>,
     program: Program<'_>,
-) -> Option<(Share, Share, u64)>
-    requires idle { ((line : ℕ) → B.at_step zero line ≡ Idle) × ((line : ℕ) → B.at_step one line ≡ Idle) }
-    requires first { Suits program (B.Keep.fits (B.keep zero)) (B.way zero).lines 0 }
-    requires second { Suits program (B.Keep.fits (B.keep one)) (B.way one).lines 1 }
+    number: u16,
+) -> Option<(Share, u64)>
+    requires { IsLockedPart K.fits lines.now program number seats.items }
 {
-    let stop = AtomicBool::new(false);
-    let mark = &stop;
-    let (first, second) = thread::join(
-        rt,
-        move || -> (Share, B)
-            requires idle { (line : ℕ) → B.at_step zero line ≡ Idle }
-            requires suits { Suits program (B.Keep.fits (B.keep zero)) (B.way zero).lines 0 }
-        { ran(rt, alloc, mark, zero, program, 0) },
-        move || -> (Share, B)
-            requires idle { (line : ℕ) → B.at_step one line ≡ Idle }
-            requires suits { Suits program (B.Keep.fits (B.keep one)) (B.way one).lines 1 }
-        { ran(rt, alloc, mark, one, program, 1) },
-    );
-    let (first, mut bank) = first;
-    let last = bank.lines().saturating_sub(1);
-    let word = word_on(rt, alloc, &mut bank, last)?;
-    (!stop.load(Ordering::SeqCst)).then_some((first, second.0, word))
+    let Ok(mut bank) = CoarseBank::new(lines, seats) else {
+        return None;
+    };
+    let mut door = Door::new(&OpenGate, stop, number);
+    let share = share_of(rt, alloc, &mut door, &mut bank, program, number, 2);
+    let share = door.told(share);
+    let word = last_word(rt, alloc, &mut bank)?;
+    Some((share, word))
 }
 
-// The same over so many lines under a lock word.
+// Both nodes in threads of their own, over so many lines: their shares, and word 0 of the last line, which only grows.
 fn worked<R: Threads + Wait + Sync, K: Keeps + Send + Sync>(
     rt: &R,
     alloc: Global,
@@ -136,15 +103,20 @@ fn worked<R: Threads + Wait + Sync, K: Keeps + Send + Sync>(
     requires fits { (number : ℕ) → K.fits keep number (replicate 8 0) }
     requires suits { (number : ℕ) → number < 2 → Suits program (K.fits keep) count number }
 {
-    let (lines, first, second) = opened(alloc, count, keep)?;
-    let lines = lines.as_slice();
-    let Ok(zero) = CoarseBank::new(lines, first) else {
-        return None;
-    };
-    let Ok(one) = CoarseBank::new(lines, second) else {
-        return None;
-    };
-    both(rt, alloc, zero, one, program)
+    let (lines, zero, one) = opened(alloc, count, keep)?;
+    let stop = AtomicBool::new(false);
+    let (lines, mark) = (lines.as_slice(), &stop);
+    let (zero, one) = thread::join(
+        rt,
+        move || -> Option<(Share, u64)>
+            requires { IsLockedPart K.fits lines.now program 0 zero.items }
+        { ran(rt, alloc, mark, lines, zero, program, 0) },
+        move || -> Option<(Share, u64)>
+            requires { IsLockedPart K.fits lines.now program 1 one.items }
+        { ran(rt, alloc, mark, lines, one, program, 1) },
+    );
+    let ((zero, before), (one, behind)) = (zero?, one?);
+    Some((zero, one, before.max(behind)))
 }
 
 #[test]
