@@ -1,6 +1,5 @@
 pub mod Ended
 pub mod Hands
-pub mod Locked
 pub mod Made
 pub mod Plain
 pub mod Programs
