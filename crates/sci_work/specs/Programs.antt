@@ -4,6 +4,7 @@ use Rattle.sci_ops.specs.declared.goals.Goal.{Goal}
 use Rattle.sci_ops.specs.declared.goals.Write.{Write}
 use Rattle.sci_ops.specs.Change.{StoresFitting}
 use Rattle.sci_work.specs.declared.programs.Program.{Program}
+use Rattle.sci_work.specs.declared.refusals.WorkRefusal.{WorkRefusal}
 use Rattle.sci_work.specs.Plain.{plain}
 use Rattle.sci_work.specs.Ring.{IsRing, IsRingSize}
 use Rattle.sci_work.specs.Shares.{IsShare, IsWork}
@@ -17,3 +18,16 @@ abbrev pub IsShareOf : Program → ℕ → List ℕ → Type 0
 IsShareOf (Program.Count adds) number share = Unit {0}
 IsShareOf (Program.Ring source lines) number share = number ≡ 1 → share ≡ source.now
 IsShareOf (Program.Stencil work) number share = IsShare (plain work.cells.now work.phases) work.nodes number work.tiles share
+
+-- whether its nodes await items or phases of others
+abbrev pub Awaits : Program → Type 0
+Awaits (Program.Count adds) = ⊥
+Awaits (Program.Ring source lines) = Unit {0}
+Awaits (Program.Stencil work) = Unit {0}
+
+-- a node's part refuses with 7, 11, 20 or 25, and with 19 where it awaits others
+abbrev pub ComesInPart : Program → WorkRefusal → Type 0
+ComesInPart program WorkRefusal.BadSettings = ⊥
+ComesInPart program WorkRefusal.NoThread = ⊥
+ComesInPart program WorkRefusal.Overrun = Awaits program
+ComesInPart program refusal = Unit {0}

@@ -1,5 +1,5 @@
 -- What a node's thread is started with, and what it ends with. This project's own.
-use Rattle.std.specs.Prelude.{◌≡◌, ◌≢◌, ℕ, ◌<◌, ◌≤◌, ◌⊎◌, List, length, Result, Err, IfOk, IfErr, vec_len}
+use Rattle.std.specs.Prelude.{◌≡◌, ◌≢◌, ℕ, ◌<◌, ◌≤◌, ◌⊎◌, List, length, Result, Err, IsOk, IfOk, IfErr, vec_len}
 use Rattle.std.specs.Global.{Vec}
 use mathlib.Core.Option.{some}
 use lib.ListN.{get_elem?}
@@ -9,9 +9,8 @@ use Rattle.sci_fine.specs.declared.seats.Seat.{Seat}
 use Rattle.sci_fine.specs.Banks.{AreLines}
 use Rattle.sci_work.specs.declared.programs.Program.{Program}
 use Rattle.sci_work.specs.declared.refusals.WorkRefusal.{WorkRefusal}
-use Rattle.sci_work.specs.Made.{ComesInWork}
 use Rattle.sci_work.specs.Hands.{AtEach, IsHandOf}
-use Rattle.sci_work.specs.Programs.{IsShareOf, Suits}
+use Rattle.sci_work.specs.Programs.{Awaits, ComesInPart, IsShareOf, Suits}
 
 -- the lines of one memory, the node's seats at them, and a program that suits their fact
 pub record IsPart {K : Type 0} {g : keeps.Ghosts K} (fits : K → ℕ → List ℕ → Type 0) (lines : List (FineLine K)) (program : Program) (number : ℕ) (seats : List (Seat K g)) : Type 0 where
@@ -30,7 +29,7 @@ pub record AreParts {K : Type 0} {g : keeps.Ghosts K} (fits : K → ℕ → List
 pub record IsPartDone {K : Type 0} {g : keeps.Ghosts K} (lines : List (FineLine K)) (program : Program) (number : ℕ) (seats : List (Seat K g)) (share : Result (Vec ℕ) WorkRefusal) : Type 0 where
   pub hand : IsHandOf lines number seats
   pub share_is : IfOk share (λ s. IsShareOf program number s.items)
-  pub refused : IfErr share ComesInWork
+  pub refused : IfErr share (ComesInPart program)
 
 -- what so many nodes have ended with: their seats, Idle again, and their shares
 pub record AreEnded {K : Type 0} {g : keeps.Ghosts K} (lines : List (FineLine K)) (program : Program) (nodes : ℕ) (hands : Vec (Vec (Seat K g))) (shares : Vec (Vec ℕ)) : Type 0 where
@@ -39,14 +38,31 @@ pub record AreEnded {K : Type 0} {g : keeps.Ghosts K} (lines : List (FineLine K)
   pub share_count : vec_len shares ≡ nodes
   pub shares_are : AtEach (λ k share. IsShareOf program k share.items) shares.items
 
--- a workload whose numbers are within the limits doesn't refuse with 22
-abbrev pub ComesInStart : WorkRefusal → Type 0
-ComesInStart WorkRefusal.BadSettings = ⊥
-ComesInStart refusal = Unit {0}
+-- a program whose numbers are within the limits refuses with 7, 11, 20 or 26, and with 19 where its nodes await others
+abbrev pub ComesInStart : Program → WorkRefusal → Type 0
+ComesInStart program WorkRefusal.BadSettings = ⊥
+ComesInStart program WorkRefusal.Stopped = ⊥
+ComesInStart program WorkRefusal.Overrun = Awaits program
+ComesInStart program refusal = Unit {0}
+
+-- a workload never refuses with 25
+abbrev pub ComesInRun : WorkRefusal → Type 0
+ComesInRun WorkRefusal.Stopped = ⊥
+ComesInRun refusal = Unit {0}
+
+-- and a count never with 19
+abbrev pub ComesInCount : WorkRefusal → Type 0
+ComesInCount WorkRefusal.Stopped = ⊥
+ComesInCount WorkRefusal.Overrun = ⊥
+ComesInCount refusal = Unit {0}
 
 -- a share, or 25: no refusal of the node's own
 abbrev pub IsNoRefusal : Result (Vec ℕ) WorkRefusal → Type 0
 IsNoRefusal share = IfErr share (λ e. e ≡ WorkRefusal.Stopped)
+
+-- all of so many nodes were started, and each has its share
+abbrev pub HaveEnded : (ℕ → Result (Vec ℕ) WorkRefusal) → ℕ → ℕ → Type 0
+HaveEnded shares started nodes = (nodes ≤ started) × ((k : ℕ) → k < started → IsOk (shares k))
 
 -- the refusal of the lowest of so many nodes whose refusal isn't 25
 pub record IsLowestRefusal (shares : ℕ → Result (Vec ℕ) WorkRefusal) (nodes : ℕ) (refusal : WorkRefusal) : Type 0 where
@@ -56,7 +72,7 @@ pub record IsLowestRefusal (shares : ℕ → Result (Vec ℕ) WorkRefusal) (node
   pub own : refusal ≢ WorkRefusal.Stopped
   pub below : (k : ℕ) → k < node → IsNoRefusal (shares k)
 
--- of so many nodes that were started, out of all: that refusal, or 26 where none of them refuses and not all were started
+-- of so many nodes that were started, out of all: that refusal, or 26 where none of them refuses and not all have ended
 abbrev pub IsAnswerOf : (ℕ → Result (Vec ℕ) WorkRefusal) → ℕ → ℕ → WorkRefusal → Type 0
 IsAnswerOf shares started nodes refusal =
-    IsLowestRefusal shares started refusal ⊎ ((refusal ≡ WorkRefusal.NoThread) × (started < nodes) × ((k : ℕ) → k < started → IsNoRefusal (shares k)))
+    IsLowestRefusal shares started refusal ⊎ ((refusal ≡ WorkRefusal.NoThread) × (HaveEnded shares started nodes → ⊥) × ((k : ℕ) → k < started → IsNoRefusal (shares k)))

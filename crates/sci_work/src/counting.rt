@@ -2,7 +2,7 @@
 ghost use Rattle.std.specs.Prelude.{◌≡◌, ◌≢◌, ◌<◌, ◌≤◌, ◌↔◌, Err, length, IfOk, IfErr, IsTrue};
 ghost use Rattle.sci_core.specs.Closed.{IsExactClosed};
 ghost use Rattle.sci_work.specs.Ended.{HaveNodes, IsCounted, IsCountSize};
-ghost use Rattle.sci_work.specs.Starts.{ComesInStart};
+ghost use Rattle.sci_work.specs.Starts.{ComesInCount, ComesInStart};
 
 use crate::gates::Gate;
 use crate::programs::Program;
@@ -25,6 +25,7 @@ fn is_count_size(nodes: u16, adds: u64, capacity: u16) -> bool
 }
 
 // The line as it is closed, once each node has ended its adds.
+#[tactic(auto, using(crate::proofs::Refusing::of_memory))]
 fn counted<R: Threads + Wait + Sync, G: Gate>(
     rt: &R,
     alloc: Global,
@@ -36,7 +37,7 @@ fn counted<R: Threads + Wait + Sync, G: Gate>(
     requires { (0 < nodes) × (nodes ≤ 64) }
     ensures ok { IfOk result (λ closed. IsExactClosed closed) }
     ensures nodes { IfOk result (λ closed. length closed.tags ≡ nodes) }
-    ensures err { IfErr result ComesInStart }
+    ensures err { IfErr result (ComesInStart (Program.Count adds)) }
 {
     let (line, seats) = match FineLine::new(alloc, nodes, 0, Line::ZERO, AnyWords) {
         Ok(made) => made,
@@ -66,6 +67,7 @@ fn counted<R: Threads + Wait + Sync, G: Gate>(
 /// line is closed, and the closed line, an exact sharing list. A node's table names up to 1,024 lines. It may wait for ever. The
 /// refusals: 22 for a number outside these limits; then that of the lowest node whose refusal isn't 25: 7, 11, 20 where the gate
 /// held a call back to its limit, and 26 where the node's thread couldn't be started. A refused growth outside the nodes is 7.
+#[tactic(auto, using(crate::proofs::Refusing::in_count))]
 pub fn count<R: Threads + Wait + Sync, G: Gate>(
     rt: &R,
     alloc: Global,
@@ -77,6 +79,7 @@ pub fn count<R: Threads + Wait + Sync, G: Gate>(
     ensures limits { (result ≡ Err WorkRefusal.BadSettings) ↔ (IsCountSize nodes adds capacity → ⊥) }
     ensures ok { IfOk result (λ r. IsCounted r.0 r.1.items) }
     ensures nodes { IfOk result (λ r. HaveNodes nodes r.1.items) }
+    ensures err { IfErr result ComesInCount }
 {
     if !is_count_size(nodes, adds, capacity) {
         return Err(WorkRefusal::BadSettings);

@@ -3,8 +3,8 @@ ghost use Rattle.std.specs.Prelude.{◌≡◌, ◌<◌, IfOk, IfErr};
 ghost use Rattle.sci_ops.specs.declared.goals.Goal as goal;
 ghost use Rattle.sci_ops.specs.declared.goals.Write as write;
 ghost use Rattle.sci_ops.specs.Change.{StoresFitting};
-ghost use Rattle.sci_work.specs.Made.{ComesInCall, ComesInWork};
-ghost use Rattle.sci_work.specs.Programs.{IsShareOf, Suits};
+ghost use Rattle.sci_work.specs.Made.{ComesInCall};
+ghost use Rattle.sci_work.specs.Programs.{ComesInPart, IsShareOf, Suits};
 ghost use Rattle.sci_work.specs.Workers.{IsReady, Led};
 
 use crate::calls::added;
@@ -53,7 +53,7 @@ fn counted<R: Wait, G: Gate, B: Bank>(
 }
 
 /// The node's part. It ends with no call open.
-#[tactic(auto, using(crate::proofs::Refusing::of_call))]
+#[tactic(auto, using(crate::proofs::Refusing::part_of_call, crate::proofs::Refusing::part_of_work))]
 pub(crate) fn run<R: Wait, G: Gate, B: Bank>(
     rt: &R,
     alloc: Global,
@@ -66,7 +66,7 @@ pub(crate) fn run<R: Wait, G: Gate, B: Bank>(
     requires ready { IsReady B.at_step (B.way bank.old) node.old bank.old }
     requires suits { Suits program (B.Keep.fits (B.keep bank.old)) (B.way bank.old).lines number }
     ensures share { IfOk result (λ share. IsShareOf program.entry number share.items) }
-    ensures err { IfErr result ComesInWork }
+    ensures err { IfErr result (ComesInPart program.entry) }
     ensures ready { IsReady B.at_step (B.way bank.new) node.new bank.new }
     ensures led { Led B.gives bank.old bank.new }
     ensures same_way { B.way bank.new ≡ B.way bank.old }

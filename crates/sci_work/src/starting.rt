@@ -1,11 +1,10 @@
 //! A thread a node.
-ghost use Rattle.std.specs.Prelude.{◌≡◌, ℕ, ◌<◌, ◌≤◌, All, IfOk, IfErr, OnOk, length, slice_index_or, vec_capacity, vec_len};
+ghost use Rattle.std.specs.Prelude.{◌≡◌, ◌↔◌, ℕ, ◌<◌, ◌≤◌, All, IfOk, IfErr, IsOk, IsTrue, OnOk, length, slice_index_or, vec_capacity, vec_len};
 ghost use Rattle.std.specs.PromisedHandle.{KeepsEach};
 ghost use Rattle.sci_core.specs.declared.pending.Pending.TheVariants.{Idle};
 ghost use Rattle.sci_work.specs.Hands.{AtEach};
-ghost use Rattle.sci_work.specs.Made.{ComesInWork};
-ghost use Rattle.sci_work.specs.Programs.{IsShareOf, Suits};
-ghost use Rattle.sci_work.specs.Starts.{AreEnded, AreParts, ComesInStart, IsAnswerOf, IsLowestRefusal, IsNoRefusal, IsPart, IsPartDone};
+ghost use Rattle.sci_work.specs.Programs.{ComesInPart, IsShareOf, Suits};
+ghost use Rattle.sci_work.specs.Starts.{AreEnded, AreParts, ComesInStart, HaveEnded, IsAnswerOf, IsLowestRefusal, IsNoRefusal, IsPart, IsPartDone};
 ghost use Rattle.sci_work.specs.Workers.{Led};
 
 use crate::doors::Door;
@@ -40,8 +39,8 @@ impl<'s, 'a, K: Keeps> Promise<Done<K, Vec<u64>>> for PartOf<'s, 'a, K> {
 /// A node's thread that runs.
 type Running<'s, 'a, K> = PromisedHandle<Done<K, Vec<u64>>, PartOf<'s, 'a, K>>;
 
-// The program, run by a node that names no line yet.
-fn share_of<R: Wait, G: Gate, B: Bank>(
+/// The program, run by a node that names no line yet.
+pub(crate) fn share_of<R: Wait, G: Gate, B: Bank>(
     rt: &R,
     alloc: Global,
     door: &mut Door<'_, G>,
@@ -53,7 +52,7 @@ fn share_of<R: Wait, G: Gate, B: Bank>(
     requires idle { (line : ℕ) → B.at_step bank.old line ≡ Idle }
     requires suits { Suits program (B.Keep.fits (B.keep bank.old)) (B.way bank.old).lines number }
     ensures share { IfOk result (λ share. IsShareOf program.entry number share.items) }
-    ensures err { IfErr result ComesInWork }
+    ensures err { IfErr result (ComesInPart program.entry) }
     ensures idle { (line : ℕ) → B.at_step bank.new line ≡ Idle }
     ensures led { Led B.gives bank.old bank.new }
 {
@@ -166,7 +165,6 @@ fn joined<R: Threads, T: Drop, P: Promise<T>>(
 }
 
 // Starts the nodes, and joins those that were started. It takes memory only before the first start.
-#[tactic(auto, using(crate::proofs::Refusing::of_memory))]
 fn start_all<'s, 'a: 's, E, R: Threads + Wait + Sync, G: Gate, K: Keeps + Send + Sync + 's>(
     rt: &'s R,
     scope: &'s Scope<'s, E>,
@@ -181,7 +179,7 @@ fn start_all<'s, 'a: 's, E, R: Threads + Wait + Sync, G: Gate, K: Keeps + Send +
     requires { AreParts K.fits lines.now program hands }
     ensures few { IfOk result (λ done. vec_len done ≤ vec_len hands) }
     ensures each { IfOk result (λ done. AtEach (λ k one. IsPartDone lines.now program.entry k one.hand.items one.share) done.items) }
-    ensures err { IfErr result ComesInStart }
+    ensures err { IfErr result (λ e. e ≡ WorkRefusal.OutOfMemory) }
 {
     let handles = Vec::with_capacity(alloc, hands.len())?;
     let room = Vec::with_capacity(alloc, hands.len())?;
@@ -192,12 +190,17 @@ fn start_all<'s, 'a: 's, E, R: Threads + Wait + Sync, G: Gate, K: Keeps + Send +
 }
 
 // The refusal of the first node whose refusal isn't 25, if there is one.
-fn first_refusal<K: Keeps>(done: &[Done<K, Vec<u64>>]) -> Result<(), WorkRefusal>
-    requires { All (λ one. IfErr one.share ComesInWork) done.now }
-    ensures comes { IfErr result ComesInWork }
+#[tactic(auto, using(crate::proofs::Refusing::of_part))]
+fn first_refusal<K: Keeps>(
+    done: &[Done<K, Vec<u64>>],
+    program: Program<'_>,
+) -> Result<(), WorkRefusal>
+    requires { All (λ one. IfErr one.share (ComesInPart program)) done.now }
+    ensures comes { IfErr result (ComesInStart program.entry) }
     ensures lowest { IfErr result (λ e. (d : _) → IsLowestRefusal (λ k. (slice_index_or done.now k d).share) (length done.now) e) }
     ensures none { OnOk result ((k : ℕ) (d : _) → k < length done.now → IsNoRefusal (slice_index_or done.now k d).share) }
 {
+    let _ = program;
     for one in done {
         if let Err(refusal) = &one.share {
             if *refusal != WorkRefusal::Stopped {
@@ -208,33 +211,50 @@ fn first_refusal<K: Keeps>(done: &[Done<K, Vec<u64>>]) -> Result<(), WorkRefusal
     Ok(())
 }
 
-// Whether so many nodes have ended well: else the refusal of the first whose refusal isn't 25, or 26 where one wasn't started.
-#[tactic(auto, using(crate::proofs::Refusing::of_worker))]
-fn settled<K: Keeps>(done: &[Done<K, Vec<u64>>], nodes: usize) -> Result<(), WorkRefusal>
-    requires { All (λ one. IfErr one.share ComesInWork) done.now }
-    ensures comes { IfErr result ComesInStart }
+// All of so many nodes were started, and each has its share.
+fn have_ended<K: Keeps>(done: &[Done<K, Vec<u64>>], nodes: usize) -> bool
+    ensures all { IsTrue result → nodes ≤ length done.now }
+    ensures ended { (d : _) → IsTrue result ↔ HaveEnded (λ k. (slice_index_or done.now k d).share) (length done.now) nodes }
+{
+    for one in done {
+        if one.share.is_err() {
+            return false;
+        }
+    }
+    nodes <= done.len()
+}
+
+// Whether so many nodes have ended well: else the refusal of the first whose refusal isn't 25. Without one it was the starter that
+// raised the mark: 26.
+fn settled<K: Keeps>(
+    done: &[Done<K, Vec<u64>>],
+    nodes: usize,
+    program: Program<'_>,
+) -> Result<(), WorkRefusal>
+    requires { All (λ one. IfErr one.share (ComesInPart program)) done.now }
+    ensures comes { IfErr result (ComesInStart program.entry) }
     ensures answer { IfErr result (λ e. (d : _) → IsAnswerOf (λ k. (slice_index_or done.now k d).share) (length done.now) nodes e) }
     ensures all { OnOk result (nodes ≤ length done.now) }
-    ensures none { OnOk result ((k : ℕ) (d : _) → k < length done.now → IsNoRefusal (slice_index_or done.now k d).share) }
+    ensures ended { OnOk result ((k : ℕ) (d : _) → k < length done.now → IsOk (slice_index_or done.now k d).share) }
 {
-    match first_refusal(done) {
+    match first_refusal(done, program) {
         Err(refusal) => Err(refusal),
-        Ok(()) if done.len() < nodes => Err(WorkRefusal::NoThread),
-        Ok(()) => Ok(()),
+        Ok(()) if have_ended(done, nodes) => Ok(()),
+        Ok(()) => Err(WorkRefusal::NoThread),
     }
 }
 
 // Each node's seats, and each node's share.
-#[tactic(auto, using(crate::proofs::Refusing::of_memory))]
 fn parted<K: Keeps>(
     alloc: Global,
     lines: &[FineLine<K>],
     program: Program<'_>,
     done: Vec<Done<K, Vec<u64>>>,
 ) -> Result<(Vec<Hand<K>>, Vec<Vec<u64>>), WorkRefusal>
-    requires { AtEach (λ k one. IsPartDone lines.now program k one.hand.items one.share) done.items }
+    requires done { AtEach (λ k one. IsPartDone lines.now program k one.hand.items one.share) done.items }
+    requires ended { AtEach (λ k one. IsOk one.share) done.items }
     ensures ok { IfOk result (λ r. AreEnded lines.now program.entry (vec_len done) r.0 r.1) }
-    ensures err { IfErr result ComesInStart }
+    ensures err { IfErr result (λ e. e ≡ WorkRefusal.OutOfMemory) }
 {
     let _ = lines;
     let _ = program;
@@ -247,7 +267,7 @@ fn parted<K: Keeps>(
                 hands.push_reserved(hand);
                 shares.push_reserved(share);
             }
-            Err(refusal) => return Err(refusal),
+            Err(_) => unreachable!(),
         }
     }
     Ok((hands, shares))
@@ -256,6 +276,7 @@ fn parted<K: Keeps>(
 /// Runs the program in a thread for each node, over these lines: their seats again, all Idle, and each node's share. The
 /// refusals: 7 before the first start, then that of the first node whose refusal isn't 25, then 26 where a node's thread
 /// couldn't be started.
+#[tactic(auto, using(crate::proofs::Refusing::of_memory))]
 pub(crate) fn run_all<R: Threads + Wait + Sync, G: Gate, K: Keeps + Send + Sync>(
     rt: &R,
     alloc: Global,
@@ -267,7 +288,7 @@ pub(crate) fn run_all<R: Threads + Wait + Sync, G: Gate, K: Keeps + Send + Sync>
 ) -> Result<(Vec<Hand<K>>, Vec<Vec<u64>>), WorkRefusal>
     requires { AreParts K.fits lines.now program hands }
     ensures ok { IfOk result (λ r. AreEnded lines.now program.entry (vec_len hands) r.0 r.1) }
-    ensures err { IfErr result ComesInStart }
+    ensures err { IfErr result (ComesInStart program.entry) }
 {
     let nodes = hands.len();
     let stop = AtomicBool::new(false);
@@ -279,13 +300,13 @@ pub(crate) fn run_all<R: Threads + Wait + Sync, G: Gate, K: Keeps + Send + Sync>
             requires { AreParts K.fits lines.now program hands }
             ensures few { IfOk result (λ done. vec_len done ≤ vec_len hands) }
             ensures each { IfOk result (λ done. AtEach (λ k one. IsPartDone lines.entry.now program.entry k one.hand.items one.share) done.items) }
-            ensures err { IfErr result ComesInStart }
+            ensures err { IfErr result (λ e. e ≡ WorkRefusal.OutOfMemory) }
         {
             start_all(
                 rt, scope, alloc, gate, mark, lines, hands, program, capacity,
             )
         },
     )?;
-    settled(&done, nodes)?;
+    settled(&done, nodes, program)?;
     parted(alloc, lines, program, done)
 }

@@ -2,7 +2,7 @@
 ghost use Rattle.std.specs.Prelude.{◌≡◌, ◌+◌, ◌↔◌, Err, length, IfOk, IfErr};
 ghost use Rattle.sci_work.specs.Ended.{AreClosed, HaveNodes};
 ghost use Rattle.sci_work.specs.Ring.{FitsRing, IsRingRun, IsRingSize};
-ghost use Rattle.sci_work.specs.Starts.{ComesInStart};
+ghost use Rattle.sci_work.specs.Starts.{ComesInRun, ComesInStart};
 
 use crate::facts::RingFact;
 use crate::gates::Gate;
@@ -17,6 +17,7 @@ use std::sync::Wait;
 use std::thread::Threads;
 
 // The items at the sink, and the ring's lines as they are closed.
+#[tactic(auto, using(crate::proofs::Refusing::of_memory))]
 fn passed<R: Threads + Wait + Sync, G: Gate>(
     rt: &R,
     alloc: Global,
@@ -29,7 +30,7 @@ fn passed<R: Threads + Wait + Sync, G: Gate>(
     ensures items { IfOk result (λ r. r.0.items ≡ source.now) }
     ensures closed { IfOk result (λ r. AreClosed (FitsRing source.now lines) (lines + 1) r.1.items) }
     ensures nodes { IfOk result (λ r. HaveNodes 2 r.1.items) }
-    ensures err { IfErr result ComesInStart }
+    ensures err { IfErr result (ComesInStart (Program.Ring source.entry lines)) }
 {
     let (shared, hands) = opened(alloc, 2, lines + 1, RingFact::new(source, lines))?;
     let program = Program::Ring { source, lines };
@@ -47,6 +48,7 @@ fn passed<R: Threads + Wait + Sync, G: Gate>(
 /// 1,024 lines. It may wait for ever. The refusals: 22 for a number outside these limits; then that of the lower node whose
 /// refusal isn't 25: 7, 11, 19, 20 where the gate held a call back to its limit, and 26 where the node's thread couldn't be
 /// started. A refused growth outside the nodes is 7.
+#[tactic(auto, using(crate::proofs::Refusing::in_run))]
 pub fn ring<R: Threads + Wait + Sync, G: Gate>(
     rt: &R,
     alloc: Global,
@@ -59,6 +61,7 @@ pub fn ring<R: Threads + Wait + Sync, G: Gate>(
     ensures items { IfOk result (λ r. r.0.items ≡ source.now) }
     ensures closed { IfOk result (λ r. AreClosed (FitsRing source.now lines) (lines + 1) r.1.items) }
     ensures nodes { IfOk result (λ r. HaveNodes 2 r.1.items) }
+    ensures err { IfErr result ComesInRun }
 {
     if !is_ring_size(source.len(), lines) || capacity == 0 || capacity > 1024 {
         return Err(WorkRefusal::BadSettings);

@@ -2,7 +2,7 @@
 ghost use Rattle.std.specs.Prelude.{◌≡◌, ◌*◌, ◌/◌, ◌<◌, ◌≤◌, ◌↔◌, Err, length, IfOk, IfErr, IsTrue};
 ghost use Rattle.sci_work.specs.Ended.{AreClosed, HaveNodes};
 ghost use Rattle.sci_work.specs.Plain.{plain};
-ghost use Rattle.sci_work.specs.Starts.{ComesInStart};
+ghost use Rattle.sci_work.specs.Starts.{ComesInRun, ComesInStart};
 ghost use Rattle.sci_work.specs.Stencil.{FitsStencil, IsStencilSize};
 
 use crate::facts::StencilFact;
@@ -48,7 +48,7 @@ fn run<R: Threads + Wait + Sync, G: Gate>(
     ensures cells { IfOk result (λ r. r.0.items ≡ plain work.entry.cells.now work.entry.phases) }
     ensures closed { IfOk result (λ r. AreClosed (FitsStencil work.entry.cells.now work.entry.phases) (2 * work.entry.tiles) r.1.items) }
     ensures nodes { IfOk result (λ r. HaveNodes work.entry.nodes r.1.items) }
-    ensures err { IfErr result ComesInStart }
+    ensures err { IfErr result (ComesInStart (Program.Stencil work.entry)) }
 {
     let fact = StencilFact::new(work.cells, work.phases);
     let (lines, hands) = opened(alloc, work.nodes, 2 * work.tiles, fact)?;
@@ -66,6 +66,7 @@ fn run<R: Threads + Wait + Sync, G: Gate>(
 /// modulo 2, its word 0 is p + 1 and its words 1 to 7 are tile t after that phase. It may wait for ever. The refusals: 22 for a
 /// number outside these limits; then that of the lowest node whose refusal isn't 25: 7, 11, 19, 20 where the gate held a call
 /// back to its limit, and 26 where the node's thread couldn't be started. A refused growth outside the nodes is 7.
+#[tactic(auto, using(crate::proofs::Refusing::in_run))]
 pub fn stencil<R: Threads + Wait + Sync, G: Gate>(
     rt: &R,
     alloc: Global,
@@ -79,6 +80,7 @@ pub fn stencil<R: Threads + Wait + Sync, G: Gate>(
     ensures cells { IfOk result (λ r. r.0.items ≡ plain cells.now phases) }
     ensures closed { IfOk result (λ r. AreClosed (FitsStencil cells.now phases) (2 * (length cells.now / 7)) r.1.items) }
     ensures nodes { IfOk result (λ r. HaveNodes nodes r.1.items) }
+    ensures err { IfErr result ComesInRun }
 {
     if !is_stencil_size(cells.len(), phases, nodes, capacity) {
         return Err(WorkRefusal::BadSettings);

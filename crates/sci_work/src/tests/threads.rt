@@ -56,9 +56,16 @@ fn each_node_asks_for_its_calls(rt: HostRuntime) -> Result<(), Fail> {
 
 /// Holds node 1 back until so many calls of node 0 have ended.
 #[derive(Drop)]
-struct Holds {
+pub(crate) struct Holds {
     calls: u64,
     ended: AtomicU64,
+}
+
+impl Holds {
+    pub(crate) fn new(calls: u64) -> Holds {
+        let ended = AtomicU64::new(0);
+        Holds { calls, ended }
+    }
 }
 
 impl Gate for Holds {
@@ -80,8 +87,7 @@ impl Gate for Holds {
 #[test]
 fn a_node_awaits_its_neighbour(rt: HostRuntime) -> Result<(), Fail> {
     // a node alone could do this in five calls: node 0 asks for tile 1 until node 1 may write it
-    let ended = AtomicU64::new(0);
-    let gate = Holds { calls: 30, ended };
+    let gate = Holds::new(30);
     let (cells, _) = stencil(&rt, rt.alloc(), &[1; 14], 1, 2, 2, &gate)?;
     assert_eq!(rt;
         cells.as_slice(),
@@ -109,12 +115,17 @@ fn a_node_works_on_all_its_tiles(rt: HostRuntime) -> Result<(), Fail> {
 
 #[test]
 fn a_node_keeps_as_many_lines_as_it_may(rt: HostRuntime) -> Result<(), Fail> {
-    // node 1 reads line 0 and then writes the line behind it
     for (capacity, keeps) in [(1, false), (2, true)] {
+        // node 1 reads line 0 and then writes the line behind it
         let (_, closed) = ring(&rt, rt.alloc(), &[7], 1, capacity, &OpenGate)?;
         assert_eq!(rt; closed.len(), 2);
         assert_eq!(rt; closed[0].tags.len(), 2);
         assert_eq!(rt; closed[0].tags[1].kind != Kind::Invalid, keeps);
+        // a node alone takes its tile from line 0 to line 1
+        let (_, closed) = stencil(&rt, rt.alloc(), &[1; 7], 1, 1, capacity, &OpenGate)?;
+        assert_eq!(rt; closed.len(), 2);
+        assert_eq!(rt; closed[0].tags.len(), 1);
+        assert_eq!(rt; closed[0].tags[0].kind != Kind::Invalid, keeps);
     }
     Ok(())
 }

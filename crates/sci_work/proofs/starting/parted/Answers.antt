@@ -1,12 +1,10 @@
-use Rattle.std.proofs.Common.{rules, ◌≡◌, ℕ, ◌+◌, List, length, IfOk, IfErr, vec_items, vec_len, arith, sym, subst}
+use Rattle.std.proofs.Common.{rules, ◌≡◌, ℕ, ◌+◌, List, length, IsOk, IfOk, vec_items, vec_len, arith, sym, subst}
 use Rattle.std.specs.Vec.Iter.{into_iter_items}
 use mathlib.Core.Option.{some, some-ne-none}
 use lib.ListN.{get_elem?}
 use Rattle.sci_work.specs.Hands.{IsHandOf}
-use Rattle.sci_work.specs.Made.{ComesInWork}
 use Rattle.sci_work.specs.Programs.{IsShareOf}
 use Rattle.sci_work.specs.Starts.{IsPartDone}
-use Rattle.sci_work.proofs.Refusing.{of_worker}
 use Rattle.sci_work.proofs.Seated.{at_first, at_more}
 use Rattle.sci_work.proofs.starting.parted.Goals as goal
 
@@ -17,18 +15,18 @@ loop-one-init g c = record {
   room = search rules;
   share_room = search rules;
   left = λ k x e.
-      let h = c.requires k x (subst (λ (z : List _). get_elem? z k ≡ some x) c.into_iter-one-iterator.ensures.into_iter_gives.0 e) in
+      let h = c.requires.done k x (subst (λ (z : List _). get_elem? z k ≡ some x) c.into_iter-one-iterator.ensures.into_iter_gives.0 e) in
       let at : k ≡ k + vec_len c.in_ok-hands.hands = omega (arith, c.in_ok-hands.ensures.len) in
       subst (λ (z : ℕ). IsPartDone c.args.lines.now c.args.program z (vec_items x.hand) x.share) at h;
+  ended = λ k x e. c.requires.ended k x (subst (λ (z : List _). get_elem? z k ≡ some x) c.into_iter-one-iterator.ensures.into_iter_gives.0 e);
   hands = λ k x e. absurd (some-ne-none x (sym (subst (λ (z : List _). get_elem? z k ≡ some x) c.in_ok-hands.ensures.items e)));
   shares = λ k x e. absurd (some-ne-none x (sym (subst (λ (z : List _). get_elem? z k ≡ some x) c.in_ok-shares.ensures.items e)));
 }
 
-pub returns-in-Err-clause-err : goal.returns-in-Err-clause-err
-returns-in-Err-clause-err g c =
-    let i = c.loop-one.invariant in let step = c.in-Some.ensures.steps in
-    let f = at_first (λ k one. IsPartDone c.args.lines.now c.args.program k (vec_items one.hand) one.share) (into_iter_items c.loop-one.one-iterator) (into_iter_items c.next.new.self) c.in-Some.one (vec_len c.loop-one.hands) step.0 i.left in
-    of_worker _ (subst (λ r. IfErr r ComesInWork) c.in-Err.is f.0.refused)
+pub unreachable-requires : goal.unreachable-requires
+unreachable-requires g c =
+    let here = (at_first (λ k one. IsOk one.share) (into_iter_items c.loop-one.one-iterator) (into_iter_items c.next.new.self) c.in-Some.one 0 c.in-Some.ensures.steps.0 c.loop-one.invariant.ended).0 in
+    let ok = subst (λ r. IsOk r) c.in-Err.is here in cc
 
 pub loop-one-preserved : goal.loop-one-preserved
 loop-one-preserved g c =
@@ -43,6 +41,7 @@ loop-one-preserved g c =
       room = search rules;
       share_room = search rules;
       left = λ k x e. subst (λ (z : ℕ). IsPartDone c.args.lines.now c.args.program (k + z) (vec_items x.hand) x.share) (sym more.len) (f.1 k x e);
+      ended = (at_first (λ k one. IsOk one.share) (into_iter_items c.loop-one.one-iterator) (into_iter_items c.next.new.self) c.in-Some.one 0 step.0 i.ended).1;
       hands = at_more (λ k hand. IsHandOf c.args.lines.now k (vec_items hand)) c.loop-one.hands.items c.push_reserved.new.self.items one.hand more.items i.hands
           (subst (λ (z : ℕ). IsHandOf c.args.lines.now z (vec_items one.hand)) here f.0.hand);
       shares = at_more (λ k share. IsShareOf c.args.program k (vec_items share)) c.loop-one.shares.items c.push_reserved-in-Ok.new.self.items c.in-Ok.share shared.items i.shares
