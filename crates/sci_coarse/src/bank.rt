@@ -5,7 +5,7 @@ ghost use Rattle.sci_port.specs.Seated.{CallsOn, nodes_on, seated_way, step_on};
 
 use crate::line::CoarseLine;
 use crate::seats::Seat;
-use sci_core::{Event, Keeps, Outcome, Pending};
+use sci_core::{Event, Keeps, Outcome, Pending, Stage};
 use sci_port::Bank;
 use sci_words::{LineNo, Mem, NodeId, Tag};
 
@@ -140,9 +140,14 @@ impl<K: Keeps> Bank for CoarseBank<'_, K> {
         lines[usize::from(line)].terms.number
     }
 
-    fn pending(&self, line: LineNo) -> &Pending {
+    fn pending(&self, line: LineNo) -> Pending {
         let seats = &self.seats;
-        seats[usize::from(line)].standing.pending()
+        *seats[usize::from(line)].standing.pending()
+    }
+
+    fn stage(&self, line: LineNo) -> Stage {
+        let seats = &self.seats;
+        seats[usize::from(line)].standing.pending().stage()
     }
 
     fn own(&mut self, line: LineNo) -> Option<Tag> {

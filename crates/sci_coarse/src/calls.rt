@@ -21,7 +21,7 @@ fn standing_in<K: Keeps>(whole: &Whole<K>, terms: Terms<K>, node: NodeId) -> Sta
     // The node's own tag is well formed, and the line lawful.
     let _ = whole.tag(node);
     let _ = whole.nodes();
-    Standing::new(terms, *whole.pending(node))
+    Standing::new(terms, whole.pending(node))
 }
 
 // An event that the node's pending step allows.

@@ -5,7 +5,7 @@ ghost use Rattle.sci_coarse.specs.Ports.{way_of};
 
 use crate::line::CoarseLine;
 use crate::seats::Seat;
-use sci_core::{Event, Keeps, Outcome, Pending};
+use sci_core::{Event, Keeps, Outcome, Pending, Stage};
 use sci_port::Port;
 use sci_words::{LineNo, Mem, NodeId, Tag};
 
@@ -59,8 +59,12 @@ impl<K: Keeps> Port for CoarsePort<'_, K> {
         self.seat.number()
     }
 
-    fn pending(&self) -> &Pending {
-        self.seat.standing.pending()
+    fn pending(&self) -> Pending {
+        *self.seat.standing.pending()
+    }
+
+    fn stage(&self) -> Stage {
+        self.seat.standing.pending().stage()
     }
 
     fn own(&mut self) -> Option<Tag> {

@@ -45,7 +45,7 @@ module _ {K : Type 0} (fits : List ℕ → Type 0) (w : WholeLine K) (o : IsSoun
     tags = All-from_get_or (λ t. tag_well_formed t ≡ true) w.tags invalid (λ i l. o.ruled.words.tags i);
   }
 
-  all_idle : ((i : ℕ) → i < nodes_of w → (state_of w).steps i ≡ Pending.Idle) → (i : ℕ) → (state_of w).steps i ≡ Pending.Idle
+  pub all_idle : ((i : ℕ) → i < nodes_of w → (state_of w).steps i ≡ Pending.Idle) → (i : ℕ) → (state_of w).steps i ≡ Pending.Idle
   all_idle h i = ⊎_elim (λ l. h i l) (λ m. get_or_past w.steps i Pending.Idle (omega (arith, m, o.steps))) (cases_lt i (nodes_of w))
 
   sound_is_exact : ((i : ℕ) → i < nodes_of w → (state_of w).steps i ≡ Pending.Idle) → IsExactClosed (closed_of w)

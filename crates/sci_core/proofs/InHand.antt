@@ -7,7 +7,7 @@ use Rattle.sci_core.specs.State.{State}
 use Rattle.sci_core.specs.Shape.{Phase, shape, phase_of}
 use Rattle.sci_core.specs.Law.{Law, Witness}
 use Rattle.sci_core.specs.Copies.{IsCopy, IsCopying, IsMemoryCopy, kept_line}
-use Rattle.sci_core.specs.Hands.{FindsKept, HasMemorySlot, step_at}
+use Rattle.sci_core.specs.Hands.{FindsKept, HasMemorySlot}
 use Rattle.sci_core.specs.Sharers.{IsValidSharer}
 use Rattle.sci_core.specs.Whole.{WholeLine, state_of, IsSound}
 use Rattle.sci_core.proofs.ReadBack.Slots.{copying_phase, copying_kept, memory_lent}
@@ -61,21 +61,19 @@ module _ (s : State) (g : Witness) (o : Law (shape s) g) where
       h.1.1)
       c
 
-module _ {K : Type 0} (fits : List ℕ → Type 0) (w : WholeLine K) (o : IsSound fits w) (steps : List Pending) (same : steps ≡ w.steps) where
+module _ {K : Type 0} (fits : List ℕ → Type 0) (w : WholeLine K) (o : IsSound fits w) where
   -- memory's line is that of its slot, or else of the hand that is found
-  pub memory_line_is : (hand both : Option Line) (d line : Line) → FindsKept HasMemorySlot (step_at steps) hand → both ≡ option_or w.memory_slot hand → line ≡ unwrap_or both d → IsMemoryCopy (state_of w) line
-  memory_line_is hand both d line h b l =
-      let finds : FindsKept HasMemorySlot (state_of w).steps hand = subst (λ (p : List Pending). FindsKept HasMemorySlot (step_at p) hand) same h in
+  pub memory_line_is : (slot hand both : Option Line) (d line : Line) → slot ≡ w.memory_slot → FindsKept HasMemorySlot (state_of w).steps hand → both ≡ option_or slot hand → line ≡ unwrap_or both d → IsMemoryCopy (state_of w) line
+  memory_line_is slot hand both d line e h b l =
       subst (λ (x : Line). IsMemoryCopy (state_of w) x) (sym (l ∙ ap (λ (x : Option Line). unwrap_or x d) b))
-      (memory_shown (state_of w) o.ruled.witness o.ruled.law w.memory_slot hand d refl finds)
+      (memory_shown (state_of w) o.ruled.witness o.ruled.law slot hand d (sym e) h)
 
   -- a node's line is that of its slot, or else of its own step, or else of the step that copies it
-  pub line_is : (node : ℕ) (slot own copied both all : Option Line) (d line : Line) → slot ≡ (state_of w).slots node → own ≡ kept_line ((state_of w).steps node) → FindsKept (λ p. IsCopying p node) (step_at steps) copied
+  pub line_is : (node : ℕ) (slot own copied both all : Option Line) (d line : Line) → slot ≡ (state_of w).slots node → own ≡ kept_line ((state_of w).steps node) → FindsKept (λ p. IsCopying p node) (state_of w).steps copied
       → both ≡ option_or slot own → all ≡ option_or both copied → line ≡ unwrap_or all d → (v : Line) → IsCopy (state_of w) node v → line ≡ v
   line_is node slot own copied both all d line es ek h eb ea el v c =
-      let finds : FindsKept (λ p. IsCopying p node) (state_of w).steps copied = subst (λ (p : List Pending). FindsKept (λ p. IsCopying p node) (step_at p) copied) same h in
       el ∙ ap (λ (x : Option Line). unwrap_or x d) (ea ∙ ap (λ (x : Option Line). option_or x copied) eb)
-      ∙ line_shown (state_of w) o.ruled.witness o.ruled.law node slot own copied d (sym es) (sym ek) finds v c
+      ∙ line_shown (state_of w) o.ruled.witness o.ruled.law node slot own copied d (sym es) (sym ek) h v c
 
   -- and so it is the copy of a valid sharer
   pub sharer_line_is : (node : ℕ) (line : Line) → ((v : Line) → IsCopy (state_of w) node v → line ≡ v) → IsValidSharer (state_of w) node → IsCopy (state_of w) node line

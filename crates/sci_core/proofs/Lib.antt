@@ -21,3 +21,8 @@ pub mod Fitting
 pub mod Handing
 pub mod InHand
 pub mod AtRest
+pub mod Laying
+pub mod Filling
+pub mod Moving
+pub mod Making
+pub mod Resting

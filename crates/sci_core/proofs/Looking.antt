@@ -11,7 +11,7 @@ use Rattle.sci_core.specs.Step.{look_of, look_back, looked}
 use Rattle.sci_core.proofs.Keeping.Look.{look_purging_keeps_law, look_purging_keeps_links, look_leaving_keeps_law, look_leaving_keeps_links, look_rolling_keeps_law, look_rolling_keeps_links}
 
 -- a function is as it was where it is given its own value
-update_same : {A : Type 0} (f : ℕ → A) (i : ℕ) (x : A) → f i ≡ x → ◌≡◌ {A = ℕ → A} f (update f i x)
+pub update_same : {A : Type 0} (f : ℕ → A) (i : ℕ) (x : A) → f i ≡ x → ◌≡◌ {A = ℕ → A} f (update f i x)
 update_same f i x e = fun_ext (λ j. grind (arith, nat_tests))
 
 pub record Looks (n : ℕ) (t : State) (g : Witness) : Type 0 where

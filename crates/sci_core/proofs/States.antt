@@ -17,7 +17,7 @@ read_at l i j v d h = grind (arith, nat_tests, get_or-set_same l i v d, get_or-s
 pub read_set : {A : Type 0} (l : List A) (i : ℕ) (v d : A) → i < length l → ◌≡◌ {A = ℕ → A} (λ j. get_or (set l i v) j d) (update (λ j. get_or l j d) i v)
 read_set l i v d h = fun_ext (λ j. read_at l i j v d h)
 
-replicated_at : {A : Type 0} (n i : ℕ) (a d : A) → get_or (replicate n a) i d ≡ cond (ltb i n) a d
+pub replicated_at : {A : Type 0} (n i : ℕ) (a d : A) → get_or (replicate n a) i d ≡ cond (ltb i n) a d
 replicated_at n i a d = grind (arith, nat_tests, get_or-replicate n i a d, get_or_past (replicate n a) i d, length-replicate n a)
 
 slot_at : (n i : ℕ) (l : Line) → get_or (replicate n (Some l)) i (Some blank) ≡ Some (cond (ltb i n) l blank)
@@ -29,7 +29,7 @@ tag_at n i = grind (arith, nat_tests, replicated_at n i invalid invalid)
 step_at : (n i : ℕ) → get_or (replicate n Pending.Idle) i Pending.Idle ≡ Pending.Idle
 step_at n i = grind (arith, nat_tests, replicated_at n i Pending.Idle Pending.Idle)
 
-tags_read : (n : ℕ) → ◌≡◌ {A = ℕ → Tag} (λ i. get_or (replicate n invalid) i invalid) (λ i. invalid)
+pub tags_read : (n : ℕ) → ◌≡◌ {A = ℕ → Tag} (λ i. get_or (replicate n invalid) i invalid) (λ i. invalid)
 tags_read n = fun_ext (λ i. tag_at n i)
 
 steps_read : (n : ℕ) → ◌≡◌ {A = ℕ → Pending} (λ i. get_or (replicate n Pending.Idle) i Pending.Idle) (λ i. Pending.Idle)
@@ -48,7 +48,7 @@ opened_state keep number n line = λ k. record {
   slots = slots_read n line k;
 }
 
-opened_is_ruled : (n : ℕ) (fits : List ℕ → Type 0) (line : Line) → fits line.words → IsRuled n fits (opened n line)
+pub opened_is_ruled : (n : ℕ) (fits : List ℕ → Type 0) (line : Line) → fits line.words → IsRuled n fits (opened n line)
 opened_is_ruled n fits line h = record {
   witness = opened_witness line;
   law = opened_is_lawful n line;

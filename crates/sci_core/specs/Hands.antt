@@ -1,14 +1,10 @@
 -- The line of the hand that has a slot. This project's profile.
-use Rattle.std.specs.Prelude.{◌≡◌, ℕ, true, Option, Some, None, List, slice_index_or}
+use Rattle.std.specs.Prelude.{◌≡◌, ℕ, true, Option, Some, None}
 use Rattle.sci_core.specs.declared.lines.Line.{Line}
 use Rattle.sci_core.specs.declared.pending.Pending.{Pending}
 use Rattle.sci_core.specs.Shape.{phase_of}
 use Rattle.sci_core.specs.Law.{has_memory_slot}
 use Rattle.sci_core.specs.Copies.{kept_line}
-
--- the step of a node; a node that there is not is Idle
-abbrev pub step_at : List Pending → ℕ → Pending
-step_at steps j = slice_index_or steps j Pending.Idle
 
 -- it has memory's slot in hand
 abbrev pub HasMemorySlot : Pending → Type 0

@@ -7,7 +7,9 @@ pub mod Table
 pub mod Step
 pub mod Ranges
 pub mod WellFormed
+pub mod Stage
 pub mod Whole
+pub mod Laid
 pub mod Outcomes
 pub mod Answers
 pub mod Run

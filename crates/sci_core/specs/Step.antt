@@ -43,16 +43,6 @@ taken_line s Stays = blank
 taken_line s (Takes x) = line_in (slot_at s x)
 taken_line s (Gives x l) = blank
 
--- the slot that is taken, and the line in it
-abbrev pub taken_place : Carry → Option Place
-taken_place Stays = None
-taken_place (Takes x) = Some x
-taken_place (Gives x l) = None
-
-abbrev pub line_taken : State → Option Place → Line
-line_taken s (Some x) = line_in (slot_at s x)
-line_taken s None = blank
-
 -- a slot that is taken is at home
 abbrev pub IsAtHome : State → Carry → Type 0
 IsAtHome s Stays = Unit {0}

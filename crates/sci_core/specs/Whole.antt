@@ -5,10 +5,6 @@ use Rattle.sci_words.specs.declared.memory.Mem.{Mem}
 use Rattle.sci_core.specs.declared.lines.Line.{Line}
 use Rattle.sci_core.specs.declared.pending.Pending.{Pending}
 use Rattle.sci_core.specs.declared.rows.Change.{Change}
-use Rattle.sci_core.specs.declared.rows.Place.{Place}
-use Rattle.sci_core.specs.declared.rows.Carry.{Carry}
-use Rattle.sci_core.specs.declared.rows.Exchange.{Exchange}
-use Rattle.sci_core.specs.Step.{memory_after, memory_slot_after}
 use Rattle.sci_words.specs.declared.memory.MemState.{MemState}
 use Rattle.sci_core.specs.State.{State, invalid, blank, memory_word}
 use Rattle.sci_core.specs.Shape.{shape}
@@ -74,26 +70,3 @@ opened_whole keep number n line = record {
 abbrev pub tag_list_after : List Tag → Change → List Tag
 tag_list_after l (Change.OfMemory before after) = l
 tag_list_after l (Change.OfTag x before after) = slice_set l x after
-
-abbrev pub slot_list_after : List (Option Line) → Carry → List (Option Line)
-slot_list_after l Carry.Stays = l
-slot_list_after l (Carry.Takes Place.Memory) = l
-slot_list_after l (Carry.Takes (Place.Node x)) = slice_set l x None
-slot_list_after l (Carry.Gives Place.Memory line) = l
-slot_list_after l (Carry.Gives (Place.Node x) line) = slice_set l x (Some line)
-
--- the lists after an exchange
-abbrev pub whole_after : {K : Type 0} → WholeLine K → ℕ → Exchange → WholeLine K
-whole_after w me x = record {
-  keep = w.keep;
-  number = w.number;
-  memory = memory_after w.memory x.change;
-  tags = tag_list_after w.tags x.change;
-  steps = slice_set w.steps me x.after;
-  memory_slot = memory_slot_after w.memory_slot x.carry;
-  slots = slot_list_after w.slots x.carry;
-}
-
--- the lists after a node's step alone changed
-abbrev pub whole_in_step : {K : Type 0} → WholeLine K → ℕ → Pending → WholeLine K
-whole_in_step w me p = record w { steps = slice_set w.steps me p }

@@ -1,8 +1,7 @@
 //! A line once nobody uses it any more.
-ghost use Rattle.std.specs.Prelude.{◌≡◌, ℕ, ◌<◌, ◌≤◌, [], IfOk, length, map, vec_capacity};
+ghost use Rattle.std.specs.Prelude.{◌≡◌, ℕ, ◌<◌, ◌≤◌, [], IfOk, length, vec_capacity};
 ghost use Rattle.sci_core.specs.declared.pending.Pending.TheVariants.{Idle};
 ghost use Rattle.sci_core.specs.Closed.{IsExactClosed, IsReadOff};
-ghost use Rattle.sci_core.specs.Step.{line_in};
 ghost use Rattle.sci_core.specs.Whole.{nodes_of, state_of};
 
 use crate::keeps::Keeps;
@@ -32,30 +31,16 @@ impl Model for Closed {
     ghost invariant = { λ c. IsClosed record { mem = c.mem; memory = c.memory; tags = c.tags.items; lines = c.lines.items } };
 }
 
-// The line in a slot that is at home.
-fn line_at_home(slot: &Option<Line>) -> Line
-    ensures { result ≡ line_in slot.now }
+// Lines, in room that was taken before.
+fn lines_into(mut copies: Vec<Line>, lines: &[Line]) -> Vec<Line>
+    requires empty { copies.items ≡ [] }
+    requires room { length lines.now ≤ vec_capacity copies }
+    ensures { result.items ≡ lines.now }
 {
-    slot.unwrap_or(Line::ZERO)
-}
-
-// The lines in slots that are at home.
-fn lines_at_home(alloc: Global, slots: &[Option<Line>]) -> Result<Vec<Line>, AllocError>
-    ensures { IfOk result (λ lines. lines.items ≡ map line_in slots.now) }
-{
-    slots.iter().map(line_at_home).collect(alloc)
-}
-
-// The same, in room that was taken before.
-fn lines_into(mut lines: Vec<Line>, slots: &[Option<Line>]) -> Vec<Line>
-    requires empty { lines.items ≡ [] }
-    requires room { length slots.now ≤ vec_capacity lines }
-    ensures { result.items ≡ map line_in slots.now }
-{
-    for slot in slots {
-        lines.push_reserved(line_at_home(slot));
+    for line in lines {
+        copies.push_reserved(*line);
     }
-    lines
+    copies
 }
 
 // Tags, in room that was taken before.
@@ -80,9 +65,9 @@ impl<K: Keeps> Whole<K> {
     {
         Ok(Closed {
             mem: self.memory,
-            memory: line_at_home(&self.memory_slot),
+            memory: self.memory_bytes,
             tags: Vec::from_slice(alloc, &self.tags)?,
-            lines: lines_at_home(alloc, &self.slots)?,
+            lines: Vec::from_slice(alloc, &self.lines)?,
         })
     }
 
@@ -96,12 +81,12 @@ impl<K: Keeps> Whole<K> {
         ensures exact { IsExactClosed result }
     {
         let mem = self.memory;
-        let memory = line_at_home(&self.memory_slot);
+        let memory = self.memory_bytes;
         Closed {
             mem,
             memory,
             tags: tags_into(tags, &self.tags),
-            lines: lines_into(lines, &self.slots),
+            lines: lines_into(lines, &self.lines),
         }
     }
 }

@@ -1,19 +1,24 @@
 //! The steps of a `Whole`.
-ghost use Rattle.std.specs.Prelude.{All, ◌≡◌, ◌≢◌, ◌<◌, ◌≤◌, ◌↔◌, true, IsTrue, IfSome, MatchOption, length};
+ghost use Rattle.std.specs.Prelude.{All, ◌≡◌, ◌≢◌, ◌<◌, ◌≤◌, ◌↔◌, true, cond, Some, None, IsTrue, MatchOption, length, slice_index_or};
 ghost use Rattle.sci_words.specs.Codes.{tag_code, mem_code};
-ghost use Rattle.sci_core.specs.Answers.{Answers, Exchanges, FitsEvent, Makes, found_code, row_at};
-ghost use Rattle.sci_core.specs.Ranges.{ChangesBelow, CarriesBelow, PlaceBelow};
-ghost use Rattle.sci_core.specs.Row.{exchange_with};
+ghost use Rattle.sci_core.specs.Answers.{Answers, Exchanges, FitsEvent, Makes, found_code, is_allowed, row_at};
+ghost use Rattle.sci_core.specs.Ranges.{ChangesBelow};
+ghost use Rattle.sci_core.specs.Laid.{given_lines, lines_after, bytes_after, MovesBelow, CanCountIn};
+ghost use Rattle.sci_core.specs.Stage.{outline_of};
+ghost use Rattle.sci_core.specs.State.{blank};
 ghost use Rattle.sci_core.specs.Run.{done_in, IsLawfulLine, KeepsLawful, RunsTo};
-ghost use Rattle.sci_core.specs.Step.{Finds, is_look, line_taken, looked, memory_after, memory_slot_after, taken_line, taken_place};
+ghost use Rattle.sci_core.specs.Step.{Finds, is_look, looked, memory_after};
 ghost use Rattle.sci_core.specs.Table.{has_row};
-ghost use Rattle.sci_core.specs.Whole.{nodes_of, state_of, tag_list_after, slot_list_after, IsSameLine};
+ghost use Rattle.sci_core.specs.Whole.{nodes_of, state_of, tag_list_after, IsSameLine};
 
 use crate::events::Event;
 use crate::keeps::Keeps;
 use crate::lines::Line;
 use crate::outcomes::{NotInTurn, Outcome};
-use crate::rows::{Carry, Change, Exchange, Place};
+use crate::outlines::{Motion, Outline};
+use crate::rows::{Change, Place};
+use crate::stages::Stage;
+use crate::table::purging::written;
 use crate::whole::Whole;
 use sci_words::{Mem, NodeId, Tag, write_mem, write_tag};
 
@@ -58,19 +63,55 @@ fn write_word(memory: &mut Mem, tags: &mut [Tag], change: &Change)
     }
 }
 
-// Empties the slot that is taken, or fills the one that is given back.
-fn move_slot(memory_slot: &mut Option<Line>, slots: &mut [Option<Line>], carry: &Carry)
-    requires { CarriesBelow (length slots.old) carry.now }
-    ensures memory { memory_slot.new ≡ memory_slot_after memory_slot.old carry.now }
-    ensures slots { slots.new ≡ slot_list_after slots.old carry.now }
+// Writes over the own bytes as they are given back.
+fn give(lines: &mut [Line], me: NodeId, event: &Event)
+    requires own { me < length lines.old }
+    requires stamp { CanCountIn (slice_index_or lines.old me blank) event.now }
+    ensures { lines.new ≡ given_lines lines.old me event.now }
 {
-    match carry {
-        Carry::Stays => {}
-        Carry::Takes(Place::Memory) => *memory_slot = None,
-        Carry::Takes(Place::Node(node)) => slots[place_of(*node)] = None,
-        Carry::Gives(Place::Memory, line) => *memory_slot = Some(*line),
-        Carry::Gives(Place::Node(node), line) => slots[place_of(*node)] = Some(*line),
+    match event {
+        Event::Left => lines[place_of(me)] = Line::ZERO,
+        Event::Written(Some(words)) => {
+            let line = written(&lines[place_of(me)], &Some(*words));
+            lines[place_of(me)] = line;
+        }
+        _ => {}
     }
+}
+
+// Moves bytes where an exchange moves them: from the slot that is taken to the node's own, and from there to the slot that
+// is given back.
+fn move_bytes(bytes: &mut Line, lines: &mut [Line], me: NodeId, event: &Event, outline: &Outline)
+    requires own { me < length lines.old }
+    requires motion { MovesBelow (length lines.old) outline.now.motion }
+    requires stamp { CanCountIn (slice_index_or lines.old me blank) event.now }
+    ensures memory { bytes.new ≡ bytes_after bytes.old lines.old me event.now outline.now.motion }
+    ensures lines { lines.new ≡ lines_after bytes.old lines.old me event.now outline.now.motion outline.now.after }
+{
+    match outline.motion {
+        Motion::Stays => {}
+        Motion::Takes(Place::Memory) => {
+            if matches!(outline.after, Stage::Fetching { .. }) {
+                lines[place_of(me)] = *bytes;
+            }
+        }
+        Motion::Takes(Place::Node(node)) => lines[place_of(me)] = lines[place_of(node)],
+        Motion::Gives(Place::Memory) => {
+            give(lines, me, event);
+            *bytes = lines[place_of(me)];
+        }
+        Motion::Gives(Place::Node(node)) => {
+            give(lines, me, event);
+            lines[place_of(node)] = lines[place_of(me)];
+        }
+    }
+}
+
+// The line, where it is to be answered.
+fn answer(answers: bool, line: &Line) -> Option<Line>
+    ensures { result ≡ cond answers (Some line.now) None }
+{
+    if answers { Some(*line) } else { None }
 }
 
 impl<K: Keeps> Whole<K> {
@@ -110,57 +151,52 @@ impl<K: Keeps> Whole<K> {
         }
     }
 
-    // The slot that the exchange of an event takes.
-    fn place_taken(&self, node: NodeId, event: &Event) -> Option<Place>
+    // Whether the node's pending step allows the event.
+    fn allows(&self, node: NodeId, event: &Event) -> bool
         requires { node < nodes_of self.now }
-        ensures place { result ≡ taken_place (row_at (state_of self.now) node event.now).carry }
-        ensures below { IfSome result (λ x. PlaceBelow (nodes_of self.now) x) }
-    {
-        self.steps[place_of(node)].takes(node, event)
-    }
-
-    // The line in a slot, or a blank one.
-    fn line_taken(&self, place: &Option<Place>) -> Line
-        requires { IfSome place.now (λ x. PlaceBelow (nodes_of self.now) x) }
-        ensures { result ≡ line_taken (state_of self.now) place.now }
-    {
-        let slot = match place {
-            Some(Place::Memory) => self.memory_slot,
-            Some(Place::Node(node)) => self.slots[place_of(*node)],
-            None => None,
-        };
-        slot.unwrap_or(Line::ZERO)
-    }
-
-    // The exchange that an allowed event asks for, with the line that is taken.
-    fn asked(&self, node: NodeId, event: &Event, taken: &Line) -> Exchange
-        requires node { node < nodes_of self.now }
-        requires allowed { has_row (nodes_of self.now) node ((state_of self.now).steps node) event.now ≡ true }
-        ensures exchange { result ≡ exchange_with taken.now (row_at (state_of self.now) node event.now) }
-        ensures change { ChangesBelow (nodes_of self.now) result.change }
-        ensures carry { CarriesBelow (nodes_of self.now) result.carry }
+        ensures allowed { result ≡ is_allowed (nodes_of self.now) node ((state_of self.now).steps node) event.now }
         ensures lawful { IsLawfulLine (nodes_of self.now) (K.fits self.now.keep self.now.number) (state_of self.now) }
     {
-        self.steps[place_of(node)].exchange(node, event, taken)
+        let nodes = self.nodes();
+        let place = place_of(node);
+        self.stages[place].allows(node, nodes, event, &self.lines[place])
+    }
+
+    // The exchange that an allowed event asks for, but for lines.
+    fn asked(&self, node: NodeId, event: &Event) -> Outline
+        requires { node < nodes_of self.now }
+        ensures outline { result ≡ outline_of (row_at (state_of self.now) node event.now) }
+        ensures change { ChangesBelow (nodes_of self.now) result.change }
+        ensures motion { MovesBelow (nodes_of self.now) result.motion }
+        ensures lawful { IsLawfulLine (nodes_of self.now) (K.fits self.now.keep self.now.number) (state_of self.now) }
+    {
+        self.stages[place_of(node)].outline(node, event)
     }
 
     // Makes the exchange that an allowed event asks for, which finds its word, and gives its answer.
-    fn make(&mut self, node: NodeId, event: &Event, exchange: &Exchange) -> Option<Line>
+    fn make(&mut self, node: NodeId, event: &Event, outline: &Outline) -> Option<Line>
         requires node { node < nodes_of self.old }
         requires allowed { has_row (nodes_of self.old) node ((state_of self.old).steps node) event.now ≡ true }
-        requires exchange { exchange.now ≡ exchange_with (taken_line (state_of self.old) (row_at (state_of self.old) node event.now).carry) (row_at (state_of self.old) node event.now) }
+        requires outline { outline.now ≡ outline_of (row_at (state_of self.old) node event.now) }
         requires finds { Finds (state_of self.old) (row_at (state_of self.old) node event.now).change }
-        requires change { ChangesBelow (nodes_of self.old) exchange.now.change }
-        requires carry { CarriesBelow (nodes_of self.old) exchange.now.carry }
+        requires change { ChangesBelow (nodes_of self.old) outline.now.change }
+        requires motion { MovesBelow (nodes_of self.old) outline.now.motion }
         requires fits { FitsEvent (K.fits self.old.keep self.old.number) event.now }
         ensures same { IsSameLine self.old self.new }
         ensures makes { Makes (nodes_of self.old) (state_of self.old) node event.now result (state_of self.new) }
         ensures keeps { KeepsLawful (nodes_of self.old) (K.fits self.old.keep self.old.number) (state_of self.old) node event.now (Ok (Outcome.Done result)) (state_of self.new) }
     {
-        write_word(&mut self.memory, &mut self.tags, &exchange.change);
-        move_slot(&mut self.memory_slot, &mut self.slots, &exchange.carry);
-        self.steps[place_of(node)] = exchange.after;
-        exchange.answer
+        let place = place_of(node);
+        write_word(&mut self.memory, &mut self.tags, &outline.change);
+        move_bytes(
+            &mut self.memory_bytes,
+            &mut self.lines,
+            node,
+            event,
+            outline,
+        );
+        self.stages[place] = outline.after;
+        answer(outline.answers, &self.lines[place])
     }
 
     // Makes the exchange of an allowed event, or finds another word than it asks for.
@@ -172,11 +208,10 @@ impl<K: Keeps> Whole<K> {
         ensures outcome { Exchanges (nodes_of self.old) (state_of self.old) node event.now result (state_of self.new) }
         ensures keeps { KeepsLawful (nodes_of self.old) (K.fits self.old.keep self.old.number) (state_of self.old) node event.now (Ok result) (state_of self.new) }
     {
-        let taken = self.line_taken(&self.place_taken(node, event));
-        let exchange = self.asked(node, event, &taken);
-        match self.other_word(&exchange.change) {
+        let outline = self.asked(node, event);
+        match self.other_word(&outline.change) {
             Some(found) => Outcome::Missed(found),
-            None => Outcome::Done(self.make(node, event, &exchange)),
+            None => Outcome::Done(self.make(node, event, &outline)),
         }
     }
 
@@ -188,7 +223,7 @@ impl<K: Keeps> Whole<K> {
         ensures keeps { KeepsLawful (nodes_of self.old) (K.fits self.old.keep self.old.number) (state_of self.old) node Event.Look (Ok (Outcome.Done None)) (state_of self.new) }
     {
         let own = self.tag(node);
-        self.steps[place_of(node)].look(&own);
+        self.stages[place_of(node)].look(&own);
     }
 
     /// One event of one node. Done: its exchange was made, or the node looked at its own tag; the line that the event
@@ -203,8 +238,7 @@ impl<K: Keeps> Whole<K> {
         ensures answers { Answers (nodes_of self.old) (state_of self.old) node event result (state_of self.new) }
         ensures lawful { KeepsLawful (nodes_of self.old) (K.fits self.old.keep self.old.number) (state_of self.old) node event result (state_of self.new) }
     {
-        let nodes = self.nodes();
-        if !self.pending(node).allows(node, nodes, &event) {
+        if !self.allows(node, &event) {
             return Err(NotInTurn);
         }
         if is_look(&event) {

@@ -3,12 +3,14 @@ ghost use Rattle.std.specs.Prelude.{◌≡◌, ◌<◌, ◌≤◌, ◌⊎◌, �
 ghost use Rattle.sci_words.specs.Tag.{tag_well_formed, tag_links_below};
 ghost use Rattle.sci_words.specs.Mem.{mem_well_formed, mem_links_below};
 ghost use Rattle.sci_core.specs.Run.{HasValue, IsLawfulLine};
+ghost use Rattle.sci_core.specs.Stage.{stage_of};
 ghost use Rattle.sci_core.specs.Whole.{nodes_of, state_of, opened_whole};
 
 use crate::keeps::Keeps;
 use crate::lines::Line;
 use crate::outcomes::OpenRefusal;
 use crate::pending::Pending;
+use crate::stages::Stage;
 use sci_words::{Kind, LineNo, Mem, MemState, NodeId, Tag};
 use std::alloc::Global;
 use std::marker::Model;
@@ -21,19 +23,21 @@ pub struct Whole<K: Keeps> {
     pub(crate) number: LineNo,
     pub(crate) memory: Mem,
     pub(crate) tags: Vec<Tag>,
-    pub(crate) steps: Vec<Pending>,
-    pub(crate) memory_slot: Option<Line>,
-    pub(crate) slots: Vec<Option<Line>>,
+    pub(crate) stages: Vec<Stage>,
+    // The bytes of each slot, also while a hand has it: then those of a node are the line that its step keeps, if it keeps one.
+    pub(crate) memory_bytes: Line,
+    pub(crate) lines: Vec<Line>,
 }
 
 impl<K: Keeps> Model for Whole<K> {
-    ghost use Rattle.sci_core.specs.Whole.{WholeLine, IsSound};
+    ghost use Rattle.sci_core.specs.Whole.{WholeLine};
+    ghost use Rattle.sci_core.specs.Laid.{seen_whole, IsLaid};
 
     ghost Value = { WholeLine K };
 
-    ghost view = { λ w. record { keep = w.keep; number = w.number; memory = w.memory; tags = w.tags.items; steps = w.steps.items; memory_slot = w.memory_slot; slots = w.slots.items } };
+    ghost view = { λ w. seen_whole w.keep w.number w.memory w.tags.items w.stages.items w.memory_bytes w.lines.items };
 
-    ghost invariant = { λ w. IsSound (K.fits w.keep w.number) record { keep = w.keep; number = w.number; memory = w.memory; tags = w.tags.items; steps = w.steps.items; memory_slot = w.memory_slot; slots = w.slots.items } };
+    ghost invariant = { λ w. IsLaid (K.fits w.keep w.number) w.keep w.number w.memory w.tags.items w.stages.items w.memory_bytes w.lines.items };
 }
 
 impl<K: Keeps> Whole<K> {
@@ -61,8 +65,8 @@ impl<K: Keeps> Whole<K> {
             back: None,
         };
         let tags = vec![in alloc; invalid; usize::from(nodes)]?;
-        let steps = vec![in alloc; Pending::Idle; usize::from(nodes)]?;
-        let slots = vec![in alloc; Some(line); usize::from(nodes)]?;
+        let stages = vec![in alloc; Stage::Idle; usize::from(nodes)]?;
+        let lines = vec![in alloc; line; usize::from(nodes)]?;
         Ok(Whole {
             keep,
             number,
@@ -72,9 +76,9 @@ impl<K: Keeps> Whole<K> {
                 forw: None,
             },
             tags,
-            steps,
-            memory_slot: Some(line),
-            slots,
+            stages,
+            memory_bytes: line,
+            lines,
         })
     }
 
@@ -121,10 +125,19 @@ impl<K: Keeps> Whole<K> {
     }
 
     /// A node's pending step as it stands.
-    pub fn pending(&self, node: NodeId) -> &Pending
+    pub fn pending(&self, node: NodeId) -> Pending
         requires { node < nodes_of self.now }
-        ensures { result.now ≡ (state_of self.now).steps node }
+        ensures { result ≡ (state_of self.now).steps node }
     {
-        &self.steps[usize::from(node.get())]
+        let place = usize::from(node.get());
+        self.stages[place].with(&self.lines[place])
+    }
+
+    /// The same, but for its line.
+    pub fn stage(&self, node: NodeId) -> &Stage
+        requires { node < nodes_of self.now }
+        ensures { result.now ≡ stage_of ((state_of self.now).steps node) }
+    {
+        &self.stages[usize::from(node.get())]
     }
 }

@@ -7,8 +7,10 @@ use Rattle.sci_core.specs.declared.events.Event.{Event}
 use Rattle.sci_core.specs.declared.rows.Place.{Place}
 use Rattle.sci_core.specs.declared.rows.Carry.{Carry}
 use Rattle.sci_core.specs.declared.rows.Carry.TheVariants.{Stays, Takes, Gives}
+use Rattle.sci_core.specs.declared.outlines.Motion.{Motion}
+use Rattle.sci_core.specs.Stage.{motion_of}
 use Rattle.sci_core.specs.Carrying.{hand_of, GivesLast, hand_after}
-use Rattle.sci_core.specs.State.{State}
+use Rattle.sci_core.specs.State.{State, blank}
 use Rattle.sci_core.specs.Step.{taken_line}
 use Rattle.sci_core.specs.Table.{has_row, row_of}
 use Rattle.sci_core.proofs.Handing.{hands}
@@ -19,8 +21,37 @@ on_top : (k : ℕ) (c : List (ℕ × Line)) → slots_in c ≡ k ∷ drop 1 (slo
 on_top k [] e = cc
 on_top k (x ∷ xs) e = let h : x.0 ≡ k = cc in (x.1, λ i. (h i, x.1) ∷ xs)
 
-pub gives_top : (carry : Carry) (x : Place) (l : Line) (k : ℕ) (c : List (ℕ × Line)) → carry ≡ Gives x l → k ≡ slot_number x → GivesTop carry (slots_in c) → (y : Line) × (c ≡ (k, y) ∷ rest c)
-gives_top carry x l k c is at fits = subst (λ (k : ℕ). (y : Line) × (c ≡ (k, y) ∷ rest c)) (sym at) (on_top (slot_number x) c (subst (λ (z : Carry). GivesTop z (slots_in c)) is fits))
+-- the slot that is given back is the one taken last
+pub gives_there : (carry : Carry) (x : Place) (k : ℕ) (c : List (ℕ × Line)) → motion_of carry ≡ Motion.Gives x → k ≡ slot_number x → GivesTop carry (slots_in c) → (y : Line) × (c ≡ (k, y) ∷ rest c)
+gives_there Stays x k c m at fits = absurd (cc)
+gives_there (Takes z) x k c m at fits = absurd (cc)
+gives_there (Gives z l) x k c m at fits = let h : z ≡ x = cc in subst (λ (k : ℕ). (y : Line) × (c ≡ (k, y) ∷ rest c)) (ap slot_number h ∙ sym at) (on_top (slot_number z) c fits)
+
+-- the line on top of a hand
+abbrev top_line : List (ℕ × Line) → Line
+top_line [] = blank
+top_line (x ∷ xs) = x.1
+
+-- what was taken is one line
+pub took_same : (c : Carry) (y z : Line) (d : List (ℕ × Line)) → Took c y d → Took c z d → y ≡ z
+took_same Stays y z d h k = h ∙ sym k
+took_same (Takes x) y z d h k = ap top_line (sym h ∙ k)
+took_same (Gives x l) y z d h k = h ∙ sym k
+
+-- the slot that was taken is in hand
+pub takes_there : (carry : Carry) (x : Place) (k : ℕ) (y : Line) (c : List (ℕ × Line)) → motion_of carry ≡ Motion.Takes x → k ≡ slot_number x → Took carry y c → c ≡ (k, y) ∷ rest c
+takes_there Stays x k y c m at took = absurd (cc)
+takes_there (Takes z) x k y c m at took = let h : z ≡ x = cc in took ∙ (λ i. ((ap slot_number h ∙ sym at) i, y) ∷ rest c)
+takes_there (Gives z l) x k y c m at took = absurd (cc)
+
+-- what lies there is the line that was taken
+pub taken_is : (carry : Carry) (x : Place) (k : ℕ) (y z : Line) (c : List (ℕ × Line)) → motion_of carry ≡ Motion.Takes x → k ≡ slot_number x → Took carry y c → c ≡ (k, z) ∷ rest c → z ≡ y
+taken_is carry x k y z c m at took is = ap top_line (sym is ∙ takes_there carry x k y c m at took)
+
+pub takes_none : (carry : Carry) (y : Line) (c : List (ℕ × Line)) → ((x : Place) → motion_of carry ≡ Motion.Takes x → ⊥) → Took carry y c → y ≡ blank
+takes_none Stays y c h took = took
+takes_none (Takes x) y c h took = absurd (h x refl)
+takes_none (Gives x l) y c h took = took
 
 top_of : (x : Place) (h : List Place) → h ≡ x ∷ drop 1 h → map slot_number h ≡ slot_number x ∷ drop 1 (map slot_number h)
 top_of x [] e = cc
@@ -32,8 +63,8 @@ gives_numbers (Takes x) h g = tt
 gives_numbers (Gives x l) h g = top_of x h g
 
 -- what a row asks of the hand
-pub hand_fits : (n me : ℕ) (p : Pending) (e : Event) (carry : Carry) (ks : List ℕ) → has_row n me p e ≡ true → carry ≡ (row_of me p e).carry → ks ≡ map slot_number (hand_of me p) → GivesTop carry ks
-hand_fits n me p e carry ks turn is hand = subst (λ (z : Carry × List ℕ). GivesTop z.0 z.1) (λ i. (sym is i, sym hand i)) (gives_numbers (row_of me p e).carry (hand_of me p) (hands n me p e turn).gives)
+pub hand_fits : (n me : ℕ) (p : Pending) (e : Event) (ks : List ℕ) → has_row n me p e ≡ true → ks ≡ map slot_number (hand_of me p) → GivesTop (row_of me p e).carry ks
+hand_fits n me p e ks turn hand = subst (λ (z : List ℕ). GivesTop (row_of me p e).carry z) (sym hand) (gives_numbers (row_of me p e).carry (hand_of me p) (hands n me p e turn).gives)
 
 rest_slots : (xs : List (ℕ × Line)) → slots_in (rest xs) ≡ drop 1 (slots_in xs)
 rest_slots [] = refl

@@ -1,5 +1,5 @@
 -- What a seat is after a call, where the parts of the call go by the seat's own names.
-use Rattle.std.proofs.Common.{◌≡◌, ◌≢◌, ℕ, ◌<◌, true, Option, Some, List, [], map, sym, ap, ◌∙◌, subst}
+use Rattle.std.proofs.Common.{◌≡◌, ◌≢◌, ℕ, ◌<◌, true, Option, Some, List, [], map, refl, sym, ap, ◌∙◌, subst}
 use Rattle.sci_core.specs.declared.lines.Line.{Line}
 use Rattle.sci_core.specs.declared.pending.Pending.{Pending}
 use Rattle.sci_core.specs.declared.events.Event.{Event}
@@ -18,7 +18,7 @@ use Rattle.sci_fine.specs.declared.views.View.{View}
 use Rattle.sci_fine.specs.Rule.{slot_number}
 use Rattle.sci_fine.specs.Standings.{IsStanding}
 use Rattle.sci_fine.specs.Steps.{Seated, slots_in, before_of, Took, IsHit, exchanged}
-use Rattle.sci_fine.proofs.Carried.{took}
+use Rattle.sci_fine.proofs.Carried.{took, took_same}
 use Rattle.sci_fine.proofs.Coming.{Comes, comes_missed, comes_done}
 
 -- what the seat keeps of its token, and what the call owes
@@ -39,6 +39,10 @@ sits {K} fits t x p call v u ks ls q of seen hand c is = record {
   standing = subst (λ (z : ℕ × Pending). IsStanding t.nodes (fits t.keep t.number) z.0 z.1) (λ i. (seen.0 i, is i)) c.standing;
 }
 
+-- the row of the token is that of the seat's own names
+pub row_there : {K : Type 0} (v w : View K) (x : ℕ) (p : Pending) (e : Event) → w.node ≡ x → w.pending ≡ p → v ≡ w → row_of v.node v.pending e ≡ row_of x p e
+row_there {K} v w x p e is₀ is₁ same = λ i. row_of ((ap (λ (v : View K). v.node) same ∙ is₀) i) ((ap (λ (v : View K). v.pending) same ∙ is₁) i) e
+
 module _ {K : Type 0} (fits : K → ℕ → List ℕ → Type 0) (t : Terms K) (x : ℕ) (p : Pending) (e : Event) (m₀ m₁ m₂ : Seated K) (old found : ℕ)
     (is₀ : m₀.0.node ≡ x) (is₁ : m₀.0.pending ≡ p) (of : m₀.0.of ≡ Some t) (below : x < t.nodes) (turn : has_row t.nodes x p e ≡ true) (fit : FitsEvent (fits t.keep t.number) e)
     (same : m₁.0 ≡ m₀.0) (same' : slots_in m₁.1 ≡ slots_in m₀.1) (before : old ≡ before_of (row_of x p e).change)
@@ -47,7 +51,7 @@ module _ {K : Type 0} (fits : K → ℕ → List ℕ → Type 0) (t : Terms K) (
   of₁ = ap (λ (v : View K). v.of) same ∙ of
 
   row₁ : row_of m₁.0.node m₁.0.pending e ≡ row_of x p e
-  row₁ = λ i. row_of ((ap (λ (v : View K). v.node) same ∙ is₀) i) ((ap (λ (v : View K). v.pending) same ∙ is₁) i) e
+  row₁ = row_there m₁.0 m₀.0 x p e is₀ is₁ same
 
   below₁ : m₁.0.node < t.nodes
   below₁ = subst (λ (z : ℕ). z < t.nodes) (sym (ap (λ (v : View K). v.node) same ∙ is₀)) below
@@ -87,3 +91,9 @@ module _ {K : Type 0} (fits : K → ℕ → List ℕ → Type 0) (t : Terms K) (
           subst (λ (z : View K × List ℕ × View K × List ℕ). Comes fits t z.0 z.1 (Stepped e (Outcome.Done answer)) z.2 z.3) (λ i. (same i, same' i, sym same₃ i, sym same₃' i)) c,
           ap (λ (v : View K). v.pending) same₃ ∙ (ap (λ (v : View K). v.pending) made.view ∙ (λ i. (row₁ i).after (sym line i))),
         )
+
+    -- the step after, of the line that was taken
+    pub next : (y : Line) → Took (row_of x p e).carry y m₂.1 → IsStanding t.nodes (fits t.keep t.number) x ((row_of x p e).after y)
+    next y h =
+        let d = done ((row_of x p e).answer y) y m₂ (λ z k. took_same (row_of x p e).carry y z m₂.1 h k) refl refl refl in
+        subst (λ (z : ℕ × Pending). IsStanding t.nodes (fits t.keep t.number) z.0 z.1) (λ i. (is₀ i, d.1 i)) d.0.standing

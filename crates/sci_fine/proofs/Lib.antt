@@ -6,6 +6,7 @@ pub mod Moves
 pub mod Carried
 pub mod Coming
 pub mod Asking
+pub mod Owning
 pub mod Landing
 pub mod Reading
 pub mod Seating

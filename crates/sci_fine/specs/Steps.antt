@@ -69,6 +69,12 @@ Took Stays y c = y ≡ blank
 Took (Takes x) y c = c ≡ (slot_number x, y) ∷ rest c
 Took (Gives x l) y c = y ≡ blank
 
+-- this is the line that is given, if one is
+abbrev pub GivesLine : Carry → Line → Type 0
+GivesLine Stays y = Unit {0}
+GivesLine (Takes x) y = Unit {0}
+GivesLine (Gives x l) y = y ≡ l
+
 -- a slot that is given was taken last
 abbrev pub GivesTop : Carry → List ℕ → Type 0
 GivesTop Stays ks = Unit {0}

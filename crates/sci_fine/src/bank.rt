@@ -5,7 +5,7 @@ ghost use Rattle.sci_port.specs.Seated.{CallsOn, nodes_on, seated_way, step_on};
 
 use crate::line::FineLine;
 use crate::seats::Seat;
-use sci_core::{Event, Keeps, Outcome, Pending};
+use sci_core::{Event, Keeps, Outcome, Pending, Stage};
 use sci_port::Bank;
 use sci_words::{LineNo, Mem, NodeId, Tag};
 
@@ -140,9 +140,14 @@ impl<K: Keeps> Bank for FineBank<'_, K> {
         lines[usize::from(line)].terms.number
     }
 
-    fn pending(&self, line: LineNo) -> &Pending {
+    fn pending(&self, line: LineNo) -> Pending {
         let seats = &self.seats;
         seats[usize::from(line)].standing.pending()
+    }
+
+    fn stage(&self, line: LineNo) -> Stage {
+        let seats = &self.seats;
+        seats[usize::from(line)].standing.stage()
     }
 
     fn own(&mut self, line: LineNo) -> Option<Tag> {
@@ -166,6 +171,6 @@ impl<K: Keeps> Bank for FineBank<'_, K> {
     fn step(&mut self, line: LineNo, event: Event) -> Outcome {
         let at = &self.lines[usize::from(line)];
         let seats = self.seats.as_mut_slice();
-        seats[usize::from(line)].step(at, event)
+        seats[usize::from(line)].step(at, &event)
     }
 }

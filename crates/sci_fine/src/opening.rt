@@ -10,7 +10,7 @@ use crate::seats::{Seat, Token};
 use crate::standing::Standing;
 use crate::views::{Apart, Terms};
 use atomic_table::Table;
-use sci_core::{Keeps, Line, OpenRefusal, Pending};
+use sci_core::{Keeps, Line, OpenRefusal};
 use sci_words::{Kind, LineNo, Mem, MemState, NodeId, Tag, write_mem, write_tag};
 use std::alloc::Global;
 
@@ -26,7 +26,7 @@ fn idle_seat<K: Keeps>(token: Token<K>, node: NodeId, terms: Terms<K>) -> Seat<K
 {
     Seat {
         token,
-        standing: Standing::new(terms, node, Pending::Idle),
+        standing: Standing::idle(terms, node),
     }
 }
 

@@ -5,7 +5,7 @@ ghost use Rattle.sci_fine.specs.Ports.{way_of};
 
 use crate::line::FineLine;
 use crate::seats::Seat;
-use sci_core::{Event, Keeps, Outcome, Pending};
+use sci_core::{Event, Keeps, Outcome, Pending, Stage};
 use sci_port::Port;
 use sci_words::{LineNo, Mem, NodeId, Tag};
 
@@ -59,8 +59,12 @@ impl<K: Keeps> Port for FinePort<'_, K> {
         self.seat.number()
     }
 
-    fn pending(&self) -> &Pending {
+    fn pending(&self) -> Pending {
         self.seat.standing.pending()
+    }
+
+    fn stage(&self) -> Stage {
+        self.seat.standing.stage()
     }
 
     fn own(&mut self) -> Option<Tag> {
@@ -76,6 +80,6 @@ impl<K: Keeps> Port for FinePort<'_, K> {
     }
 
     fn step(&mut self, event: Event) -> Outcome {
-        self.seat.step(self.line, event)
+        self.seat.step(self.line, &event)
     }
 }

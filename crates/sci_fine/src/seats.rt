@@ -1,12 +1,13 @@
 //! A node's seat at a line.
 ghost use Rattle.std.specs.Prelude.{◌≡◌, ◌<◌, Some, [], map};
 ghost use Rattle.sci_core.specs.Carrying.{hand_of};
+ghost use Rattle.sci_core.specs.Stage.{stage_of};
 ghost use Rattle.sci_fine.specs.Rule.{slot_number};
 ghost use Rattle.sci_fine.specs.Steps.{slots_in};
 
 use crate::standing::Standing;
 use crate::views::View;
-use sci_core::{Keeps, Line, Pending};
+use sci_core::{Keeps, Line, Pending, Stage};
 use sci_words::{LineNo, NodeId};
 
 pub(crate) type Token<K> = atomic_table::Seat<Line, View<K>>;
@@ -41,6 +42,13 @@ impl<K: Keeps> Seat<K> {
     pub fn pending(&self) -> Pending
         ensures { result ≡ self.now.standing.pending }
     {
-        *self.standing.pending()
+        self.standing.pending()
+    }
+
+    /// The same, but for its line.
+    pub fn stage(&self) -> Stage
+        ensures { result ≡ stage_of self.now.standing.pending }
+    {
+        self.standing.stage()
     }
 }

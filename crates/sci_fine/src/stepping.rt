@@ -10,7 +10,7 @@ use crate::codes::{codes, number_of};
 use crate::line::FineLine;
 use crate::seats::Seat;
 use crate::views::{AsLoad, AsStep, Notes};
-use sci_core::{Event, Keeps, Line, Outcome};
+use sci_core::{Event, Keeps, Outcome};
 use sci_words::{Mem, NodeId, Tag, read_mem, read_tag};
 use std::marker::Brand;
 
@@ -71,33 +71,28 @@ impl<K: Keeps> Seat<K> {
         requires fits { FitsEvent (K.fits self.old.standing.terms.keep self.old.standing.terms.number) event.now }
         ensures made { HasMade K.fits self.old (Stepped event.now result) self.new }
     {
-        let node = self.standing.node();
-        let pending = self.standing.pending();
-        let asked = pending.exchange(node, event, &Line::ZERO);
-        let (number, old, new) = codes(&asked.change);
-        line.lay(&mut self.token, &asked.carry);
-        let found = line.swap::<Brand>(&mut self.token, event, &asked, number, old, new);
+        let outline = self.standing.outline(event);
+        let (number, old, new) = codes(&outline.change);
+        line.lay(&mut self.token, &self.standing, event, &outline.motion);
+        let found = line.swap::<Brand>(&mut self.token, event, number, old, new);
         if found != old {
             return Outcome::Missed(found);
         }
-        let taken = line.pick_up(&mut self.token, &asked.carry);
-        let made = pending.exchange(node, event, &taken);
-        self.standing.go_on(made.after);
-        Outcome::Done(made.answer)
+        Outcome::Done(line.pick_up(&mut self.token, &mut self.standing, event, &outline))
     }
 
     // An event of the node that its pending step allows.
-    pub(crate) fn step(&mut self, line: &FineLine<K>, event: Event) -> Outcome
+    pub(crate) fn step(&mut self, line: &FineLine<K>, event: &Event) -> Outcome
         requires of { IsSeatOf line.now self.old }
-        requires allowed { is_allowed self.old.standing.terms.nodes self.old.standing.node self.old.standing.pending event ≡ true }
-        requires fits { FitsEvent (K.fits self.old.standing.terms.keep self.old.standing.terms.number) event }
-        ensures made { HasMade K.fits self.old (Stepped event result) self.new }
+        requires allowed { is_allowed self.old.standing.terms.nodes self.old.standing.node self.old.standing.pending event.now ≡ true }
+        requires fits { FitsEvent (K.fits self.old.standing.terms.keep self.old.standing.terms.number) event.now }
+        ensures made { HasMade K.fits self.old (Stepped event.now result) self.new }
     {
         if let Event::Look = event {
             let _ = self.look::<AsStep>(line);
             Outcome::Done(None)
         } else {
-            self.exchange(line, &event)
+            self.exchange(line, event)
         }
     }
 }

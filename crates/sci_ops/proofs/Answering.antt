@@ -1,6 +1,6 @@
 -- A turn's answer is what its last call gave.
 use Rattle.std.proofs.Common.{◌≡◌, ℕ, Bool, true, false, Option, Some, None, List, [], ◌∷◌, refl, sym, ap, subst, ◌∙◌, arith}
-use Rattle.std.specs.Prelude.{◌+◌, ◌<◌, ◌≤◌, if◌then◌else◌}
+use Rattle.std.specs.Prelude.{◌+◌, ◌<◌, ◌≤◌, is_some, if◌then◌else◌}
 use Rattle.std.proofs.lemmas.Bool.Decides.{nat_tests}
 use Rattle.sci_words.specs.declared.tags.Kind.{Kind}
 use Rattle.sci_words.specs.declared.tags.Tag.{Tag}
@@ -143,7 +143,7 @@ speaks goal me (Pending.Holding w l) k = by_exchange (seen_says goal (Pending.Ho
 speaks goal me (Pending.Queueing f) k = by_mem (λ m. either _ _ _ waits (either _ _ _ (prepend_speaks m.state) moves))
 speaks goal me (Pending.Fetching f d l) k = moves
 speaks goal me (Pending.InQueue None d c) k = by_exchange (seen_says goal (Pending.InQueue None d c) Event.Settle refl)
-speaks goal me (Pending.InQueue (Some x) d c) k = by_tag (λ t. either (may_attach_fresh d c t) _ _ moves (either (may_attach_dirty d c t) _ _ moves waits))
+speaks goal me (Pending.InQueue (Some x) d c) k = by_tag (λ t. either (may_attach_fresh d (is_some c) t) _ _ moves (either (may_attach_dirty d (is_some c) t) _ _ moves waits))
 speaks goal me (Pending.Copying x w l) k = moves
 speaks goal me (Pending.Ready f d l) k = by_exchange (seen_says goal (Pending.Ready f d l) Event.Settle refl)
 speaks goal me (Pending.Converting f true) k = moves

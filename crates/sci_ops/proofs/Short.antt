@@ -1,6 +1,6 @@
 -- A turn makes at most three loads.
 use Rattle.std.proofs.Common.{ℕ, Bool, true, false, Option, Some, None}
-use Rattle.std.specs.Prelude.{if◌then◌else◌}
+use Rattle.std.specs.Prelude.{is_some, if◌then◌else◌}
 use Rattle.sci_words.specs.declared.tags.Kind.{Kind}
 use Rattle.sci_words.specs.declared.tags.Tag.{Tag}
 use Rattle.sci_words.specs.declared.memory.MemState.{MemState}
@@ -80,7 +80,7 @@ in_loads goal me (Pending.Holding w l) = by_exchange
 in_loads goal me (Pending.Queueing f) = by_mem (λ m. either _ _ _ by_end (either _ _ _ (prepend_loads m.state) by_exchange))
 in_loads goal me (Pending.Fetching f d l) = by_exchange
 in_loads goal me (Pending.InQueue None d c) = by_exchange
-in_loads goal me (Pending.InQueue (Some x) d c) = by_tag (λ t. either (may_attach_fresh d c t) _ _ by_exchange (either (may_attach_dirty d c t) _ _ by_exchange by_end))
+in_loads goal me (Pending.InQueue (Some x) d c) = by_tag (λ t. either (may_attach_fresh d (is_some c) t) _ _ by_exchange (either (may_attach_dirty d (is_some c) t) _ _ by_exchange by_end))
 in_loads goal me (Pending.Copying x w l) = by_exchange
 in_loads goal me (Pending.Ready f d l) = by_exchange
 in_loads goal me (Pending.Converting f true) = by_exchange

@@ -1,6 +1,6 @@
 -- What an operation's answer says of the calls of the turn that gave it, over any port. This project's profile of IEEE Std
 -- 1596-1992.
-use Rattle.std.specs.Prelude.{◌≡◌, ℕ, ◌+◌, ◌<◌, ◌≤◌, Bool, true, false, Some, None, List, [], ◌∷◌}
+use Rattle.std.specs.Prelude.{◌≡◌, ◌≢◌, ℕ, ◌+◌, ◌<◌, ◌≤◌, Bool, true, false, Some, None, List, [], ◌∷◌}
 use Rattle.sci_words.specs.declared.tags.Kind.{Kind}
 use Rattle.sci_core.specs.declared.lines.Line.{Line}
 use Rattle.sci_core.specs.declared.pending.Pending.{Pending}
@@ -33,6 +33,14 @@ makes_invalid _ = false
 abbrev pub HasStamp : Pending → Type 0
 HasStamp (Pending.Purging line seen) = line.stamp ≤ 18446744073709551615
 HasStamp p = Unit {0}
+
+-- the turn has not ended its operation
+abbrev pub GoesOn : Turn → Type 0
+GoesOn turn = (answer : Answer) → turn ≢ Turn.Done answer
+
+-- a turn that ended its operation found a stamp that is a u64
+abbrev pub EndsWithStamp : Turn → Pending → Type 0
+EndsWithStamp turn p = (answer : Answer) → turn ≡ Turn.Done answer → HasStamp p
 
 -- the node purged everybody behind it, and wrote the change over the line that it kept; the stamp counted one more
 pub record IsWrote (write : Write) (before : List ℕ) (stamp : ℕ) (p : Pending) (e : Event) : Type 0 where

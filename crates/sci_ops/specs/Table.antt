@@ -1,5 +1,5 @@
 -- The table of turns: what a turn does in each pending step, towards each goal. This project's profile of IEEE Std 1596-1992.
-use Rattle.std.specs.Prelude.{ℕ, ◌+◌, Bool, true, false, ◌&&◌, not, nat_eq, Option, Some, None, is_some, is_none, if◌then◌else◌}
+use Rattle.std.specs.Prelude.{ℕ, ◌+◌, Bool, true, false, ◌&&◌, not, nat_eq, Option, Some, None, is_some, if◌then◌else◌}
 use Rattle.std.specs.Option.{option_eq}
 use Rattle.sci_words.specs.declared.tags.Kind.{Kind}
 use Rattle.sci_words.specs.declared.tags.Tag.{Tag}
@@ -98,20 +98,20 @@ abbrev pub queueing : Option ℕ → Plan
 queueing f = mem (queueing_at f)
 
 -- it may be attached: memory's bytes are those of a Fresh head, and were copied
-abbrev pub may_attach_fresh : Bool → Option Line → Tag → Bool
-may_attach_fresh d copy t = (not d && is_some copy) && is_free is_fresh t
+abbrev pub may_attach_fresh : Bool → Bool → Tag → Bool
+may_attach_fresh d has_copy t = (not d && has_copy) && is_free is_fresh t
 
 -- it may be attached: the bytes of a Dirty head are its own, and are still to be copied
-abbrev pub may_attach_dirty : Bool → Option Line → Tag → Bool
-may_attach_dirty d copy t = (d && is_none copy) && is_free is_dirty t
+abbrev pub may_attach_dirty : Bool → Bool → Tag → Bool
+may_attach_dirty d has_copy t = (d && not has_copy) && is_free is_dirty t
 
-abbrev pub attach : Bool → Option Line → Tag → Plan
-attach d copy t = if may_attach_fresh d copy t then move (Event.AttachFresh t) else (if may_attach_dirty d copy t then move (Event.AttachDirty t) else wait)
+abbrev pub attach : Bool → Bool → Tag → Plan
+attach d has_copy t = if may_attach_fresh d has_copy t then move (Event.AttachFresh t) else (if may_attach_dirty d has_copy t then move (Event.AttachDirty t) else wait)
 
 -- InQueue: it attaches the old head behind itself, or settles where there was none
-abbrev pub in_queue : Goal → Option ℕ → Bool → Option Line → Plan
-in_queue goal None d copy = exchange Event.Settle (seen_end goal)
-in_queue goal (Some x) d copy = tag x (attach d copy)
+abbrev pub in_queue : Goal → Option ℕ → Bool → Bool → Plan
+in_queue goal None d has_copy = exchange Event.Settle (seen_end goal)
+in_queue goal (Some x) d has_copy = tag x (attach d has_copy)
 
 -- Converting: it turns the home to GONE, or gives up where it is no longer the head
 abbrev pub converting : ℕ → Bool → Plan
@@ -189,7 +189,7 @@ turn_in goal me Pending.Idle = idle goal me
 turn_in goal me (Pending.Holding w l) = exchange Event.Unhold (seen_end goal)
 turn_in goal me (Pending.Queueing f) = queueing f
 turn_in goal me (Pending.Fetching f d l) = move Event.ReturnMemory
-turn_in goal me (Pending.InQueue f d copy) = in_queue goal f d copy
+turn_in goal me (Pending.InQueue f d copy) = in_queue goal f d (is_some copy)
 turn_in goal me (Pending.Copying x w l) = move Event.ReturnCopy
 turn_in goal me (Pending.Ready f d l) = exchange Event.Settle (seen_end goal)
 turn_in goal me (Pending.Converting f turned) = converting me turned

@@ -3,7 +3,6 @@ ghost use Rattle.std.specs.Prelude.{◌≡◌, ◌&&◌, not};
 ghost use Rattle.sci_core.specs.Found.{names, is_settled_body};
 ghost use Rattle.sci_ops.specs.Table.{is_free, may_attach_fresh, may_attach_dirty, may_adopt, is_behind, is_before};
 
-use sci_core::Line;
 use sci_words::{Kind, NodeId, Tag};
 
 /// The link names this node.
@@ -31,17 +30,17 @@ pub fn is_valid(tag: &Tag) -> bool
 }
 
 /// A Fresh head, whose bytes a clean newcomer has copied from memory.
-pub fn may_attach_fresh(dirty: bool, copy: &Option<Line>, tag: &Tag) -> bool
-    ensures { result ≡ may_attach_fresh dirty copy.now tag.now }
+pub fn may_attach_fresh(dirty: bool, has_copy: bool, tag: &Tag) -> bool
+    ensures { result ≡ may_attach_fresh dirty has_copy tag.now }
 {
-    !dirty && copy.is_some() && is_free(matches!(tag.kind, Kind::Fresh), tag)
+    !dirty && has_copy && is_free(matches!(tag.kind, Kind::Fresh), tag)
 }
 
 /// A Dirty head, whose bytes a dirty newcomer has still to copy.
-pub fn may_attach_dirty(dirty: bool, copy: &Option<Line>, tag: &Tag) -> bool
-    ensures { result ≡ may_attach_dirty dirty copy.now tag.now }
+pub fn may_attach_dirty(dirty: bool, has_copy: bool, tag: &Tag) -> bool
+    ensures { result ≡ may_attach_dirty dirty has_copy tag.now }
 {
-    dirty && copy.is_none() && is_free(matches!(tag.kind, Kind::Dirty), tag)
+    dirty && !has_copy && is_free(matches!(tag.kind, Kind::Dirty), tag)
 }
 
 /// In Roll, with another node in front of it than this one.

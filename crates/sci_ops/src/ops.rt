@@ -12,7 +12,7 @@ ghost use Rattle.sci_ops.specs.Values.{IsTrueTurn};
 use crate::answers::{Answer, Turn};
 use crate::goals::{Goal, WordNo, Write};
 use crate::refusals::BadWord;
-use crate::turns::{read_stamp, turn_towards};
+use crate::turns::turn_towards;
 use sci_core::{Keeps, Whole};
 use sci_port::{Port, Solo};
 use sci_words::NodeId;
@@ -106,7 +106,6 @@ impl Op {
         if let Some(answer) = self.answer {
             return Turn::Done(answer);
         }
-        read_stamp(port.pending());
         let turn = turn_towards(port, self.goal);
         if let Turn::Done(answer) = turn {
             self.answer = Some(answer);

@@ -1,7 +1,7 @@
 //! What a turn does in each pending step.
-ghost use Rattle.std.specs.Prelude.{◌≡◌, ◌≤◌, true};
+ghost use Rattle.std.specs.Prelude.{◌≡◌, true};
 ghost use Rattle.sci_core.specs.Answers.{is_allowed, FitsEvent};
-ghost use Rattle.sci_ops.specs.Answers.{HasStamp};
+ghost use Rattle.sci_ops.specs.Answers.{EndsWithStamp};
 ghost use Rattle.sci_ops.specs.Change.{StoresFitting};
 ghost use Rattle.sci_ops.specs.Plan.{Takes, exchange};
 ghost use Rattle.sci_ops.specs.Table.{turn_in, move, seen_end, out_end};
@@ -17,7 +17,7 @@ use crate::turns::entering::{in_queue, queueing};
 use crate::turns::idle::idle;
 use crate::turns::leaving::{leaving, promoted, rolling};
 use crate::turns::writing::{converting, purging};
-use sci_core::{Event, Pending};
+use sci_core::{Event, Stage};
 use sci_port::Port;
 
 /// Tries an exchange, which ends the turn so once it is made.
@@ -63,43 +63,34 @@ fn out_end(goal: Goal) -> End
     }
 }
 
-// A stamp is a u64.
-fn in_range(stamp: u64)
-    ensures { stamp ≤ 18446744073709551615 }
-{}
-
-/// Reads the stamp of a line that is to be written over.
-pub fn read_stamp(pending: &Pending)
-    ensures { HasStamp pending.now }
-{
-    if let Pending::Purging { line, .. } = pending {
-        in_range(line.stamp);
-    }
-}
-
 /// One turn towards a goal, by the node's pending step.
 pub fn turn_towards<P: Port>(port: &mut P, goal: Goal) -> Turn
     requires fits { StoresFitting (P.Keep.fits (P.keep port.old) (P.way port.old).number) goal }
     ensures calls { Takes P.gives (turn_in goal (P.way port.old).node (P.at_step port.old)) port.old result port.new }
+    ensures stamp { EndsWithStamp result (P.at_step port.old) }
     ensures same_way { P.way port.new ≡ P.way port.old }
     ensures same_fact { P.keep port.new ≡ P.keep port.old }
 {
-    match *port.pending() {
-        Pending::Idle => idle(port, goal),
-        Pending::Holding { .. } => exchange(port, Event::Unhold, seen_end(goal)),
-        Pending::Queueing { forw } => queueing(port, forw),
-        Pending::Fetching { .. } | Pending::WritingBack { .. } => go_on(port, Event::ReturnMemory),
-        Pending::InQueue { forw, dirty, copy } => in_queue(port, goal, forw, dirty, copy),
-        Pending::Copying { .. } => go_on(port, Event::ReturnCopy),
-        Pending::Ready { .. } => exchange(port, Event::Settle, seen_end(goal)),
-        Pending::Converting { turned, .. } => converting(port, turned),
-        Pending::Purging { line, .. } => purging(port, goal, line),
-        Pending::Advancing { .. } => go_on(port, Event::Advance),
-        Pending::Clearing { .. } => go_on(port, Event::Clear),
-        Pending::Leaving { dirty, .. } => leaving(port, dirty),
-        Pending::Promoted { .. } => promoted(port),
-        Pending::Parted { .. } => exchange(port, Event::Left, out_end(goal)),
-        Pending::Rolling { told, .. } => rolling(port, told),
-        Pending::Unlinked { .. } => exchange(port, Event::Rolled, out_end(goal)),
+    match port.stage() {
+        Stage::Idle => idle(port, goal),
+        Stage::Holding { .. } => exchange(port, Event::Unhold, seen_end(goal)),
+        Stage::Queueing { forw } => queueing(port, forw),
+        Stage::Fetching { .. } | Stage::WritingBack => go_on(port, Event::ReturnMemory),
+        Stage::InQueue {
+            forw,
+            dirty,
+            has_copy,
+        } => in_queue(port, goal, forw, dirty, has_copy),
+        Stage::Copying { .. } => go_on(port, Event::ReturnCopy),
+        Stage::Ready { .. } => exchange(port, Event::Settle, seen_end(goal)),
+        Stage::Converting { turned, .. } => converting(port, turned),
+        Stage::Purging { .. } => purging(port, goal),
+        Stage::Advancing { .. } => go_on(port, Event::Advance),
+        Stage::Clearing { .. } => go_on(port, Event::Clear),
+        Stage::Leaving { dirty, .. } => leaving(port, dirty),
+        Stage::Promoted { .. } => promoted(port),
+        Stage::Parted { .. } => exchange(port, Event::Left, out_end(goal)),
+        Stage::Rolling { told, .. } => rolling(port, told),
+        Stage::Unlinked { .. } => exchange(port, Event::Rolled, out_end(goal)),
     }
 }

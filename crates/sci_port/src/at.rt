@@ -6,7 +6,7 @@ ghost use Rattle.sci_port.specs.Owes.{Owes};
 
 use crate::bank::Bank;
 use crate::port::Port;
-use sci_core::{Event, Outcome, Pending};
+use sci_core::{Event, Outcome, Pending, Stage};
 use sci_words::{LineNo, Mem, NodeId, Tag};
 
 /// The port to one line of a bank that is lent.
@@ -58,8 +58,12 @@ impl<B: Bank> Port for At<'_, B> {
         self.bank.number(self.line)
     }
 
-    fn pending(&self) -> &Pending {
+    fn pending(&self) -> Pending {
         self.bank.pending(self.line)
+    }
+
+    fn stage(&self) -> Stage {
+        self.bank.stage(self.line)
     }
 
     fn own(&mut self) -> Option<Tag> {

@@ -4,12 +4,13 @@ ghost use Rattle.sci_core.specs.declared.events.Event.{Event};
 ghost use Rattle.sci_core.specs.declared.pending.Pending.{Pending};
 ghost use Rattle.sci_core.specs.Answers.{is_allowed, FitsEvent};
 ghost use Rattle.sci_core.specs.PendingStep.{IsOwnWord};
+ghost use Rattle.sci_core.specs.Stage.{stage_of};
 ghost use Rattle.sci_port.specs.Banks.{BankWay};
 ghost use Rattle.sci_port.specs.declared.calls.Call.{Call};
 ghost use Rattle.sci_port.specs.declared.calls.Call.TheVariants.{Own, MemWas, TagWas, Stepped};
 ghost use Rattle.sci_port.specs.Owes.{IsSoundStep, IsTag, IsMem, look_by, TakesRow, AnswerFits, Owes};
 
-use sci_core::{Event, Keeps, Outcome, Pending};
+use sci_core::{Event, Keeps, Outcome, Pending, Stage};
 use sci_words::{LineNo, Mem, NodeId, Tag};
 
 /// One node's ports to all lines of a memory, by the line's number. No call takes memory or waits.
@@ -54,10 +55,16 @@ pub trait Bank {
         ensures { result ≡ line };
 
     /// The node's pending step on the line.
-    fn pending(&self, line: LineNo) -> &Pending
+    fn pending(&self, line: LineNo) -> Pending
         requires { line < (way self.now).lines }
-        ensures value { result.now ≡ at_step self.now line }
-        ensures sound { IsSoundStep (nodes_on self.now line) (Self.Keep.fits (keep self.now) line) result.now };
+        ensures value { result ≡ at_step self.now line }
+        ensures sound { IsSoundStep (nodes_on self.now line) (Self.Keep.fits (keep self.now) line) result };
+
+    /// The same, but for the bytes that it keeps.
+    fn stage(&self, line: LineNo) -> Stage
+        requires { line < (way self.now).lines }
+        ensures value { result ≡ stage_of (at_step self.now line) }
+        ensures sound { IsSoundStep (nodes_on self.now line) (Self.Keep.fits (keep self.now) line) (at_step self.now line) };
 
     /// The node's own tag on the line, which is a look. None: the line was not to be had.
     fn own(&mut self, line: LineNo) -> Option<Tag>

@@ -5,7 +5,7 @@ ghost use Rattle.sci_port.specs.Banks.{AreLinesOf, GivesAt, lent_lines, lent_way
 use crate::bank::Bank;
 use crate::port::Port;
 use crate::solo::Solo;
-use sci_core::{Event, Keeps, Outcome, Pending, Whole};
+use sci_core::{Event, Keeps, Outcome, Pending, Stage, Whole};
 use sci_words::{LineNo, Mem, NodeId, Tag};
 
 /// A node's ports to `Whole`s that are given to it alone: its loads and steps are those of the line's `Whole`, and the others
@@ -93,13 +93,22 @@ impl<K: Keeps> Bank for SoloBank<K> {
         wholes[usize::from(line)].number()
     }
 
-    fn pending(&self, line: LineNo) -> &Pending {
+    fn pending(&self, line: LineNo) -> Pending {
         let wholes = &self.wholes;
         let whole = &wholes[usize::from(line)];
         // The node's own tag is well formed, and the line lawful.
         let _ = whole.tag(self.node);
         let _ = whole.nodes();
         whole.pending(self.node)
+    }
+
+    fn stage(&self, line: LineNo) -> Stage {
+        let wholes = &self.wholes;
+        let whole = &wholes[usize::from(line)];
+        // The node's own tag is well formed, and the line lawful.
+        let _ = whole.tag(self.node);
+        let _ = whole.nodes();
+        *whole.stage(self.node)
     }
 
     fn own(&mut self, line: LineNo) -> Option<Tag> {

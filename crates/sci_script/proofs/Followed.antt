@@ -84,57 +84,50 @@ module _ {S K : Type 0} (gives : S → Call → S → Type 0) (whole : S → Who
       (subst (λ (i : ℕ). TurnsOn (nodes_of w) i op (state_of w) turn (state t)) is
       (subst (λ (x : WholeLine K). TurnsOn (nodes_of x) (node s) op (state_of x) turn (state t)) from base))
 
-  -- what is kept of the calls, where each is kept with the pending step after it
-  module _ (seen : S → Passed) (line : ℕ) (kept : (s : S) (c : Call) (t : S) → gives s c t → seen t ≡ passed_by (seen s) line c ((state t).steps (node t))) where
-    passing : (me : ℕ) (s : S) (c : Call) (t : S) (p : Passed) → node t ≡ me → seen s ≡ p → gives s c t → seen t ≡ passed_by p line c ((state t).steps me)
-    passing me s c t p em ep h =
-        subst (λ (q : Passed). seen t ≡ passed_by q line c ((state t).steps me)) ep
-        (subst (λ (m : ℕ). seen t ≡ passed_by (seen s) line c ((state t).steps m)) em (kept s c t h))
+  -- what is kept of the calls
+  module _ (seen : S → Passed) (line : ℕ) (kept : (s : S) (c : Call) (t : S) → gives s c t → seen t ≡ passed_by (seen s) line c) where
+    passing : (s : S) (c : Call) (t : S) (p : Passed) → seen s ≡ p → gives s c t → seen t ≡ passed_by p line c
+    passing s c t p ep h = subst (λ (q : Passed). seen t ≡ passed_by q line c) ep (kept s c t h)
 
     passed : (n me : ℕ) (plan : Plan) (calls : List Call) (s : S) (turn : Turn) (t : S) (p : Passed) → nodes s ≡ n → node s ≡ me → seen s ≡ p → Chain gives s calls t → Follows plan calls turn
         → Passes n me line (state s) plan (state t) p (seen t)
     passed n me (own next) (Own (Some x) ∷ calls) s turn t p en em ep (mid, h, rest) f =
         let way = each s (Own (Some x)) mid h in
         let g : Gives n (fits s) (state s) me (Own (Some x)) (state mid) = given n me s (Own (Some x)) mid en em h in
-        let now = passed_by p line (Own (Some x)) ((state mid).steps me) in
-        let behind = passed n me (next x) calls mid turn t now (way.0 ∙ en) (way.1 ∙ em) (passing me s (Own (Some x)) mid p (way.1 ∙ em) ep h) rest f in
-        subst (λ (y : Tag). Passes n me line (looked (state s) me) (next y) (state t) (passed_by p line (Own (Some y)) ((looked (state s) me).steps me)) (seen t)) (some_is x ((state s).tags me) g.0)
-        (subst (λ (u : State). Passes n me line u (next x) (state t) (passed_by p line (Own (Some x)) (u.steps me)) (seen t)) g.1.0.1 behind)
+        let now = passed_by p line (Own (Some x)) in
+        let behind = passed n me (next x) calls mid turn t now (way.0 ∙ en) (way.1 ∙ em) (passing s (Own (Some x)) mid p ep h) rest f in
+        subst (λ (y : Tag). Passes n me line (looked (state s) me) (next y) (state t) (passed_by p line (Own (Some y))) (seen t)) (some_is x ((state s).tags me) g.0)
+        (subst (λ (u : State). Passes n me line u (next x) (state t) (passed_by p line (Own (Some x))) (seen t)) g.1.0.1 behind)
     passed n me (own next) (Own None ∷ []) s turn t p en em ep (mid, h, rest) f =
         let g : Gives n (fits s) (state s) me (Own None) (state mid) = given n me s (Own None) mid en em h in
         absurd (let e = g.0 in cc)
     passed n me (mem next) (MemWas (Some x) ∷ calls) s turn t p en em ep (mid, h, rest) f =
         let way = each s (MemWas (Some x)) mid h in
         let g : Gives n (fits s) (state s) me (MemWas (Some x)) (state mid) = given n me s (MemWas (Some x)) mid en em h in
-        let now = passed_by p line (MemWas (Some x)) ((state mid).steps me) in
-        let behind = passed n me (next x) calls mid turn t now (way.0 ∙ en) (way.1 ∙ em) (passing me s (MemWas (Some x)) mid p (way.1 ∙ em) ep h) rest f in
-        subst (λ (y : Mem). Passes n me line (state s) (next y) (state t) (passed_by p line (MemWas (Some y)) ((state s).steps me)) (seen t)) (some_is x (state s).memory g.0)
-        (subst (λ (u : State). Passes n me line u (next x) (state t) (passed_by p line (MemWas (Some x)) (u.steps me)) (seen t)) g.1 behind)
+        let now = passed_by p line (MemWas (Some x)) in
+        let behind = passed n me (next x) calls mid turn t now (way.0 ∙ en) (way.1 ∙ em) (passing s (MemWas (Some x)) mid p ep h) rest f in
+        subst (λ (y : Mem). Passes n me line (state s) (next y) (state t) (passed_by p line (MemWas (Some y))) (seen t)) (some_is x (state s).memory g.0)
+        (subst (λ (u : State). Passes n me line u (next x) (state t) (passed_by p line (MemWas (Some x))) (seen t)) g.1 behind)
     passed n me (mem next) (MemWas None ∷ []) s turn t p en em ep (mid, h, rest) f =
         let g : Gives n (fits s) (state s) me (MemWas None) (state mid) = given n me s (MemWas None) mid en em h in
         absurd (let e = g.0 in cc)
     passed n me (tag x next) (TagWas y (Some w) ∷ calls) s turn t p en em ep (mid, h, rest) f =
         let way = each s (TagWas y (Some w)) mid h in
         let g : Gives n (fits s) (state s) me (TagWas y (Some w)) (state mid) = given n me s (TagWas y (Some w)) mid en em h in
-        let now = passed_by p line (TagWas y (Some w)) ((state mid).steps me) in
-        let behind = passed n me (next w) calls mid turn t now (way.0 ∙ en) (way.1 ∙ em) (passing me s (TagWas y (Some w)) mid p (way.1 ∙ em) ep h) rest f.1 in
+        let now = passed_by p line (TagWas y (Some w)) in
+        let behind = passed n me (next w) calls mid turn t now (way.0 ∙ en) (way.1 ∙ em) (passing s (TagWas y (Some w)) mid p ep h) rest f.1 in
         let is : w ≡ (state s).tags x = some_is w ((state s).tags y) g.0 ∙ ap (λ (z : ℕ). (state s).tags z) f.0 in
-        subst (λ (z : ℕ). Passes n me line (state s) (next ((state s).tags x)) (state t) (passed_by p line (TagWas z (Some ((state s).tags x))) ((state s).steps me)) (seen t)) f.0
-        (subst (λ (v : Tag). Passes n me line (state s) (next v) (state t) (passed_by p line (TagWas y (Some v)) ((state s).steps me)) (seen t)) is
-        (subst (λ (u : State). Passes n me line u (next w) (state t) (passed_by p line (TagWas y (Some w)) (u.steps me)) (seen t)) g.1 behind))
+        subst (λ (z : ℕ). Passes n me line (state s) (next ((state s).tags x)) (state t) (passed_by p line (TagWas z (Some ((state s).tags x)))) (seen t)) f.0
+        (subst (λ (v : Tag). Passes n me line (state s) (next v) (state t) (passed_by p line (TagWas y (Some v))) (seen t)) is
+        (subst (λ (u : State). Passes n me line u (next w) (state t) (passed_by p line (TagWas y (Some w))) (seen t)) g.1 behind))
     passed n me (tag x next) (TagWas y None ∷ []) s turn t p en em ep (mid, h, rest) f =
         let g : Gives n (fits s) (state s) me (TagWas y None) (state mid) = given n me s (TagWas y None) mid en em h in
         absurd (let e = g.0 in cc)
     passed n me (exchange event end) (Stepped e outcome ∷ []) s turn t p en em ep (mid, h, rest) f =
-        let way = each s (Stepped e outcome) mid h in
         let g : Gives n (fits s) (state s) me (Stepped e outcome) (state mid) = given n me s (Stepped e outcome) mid en em h in
         let there : Answers n (state s) me event (Ok outcome) (state mid) = subst (λ (x : Event). Answers n (state s) me x (Ok outcome) (state mid)) f.0 g.0 in
-        let now : seen mid ≡ passed_by p line (Stepped event outcome) ((state mid).steps me) =
-        subst (λ (x : Event). seen mid ≡ passed_by p line (Stepped x outcome) ((state mid).steps me)) f.0 (passing me s (Stepped e outcome) mid p (way.1 ∙ em) ep h) in (
-          outcome,
-          subst (λ (u : S). Answers n (state s) me event (Ok outcome) (state u)) (sym rest) there,
-          subst (λ (u : S). seen u ≡ passed_by p line (Stepped event outcome) ((state u).steps me)) (sym rest) now,
-        )
+        let now : seen mid ≡ passed_by p line (Stepped event outcome) = subst (λ (x : Event). seen mid ≡ passed_by p line (Stepped x outcome)) f.0 (passing s (Stepped e outcome) mid p ep h) in
+        (outcome, subst (λ (u : S). Answers n (state s) me event (Ok outcome) (state u)) (sym rest) there, ap seen rest ∙ now)
     passed n me (ends last) [] s turn t p en em ep rest f = ap seen rest ∙ ep
     passed n me _ _ s turn t p en em ep rest f = absurd f
 

@@ -16,10 +16,10 @@ use Rattle.sci_script.specs.Passed.{passed_by, Passes, PassesOverOf}
 -- what passes along a plan is on its line
 passes_line : (n me line : ℕ) (s : State) (plan : Plan) (t : State) (p q : Passed) (most : ℕ) → line < most → p.line < most → Passes n me line s plan t p q → q.line < most
 passes_line n me line s (own next) t p q most below at h =
-    passes_line n me line (looked s me) (next (s.tags me)) t (passed_by p line (Own (Some (s.tags me))) ((looked s me).steps me)) q most below below h
-passes_line n me line s (mem next) t p q most below at h = passes_line n me line s (next s.memory) t (passed_by p line (MemWas (Some s.memory)) (s.steps me)) q most below below h
+    passes_line n me line (looked s me) (next (s.tags me)) t (passed_by p line (Own (Some (s.tags me)))) q most below below h
+passes_line n me line s (mem next) t p q most below at h = passes_line n me line s (next s.memory) t (passed_by p line (MemWas (Some s.memory))) q most below below h
 passes_line n me line s (tag node next) t p q most below at h =
-    passes_line n me line s (next (s.tags node)) t (passed_by p line (TagWas node (Some (s.tags node))) (s.steps me)) q most below below h
+    passes_line n me line s (next (s.tags node)) t (passed_by p line (TagWas node (Some (s.tags node)))) q most below below h
 passes_line n me line s (exchange event end) t p q most below at h = subst (λ (x : Passed). x.line < most) (sym h.2) below
 passes_line n me line s (ends last) t p q most below at h = subst (λ (x : Passed). x.line < most) (sym h) at
 

@@ -35,7 +35,7 @@ module _ {U : Type 0} (fits : AnyWords → ℕ → List ℕ → Type 0) (lent : 
       }
 
   -- and what is kept of the turn's calls
-  module _ (seen : U → Passed) (kept : (u : U) (l : ℕ) (c : Call) (v : U) → gives u l c v → seen v ≡ passed_by (seen u) l c (step_at (lent v) l)) where
+  module _ (seen : U → Passed) (kept : (u : U) (l : ℕ) (c : Call) (v : U) → gives u l c v → seen v ≡ passed_by (seen u) l c) where
     pub watched : (n : NodeState) (call : Option OpenCall) (u : U) (turn : Turn) (v : U) (m : NodeState) → n.id ≡ (lent u).node
         → TurnsBy gives (λ a l. step_at (lent a) l) n call u (Ok turn) v m → PassesOverOf (lent u).wholes n call (lent v).wholes (seen u) (seen v)
     watched n None u turn v m id h = absurd (let e = h.0 in cc)

@@ -2,7 +2,6 @@
 use Rattle.std.specs.Prelude.{◌≡◌, ℕ, Option, Some, None, List, Ok}
 use Rattle.sci_core.specs.declared.keeps.AnyWords.{AnyWords}
 use Rattle.sci_core.specs.declared.outcomes.Outcome.{Outcome}
-use Rattle.sci_core.specs.declared.pending.Pending.{Pending}
 use Rattle.sci_core.specs.Answers.{Answers}
 use Rattle.sci_core.specs.State.{State}
 use Rattle.sci_core.specs.Step.{looked}
@@ -14,24 +13,32 @@ use Rattle.sci_cache.specs.declared.calls.OpenCall.{OpenCall}
 use Rattle.sci_cache.specs.Nodes.{NodeState, line_by, op_by}
 use Rattle.sci_port.specs.declared.calls.Call.{Call}
 use Rattle.sci_port.specs.declared.calls.Call.TheVariants.{Own, MemWas, TagWas, Stepped}
+use Rattle.sci_script.specs.declared.watching.Ending.{Ending}
+use Rattle.sci_script.specs.declared.watching.Load.{Load}
 use Rattle.sci_script.specs.declared.watching.Passed.{Passed}
 use Rattle.sci_script.specs.Nodes.{whole_of}
 use Rattle.sci_script.specs.Shared.{Shared}
 
--- with one more call and the pending step after it: the last load, and the exchange
-abbrev pub passed_by : Passed → ℕ → Call → Pending → Passed
-passed_by p line (Own word) pending = record { line = line; load = Some (Own word); step = p.step; pending = pending }
-passed_by p line (MemWas word) pending = record { line = line; load = Some (MemWas word); step = p.step; pending = pending }
-passed_by p line (TagWas node word) pending = record { line = line; load = Some (TagWas node word); step = p.step; pending = pending }
-passed_by p line (Stepped event outcome) pending = record { line = line; load = p.load; step = Some (event, outcome); pending = pending }
+-- how an exchange ended that had this outcome
+abbrev pub ending_of : Outcome → Ending
+ending_of (Outcome.Done answer) = Ending.Done
+ending_of (Outcome.Missed word) = Ending.Missed
+ending_of Outcome.Busy = Ending.Busy
+
+-- with one more call: the last load, and the exchange
+abbrev pub passed_by : Passed → ℕ → Call → Passed
+passed_by p line (Own word) = record { line = line; load = Some (Load.Own word); step = p.step }
+passed_by p line (MemWas word) = record { line = line; load = Some (Load.Mem word); step = p.step }
+passed_by p line (TagWas node word) = record { line = line; load = Some (Load.Tag node word); step = p.step }
+passed_by p line (Stepped event outcome) = record { line = line; load = p.load; step = Some (event, ending_of outcome) }
 
 -- the node me of n follows the plan on this line, from s to t: its calls are kept one after another, p before them and q behind
 -- them; loads give the words that stand, and an exchange has the line's answer
 abbrev pub Passes : ℕ → ℕ → ℕ → State → Plan → State → Passed → Passed → Type 0
-Passes n me line s (own next) t p q = Passes n me line (looked s me) (next (s.tags me)) t (passed_by p line (Own (Some (s.tags me))) ((looked s me).steps me)) q
-Passes n me line s (mem next) t p q = Passes n me line s (next s.memory) t (passed_by p line (MemWas (Some s.memory)) (s.steps me)) q
-Passes n me line s (tag node next) t p q = Passes n me line s (next (s.tags node)) t (passed_by p line (TagWas node (Some (s.tags node))) (s.steps me)) q
-Passes n me line s (exchange event end) t p q = (outcome : Outcome) × Answers n s me event (Ok outcome) t × (q ≡ passed_by p line (Stepped event outcome) (t.steps me))
+Passes n me line s (own next) t p q = Passes n me line (looked s me) (next (s.tags me)) t (passed_by p line (Own (Some (s.tags me)))) q
+Passes n me line s (mem next) t p q = Passes n me line s (next s.memory) t (passed_by p line (MemWas (Some s.memory))) q
+Passes n me line s (tag node next) t p q = Passes n me line s (next (s.tags node)) t (passed_by p line (TagWas node (Some (s.tags node)))) q
+Passes n me line s (exchange event end) t p q = (outcome : Outcome) × Answers n s me event (Ok outcome) t × (q ≡ passed_by p line (Stepped event outcome))
 Passes n me line s (ends last) t p q = q ≡ p
 
 -- in one turn of the node's operation

@@ -26,6 +26,6 @@ pub use reader::read_script;
 pub use refusals::ScriptRefusal;
 pub use running::{note, perform};
 pub use texts::{list_text, tag_text};
-pub use watching::Passed;
+pub use watching::{Ending, Load, Passed};
 pub use wholes::WholeDesk;
 pub use writing::{WriteFailed, put};

@@ -3,26 +3,46 @@ ghost use Rattle.std.specs.Prelude.{◌≡◌, ◌<◌, ℕ, true, Some, length,
 ghost use Rattle.sci_core.specs.Whole.{nodes_of};
 ghost use Rattle.sci_cache.specs.Nodes.{IsSameNode, line_by};
 ghost use Rattle.sci_script.specs.Nodes.{TurnsOverOf, whole_of};
-ghost use Rattle.sci_script.specs.Passed.{passed_by, PassesOverOf};
+ghost use Rattle.sci_script.specs.Passed.{ending_of, passed_by, PassesOverOf};
 
 use crate::wholes::WholeDesk;
 use sci_cache::Node;
-use sci_core::{AnyWords, Event, Outcome, Pending};
+use sci_core::{AnyWords, Event, Outcome, Pending, Stage};
 use sci_ops::Turn;
-use sci_port::{Bank, Call, SoloBank};
+use sci_port::{Bank, SoloBank};
 use sci_words::{LineNo, Mem, NodeId, Tag};
 
-/// What passed in a turn.
+/// A load, with its answer.
+#[derive(Clone, Copy, Debug, PartialEq, Eq)]
+pub enum Load {
+    /// A look at the own tag.
+    Own(Option<Tag>),
+    /// A load of the memory word.
+    Mem(Option<Mem>),
+    /// A load of a node's tag.
+    Tag(NodeId, Option<Tag>),
+}
+
+/// How an exchange ended.
+#[derive(Clone, Copy, Debug, PartialEq, Eq)]
+pub enum Ending {
+    /// The row was made.
+    Done,
+    /// Another word than the row's was found.
+    Missed,
+    /// Another had the line.
+    Busy,
+}
+
+/// What passed in a turn. It keeps no line of bytes but what a write stores: each call of a turn writes into it.
 #[derive(Clone, Copy, Debug, PartialEq, Eq)]
 pub struct Passed {
     /// The line of the last call.
     pub line: LineNo,
-    /// The last load, with its answer.
-    pub load: Option<Call>,
-    /// The exchange that was tried, with its outcome.
-    pub step: Option<(Event, Outcome)>,
-    /// The node's pending step there after the last call.
-    pub pending: Pending,
+    /// The last load.
+    pub load: Option<Load>,
+    /// The exchange that was tried, with its ending.
+    pub step: Option<(Event, Ending)>,
 }
 
 impl Passed {
@@ -31,16 +51,24 @@ impl Passed {
         line: 0,
         load: None,
         step: None,
-        pending: Pending::Idle,
     };
 
     // Keeps a load.
-    fn load(&mut self, line: LineNo, call: Call, pending: &Pending)
-        ensures { self.new ≡ record { line = line; load = Some call; step = self.old.step; pending = pending.now } }
+    fn load(&mut self, line: LineNo, load: Load)
+        ensures { self.new ≡ record { line = line; load = Some load; step = self.old.step } }
     {
         self.line = line;
-        self.load = Some(call);
-        self.pending = *pending;
+        self.load = Some(load);
+    }
+}
+
+fn ending_of(outcome: &Outcome) -> Ending
+    ensures { result ≡ ending_of outcome.now }
+{
+    match outcome {
+        Outcome::Done(_) => Ending::Done,
+        Outcome::Missed(_) => Ending::Missed,
+        Outcome::Busy => Ending::Busy,
     }
 }
 
@@ -62,7 +90,7 @@ impl<B: Bank> Bank for Watched<'_, '_, B> {
 
     ghost at_step = { λ s line. B.at_step s.bank.now line };
 
-    ghost gives = { λ s line call t. B.gives s.bank.now line call t.bank.now × (t.passed.now ≡ passed_by s.passed.now line call (B.at_step t.bank.now line)) × (t.bank.ghost_name ≡ s.bank.ghost_name) × (t.passed.ghost_name ≡ s.passed.ghost_name) };
+    ghost gives = { λ s line call t. B.gives s.bank.now line call t.bank.now × (t.passed.now ≡ passed_by s.passed.now line call) × (t.bank.ghost_name ≡ s.bank.ghost_name) × (t.passed.ghost_name ≡ s.passed.ghost_name) };
 
     ghost same_way = { λ s line call t h. B.same_way s.bank.now line call t.bank.now h.0 };
 
@@ -90,41 +118,41 @@ impl<B: Bank> Bank for Watched<'_, '_, B> {
         self.bank.number(line)
     }
 
-    fn pending(&self, line: LineNo) -> &Pending {
+    fn pending(&self, line: LineNo) -> Pending {
         self.bank.pending(line)
+    }
+
+    fn stage(&self, line: LineNo) -> Stage {
+        self.bank.stage(line)
     }
 
     fn own(&mut self, line: LineNo) -> Option<Tag> {
         let own = self.bank.own(line);
         let answer = own;
-        self.passed
-            .load(line, Call::Own(answer), self.bank.pending(line));
+        self.passed.load(line, Load::Own(answer));
         own
     }
 
     fn mem(&mut self, line: LineNo) -> Option<Mem> {
         let mem = self.bank.mem(line);
         let answer = mem;
-        self.passed
-            .load(line, Call::MemWas(answer), self.bank.pending(line));
+        self.passed.load(line, Load::Mem(answer));
         mem
     }
 
     fn tag(&mut self, line: LineNo, node: NodeId) -> Option<Tag> {
         let tag = self.bank.tag(line, node);
         let answer = tag;
-        self.passed
-            .load(line, Call::TagWas(node, answer), self.bank.pending(line));
+        self.passed.load(line, Load::Tag(node, answer));
         tag
     }
 
     fn step(&mut self, line: LineNo, event: Event) -> Outcome {
         let passing = event;
         let outcome = self.bank.step(line, event);
-        let answer = outcome;
+        let ending = ending_of(&outcome);
         self.passed.line = line;
-        self.passed.step = Some((passing, answer));
-        self.passed.pending = *self.bank.pending(line);
+        self.passed.step = Some((passing, ending));
         outcome
     }
 }
@@ -170,5 +198,17 @@ impl WholeDesk {
             &mut self.nodes[usize::from(node.get())],
             passed,
         )
+    }
+
+    /// The node's pending step on the line.
+    pub fn pending(&mut self, line: LineNo, node: NodeId) -> Pending
+        requires line { line < self.old.size.lines }
+        requires node { node < self.old.size.nodes }
+        ensures value { result ≡ ((shared_of self.old).lines line).steps node }
+        ensures same { shared_of self.new ≡ shared_of self.old }
+        ensures size { self.new.size ≡ self.old.size }
+    {
+        self.bank.seat(node);
+        Bank::pending(&self.bank, line)
     }
 }

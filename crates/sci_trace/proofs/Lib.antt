@@ -4,3 +4,4 @@ pub mod Tracing
 pub mod Pages
 pub mod Tellings
 pub mod Same
+pub mod Digits

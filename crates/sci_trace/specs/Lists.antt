@@ -12,19 +12,19 @@ use Rattle.sci_script.specs.Text.{held_text}
 abbrev pub entry_text : ℕ × Tag → List ℕ
 entry_text entry = decimal entry.0 ++ codes " " ++ name_of entry.1 ++ held_text entry.1.held
 
--- ` N NAME, N NAME ..`
+-- `: N NAME, N NAME ..`
 abbrev pub entries_text : List (ℕ × Tag) → List ℕ
-entries_text [] = []
-entries_text (entry ∷ entries) = codes " " ++ entry_text entry ++ flat_map (λ entry. codes ", " ++ entry_text entry) entries
+entries_text [] = codes ":"
+entries_text (entry ∷ entries) = codes ": " ++ entry_text entry ++ flat_map (λ entry. codes ", " ++ entry_text entry) entries
 
 abbrev pub lent_text : Bool → List ℕ
 lent_text true = codes " lent"
 lent_text false = []
 
--- ` F:` and the entries, where there is a head
+-- ` F` and the entries, where there is a head
 abbrev pub head_text : Option ℕ → List (ℕ × Tag) → List ℕ
 head_text None entries = []
-head_text (Some head) entries = codes " " ++ decimal head ++ codes ":" ++ entries_text entries
+head_text (Some head) entries = codes " " ++ decimal head ++ entries_text entries
 
 -- `HOME`, `FRESH F: N NAME, N NAME ..`, with ` lent` behind the state
 abbrev pub list_text : Mem → List (ℕ × Tag) → List ℕ

@@ -3,13 +3,11 @@ use Rattle.std.specs.Prelude.{ℕ, List, ◌++◌, Option, Some, None, codes, �
 use Rattle.std.specs.Fmt.{decimal}
 use Rattle.sci_words.specs.declared.memory.Mem.{Mem}
 use Rattle.sci_words.specs.declared.tags.Tag.{Tag}
-use Rattle.sci_core.specs.declared.outcomes.Outcome.{Outcome}
 use Rattle.sci_core.specs.declared.pending.Pending.{Pending}
-use Rattle.sci_port.specs.declared.calls.Call.{Call}
-use Rattle.sci_port.specs.declared.calls.Call.TheVariants.{Own, MemWas, TagWas}
 use Rattle.sci_ops.specs.declared.answers.Turn.{Turn}
 use Rattle.sci_cache.specs.declared.requests.Request.{Request}
 use Rattle.sci_cache.specs.Requests.{line_of}
+use Rattle.sci_script.specs.declared.watching.Load.{Load}
 use Rattle.sci_script.specs.declared.watching.Passed.{Passed}
 use Rattle.sci_trace.specs.Words.{link_word, tag_text}
 use Rattle.sci_trace.specs.Events.{event_text}
@@ -17,21 +15,16 @@ use Rattle.sci_trace.specs.Steps.{step_text}
 use Rattle.sci_trace.specs.Lists.{list_text}
 
 abbrev pub request_name : Request → List ℕ
-request_name (Request.Load line) = codes "load"
-request_name (Request.Store line word value) = codes "store"
-request_name (Request.Add line word delta) = codes "add"
-request_name (Request.WriteLine line words) = codes "write line"
-request_name (Request.Evict line) = codes "evict"
+request_name (Request.Load line) = codes " load: "
+request_name (Request.Store line word value) = codes " store: "
+request_name (Request.Add line word delta) = codes " add: "
+request_name (Request.WriteLine line words) = codes " write line: "
+request_name (Request.Evict line) = codes " evict: "
 
 -- the operation at work on a line: the one that was asked for, or, on another line, the victim's eviction
 abbrev pub operation_name : Option Request → ℕ → List ℕ
-operation_name None line = codes "evict"
-operation_name (Some request) line = if line_of request == line then request_name request else codes "evict"
-
-abbrev pub outcome_name : Outcome → List ℕ
-outcome_name (Outcome.Done answer) = codes " Done"
-outcome_name (Outcome.Missed word) = codes " Missed"
-outcome_name Outcome.Busy = codes " Busy"
+operation_name None line = codes " evict: "
+operation_name (Some request) line = if line_of request == line then request_name request else codes " evict: "
 
 -- a wait behind a load of the memory word: in Queueing for the lent line, elsewhere for the place of the head
 abbrev pub mem_wait : Pending → Mem → List ℕ
@@ -39,29 +32,29 @@ mem_wait (Pending.Queueing forw) mem = codes "memory is lent"
 mem_wait _ mem = codes "memory names " ++ link_word mem.forw
 
 -- what a turn that waited has seen last
-abbrev pub wait_text : ℕ → Option Call → Pending → List ℕ
-wait_text node (Some (Own (Some tag))) pending = tag_text node tag
-wait_text node (Some (MemWas (Some mem))) pending = mem_wait pending mem
-wait_text node (Some (TagWas other (Some tag))) pending = tag_text other tag
+abbrev pub wait_text : ℕ → Option Load → Pending → List ℕ
+wait_text node (Some (Load.Own (Some tag))) pending = tag_text node tag
+wait_text node (Some (Load.Mem (Some mem))) pending = mem_wait pending mem
+wait_text node (Some (Load.Tag other (Some tag))) pending = tag_text other tag
 wait_text node _ pending = codes "the line is busy"
 
 -- a turn without an exchange: it waited, or it only looked
-abbrev pub look_text : ℕ → Passed → Turn → List ℕ
-look_text node passed Turn.Waiting = codes "waits: " ++ wait_text node passed.load passed.pending
-look_text node passed _ = codes "only looked"
+abbrev pub look_text : ℕ → Option Load → Pending → Turn → List ℕ
+look_text node load pending Turn.Waiting = codes "waits: " ++ wait_text node load pending ++ codes "; "
+look_text node load pending _ = codes "only looked; "
 
--- what a turn did: its event and the outcome, or its wait, or that it only looked
-abbrev pub act_text : ℕ → Passed → Turn → List ℕ
-act_text node passed turn = elim passed.step [
-  | None ↦ look_text node passed turn
-  | Some step ↦ event_text passed.load step.0 ++ outcome_name step.1
+-- what a turn did: its event and how the exchange ended, or its wait, or that it only looked
+abbrev pub act_text : ℕ → Passed → Pending → Turn → List ℕ
+act_text node passed pending turn = elim passed.step [
+  | None ↦ look_text node passed.load pending turn
+  | Some step ↦ event_text passed.load step.0 step.1
 ]
 
 -- `# node N line L OPERATION: `
 abbrev pub place_text : ℕ → Option Request → ℕ → List ℕ
-place_text node asked line = codes "# node " ++ decimal node ++ codes " line " ++ decimal line ++ codes " " ++ operation_name asked line ++ codes ": "
+place_text node asked line = codes "# node " ++ decimal node ++ codes " line " ++ decimal line ++ operation_name asked line
 
 -- `# node N line L OPERATION: WHAT; STEP; LIST`
-abbrev pub note_line : ℕ → Option Request → Passed → Turn → Mem → List (ℕ × Tag) → List ℕ
-note_line node asked passed turn mem entries =
-    place_text node asked passed.line ++ act_text node passed turn ++ codes "; " ++ step_text passed.pending ++ codes "; " ++ list_text mem entries ++ codes "\n"
+abbrev pub note_line : ℕ → Option Request → Passed → Pending → Turn → Mem → List (ℕ × Tag) → List ℕ
+note_line node asked passed pending turn mem entries =
+    place_text node asked passed.line ++ act_text node passed pending turn ++ step_text pending ++ list_text mem entries ++ codes "\n"

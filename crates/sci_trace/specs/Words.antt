@@ -3,8 +3,7 @@ use Rattle.std.specs.Prelude.{ℕ, List, [], ◌++◌, Option, Some, None, codes
 use Rattle.std.specs.Fmt.{decimal}
 use Rattle.sci_words.specs.declared.tags.Tag.{Tag}
 use Rattle.sci_words.specs.Tag.{name_of}
-use Rattle.sci_port.specs.declared.calls.Call.{Call}
-use Rattle.sci_port.specs.declared.calls.Call.TheVariants.{TagWas}
+use Rattle.sci_script.specs.declared.watching.Load.{Load}
 use Rattle.sci_script.specs.Text.{held_text}
 
 -- a link: a node, or `none`
@@ -13,13 +12,13 @@ link_word None = codes "none"
 link_word (Some node) = decimal node
 
 -- the node whose tag was loaded last, where one was
-abbrev pub of_text : Option Call → List ℕ
-of_text (Some (TagWas node tag)) = decimal node ++ codes " "
+abbrev pub of_text : Option Load → List ℕ
+of_text (Some (Load.Tag node tag)) = decimal node ++ codes " "
 of_text _ = []
 
--- the tag that an event found: `(NAME)` of the own tag, `(N NAME)` of another node's
-abbrev pub found_text : Option Call → Tag → List ℕ
-found_text load tag = codes "(" ++ of_text load ++ name_of tag ++ codes ")"
+-- the tag that an event found: `NAME` of the own tag, `N NAME` of another node's
+abbrev pub found_text : Option Load → Tag → List ℕ
+found_text load tag = of_text load ++ name_of tag
 
 -- `node N is NAME forw F back B`, and ` held`
 abbrev pub tag_text : ℕ → Tag → List ℕ

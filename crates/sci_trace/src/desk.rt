@@ -83,7 +83,8 @@ impl TraceDesk {
         requires line { passed.now.line < self.old.size.lines }
         ensures same { shared_of self.new.desk ≡ shared_of self.old.desk }
         ensures told { (self.new.notes.is_cut ≡ true) ⊎ ((self.new.notes.is_cut ≡ self.old.notes.is_cut) × (told : Told) × (told.node ≡ node) × (told.turn ≡ turn.now) × (told.passed ≡ passed.now)
-            × (told.mem ≡ ((shared_of self.old.desk).lines passed.now.line).memory) × (string_bytes self.new.notes.text ≡ string_bytes self.old.notes.text ++ line_of_turn told)) }
+            × (told.pending ≡ ((shared_of self.old.desk).lines passed.now.line).steps node) × (told.mem ≡ ((shared_of self.old.desk).lines passed.now.line).memory)
+            × (string_bytes self.new.notes.text ≡ string_bytes self.old.notes.text ++ line_of_turn told)) }
         ensures size { self.new.size ≡ self.old.size }
     {
         let line = passed.line;
@@ -95,9 +96,10 @@ impl TraceDesk {
             self.notes.cut();
             return;
         }
+        let pending = self.desk.pending(line, node);
         let asked = &self.asked[usize::from(node.get())];
         self.notes
-            .tell(node, asked, passed, turn, mem, &self.entries);
+            .tell(node, asked, passed, &pending, turn, mem, &self.entries);
     }
 }
 

@@ -3,46 +3,46 @@
 ghost use Rattle.std.specs.Prelude.{◌≡◌, ◌++◌, OnOk, string_bytes, codes};
 ghost use Rattle.std.specs.Fmt.{decimal};
 ghost use Rattle.std.specs.List.{flat_map};
-ghost use Rattle.sci_trace.specs.Events.{event_name, written_text, argument_text, event_text};
+ghost use Rattle.sci_trace.specs.Events.{event_name, written_text, ending_text, closed_ending, argument_text, event_text};
 
 use crate::words::{push_found, push_link, push_number};
 use sci_core::Event;
-use sci_port::Call;
+use sci_script::{Ending, Load};
 use std::alloc::AllocError;
 
-/// An event's name.
+/// An event's name, and the bracket in front of its argument, where it has one.
 fn event_name(event: &Event) -> &'static str
     ensures { result.now ≡ event_name event.now }
 {
     match event {
         Event::Look => "Look",
-        Event::Queue(_) => "Queue",
-        Event::Requeue(_) => "Requeue",
+        Event::Queue(_) => "Queue(",
+        Event::Requeue(_) => "Requeue(",
         Event::PrependValid => "PrependValid",
         Event::ReturnMemory => "ReturnMemory",
-        Event::AttachFresh(_) => "AttachFresh",
+        Event::AttachFresh(_) => "AttachFresh(",
         Event::Settle => "Settle",
-        Event::Hold(_) => "Hold",
+        Event::Hold(_) => "Hold(",
         Event::Unhold => "Unhold",
-        Event::Convert(_) => "Convert",
+        Event::Convert(_) => "Convert(",
         Event::FreshToGone => "FreshToGone",
         Event::Converted => "Converted",
         Event::Unconverted => "Unconverted",
-        Event::BeginPurge(_) => "BeginPurge",
-        Event::Written(_) => "Written",
+        Event::BeginPurge(_) => "BeginPurge(",
+        Event::Written(_) => "Written(",
         Event::PrependGone => "PrependGone",
-        Event::AttachDirty(_) => "AttachDirty",
+        Event::AttachDirty(_) => "AttachDirty(",
         Event::ReturnCopy => "ReturnCopy",
-        Event::PurgeOne(_) => "PurgeOne",
+        Event::PurgeOne(_) => "PurgeOne(",
         Event::Advance => "Advance",
         Event::Clear => "Clear",
-        Event::Roll(_) => "Roll",
-        Event::TellSuccessor(_) => "TellSuccessor",
-        Event::TellPredecessor(_) => "TellPredecessor",
-        Event::Adopt(_) => "Adopt",
+        Event::Roll(_) => "Roll(",
+        Event::TellSuccessor(_) => "TellSuccessor(",
+        Event::TellPredecessor(_) => "TellPredecessor(",
+        Event::Adopt(_) => "Adopt(",
         Event::Rolled => "Rolled",
-        Event::Leave(_) => "Leave",
-        Event::Promote(_) => "Promote",
+        Event::Leave(_) => "Leave(",
+        Event::Promote(_) => "Promote(",
         Event::PassOn => "PassOn",
         Event::Stay => "Stay",
         Event::ReEnter => "ReEnter",
@@ -69,24 +69,52 @@ fn push_written(text: &mut String, words: &Option<[u64; 8]>) -> Result<(), Alloc
 {
     match words {
         Some(words) => {
-            text.push_str("(words")?;
-            push_words(text, words)?;
-            text.push_str(")")
+            text.push_str("words")?;
+            push_words(text, words)
         }
-        None => text.push_str("(none)"),
+        None => text.push_str("none"),
     }
 }
 
-fn push_argument(text: &mut String, load: &Option<Call>, event: &Event) -> Result<(), AllocError>
-    ensures { OnOk result (string_bytes text.new ≡ string_bytes text.old ++ argument_text load.now event.now) }
+/// How an exchange ended, behind an event without an argument.
+fn push_ending(text: &mut String, ending: Ending) -> Result<(), AllocError>
+    ensures { OnOk result (string_bytes text.new ≡ string_bytes text.old ++ ending_text ending) }
+{
+    match ending {
+        Ending::Done => text.push_str(" Done; "),
+        Ending::Missed => text.push_str(" Missed; "),
+        Ending::Busy => text.push_str(" Busy; "),
+    }
+}
+
+/// How an exchange ended, behind an argument.
+fn push_closed(text: &mut String, ending: Ending) -> Result<(), AllocError>
+    ensures { OnOk result (string_bytes text.new ≡ string_bytes text.old ++ closed_ending ending) }
+{
+    match ending {
+        Ending::Done => text.push_str(") Done; "),
+        Ending::Missed => text.push_str(") Missed; "),
+        Ending::Busy => text.push_str(") Busy; "),
+    }
+}
+
+fn push_argument(
+    text: &mut String,
+    load: &Option<Load>,
+    event: &Event,
+    ending: Ending,
+) -> Result<(), AllocError>
+    ensures { OnOk result (string_bytes text.new ≡ string_bytes text.old ++ argument_text load.now event.now ending) }
 {
     match event {
         Event::Queue(forw) | Event::Requeue(forw) => {
-            text.push_str("(")?;
             push_link(text, *forw)?;
-            text.push_str(")")
+            push_closed(text, ending)
         }
-        Event::Written(words) => push_written(text, words),
+        Event::Written(words) => {
+            push_written(text, words)?;
+            push_closed(text, ending)
+        }
         Event::AttachFresh(found)
         | Event::Hold(found)
         | Event::Convert(found)
@@ -98,19 +126,23 @@ fn push_argument(text: &mut String, load: &Option<Call>, event: &Event) -> Resul
         | Event::TellPredecessor(found)
         | Event::Adopt(found)
         | Event::Leave(found)
-        | Event::Promote(found) => push_found(text, load, *found),
-        _ => Ok(()),
+        | Event::Promote(found) => {
+            push_found(text, load, *found)?;
+            push_closed(text, ending)
+        }
+        _ => push_ending(text, ending),
     }
 }
 
-/// An event with its arguments, behind this load.
+/// An event with its arguments, behind this load, and how it ended.
 pub(crate) fn push_event(
     text: &mut String,
-    load: &Option<Call>,
+    load: &Option<Load>,
     event: &Event,
+    ending: Ending,
 ) -> Result<(), AllocError>
-    ensures { OnOk result (string_bytes text.new ≡ string_bytes text.old ++ event_text load.now event.now) }
+    ensures { OnOk result (string_bytes text.new ≡ string_bytes text.old ++ event_text load.now event.now ending) }
 {
     text.push_str(event_name(event))?;
-    push_argument(text, load, event)
+    push_argument(text, load, event, ending)
 }

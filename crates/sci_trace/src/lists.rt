@@ -23,14 +23,15 @@ fn push_entries(text: &mut String, entries: &[(NodeId, Tag)]) -> Result<(), Allo
     ensures { OnOk result (string_bytes text.new ≡ string_bytes text.old ++ entries_text entries.now) }
 {
     if let [first, others @ ..] = entries {
-        text.push_str(" ")?;
+        text.push_str(": ")?;
         push_entry(text, *first)?;
         for entry in others {
             text.push_str(", ")?;
             push_entry(text, *entry)?;
         }
+        return Ok(());
     }
-    Ok(())
+    text.push_str(":")
 }
 
 fn push_lent(text: &mut String, lent: bool) -> Result<(), AllocError>
@@ -52,7 +53,6 @@ fn push_head(
     if let Some(head) = head {
         text.push_str(" ")?;
         push_node(text, head)?;
-        text.push_str(":")?;
         push_entries(text, entries)?;
     }
     Ok(())

@@ -6,6 +6,7 @@ ghost use Rattle.sci_trace.specs.Texts.{note_line};
 
 use crate::texts::push_note;
 use sci_cache::Request;
+use sci_core::Pending;
 use sci_ops::Turn;
 use sci_script::Passed;
 use sci_words::{Mem, NodeId, Tag};
@@ -68,13 +69,23 @@ impl Notes {
         node: NodeId,
         asked: &Option<Request>,
         passed: &Passed,
+        pending: &Pending,
         turn: &Turn,
         mem: Mem,
         entries: &[(NodeId, Tag)],
     )
-        ensures { (self.new.is_cut ≡ true) ⊎ ((self.new.is_cut ≡ self.old.is_cut) × (string_bytes self.new.text ≡ string_bytes self.old.text ++ note_line node asked.now passed.now turn.now mem entries.now)) }
+        ensures { (self.new.is_cut ≡ true) ⊎ ((self.new.is_cut ≡ self.old.is_cut) × (string_bytes self.new.text ≡ string_bytes self.old.text ++ note_line node asked.now passed.now pending.now turn.now mem entries.now)) }
     {
-        match push_note(&mut self.text, node, asked, passed, turn, mem, entries) {
+        match push_note(
+            &mut self.text,
+            node,
+            asked,
+            passed,
+            pending,
+            turn,
+            mem,
+            entries,
+        ) {
             Ok(()) => {}
             Err(_) => {
                 // the front of a line is no line

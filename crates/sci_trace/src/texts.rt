@@ -2,46 +2,39 @@
 
 ghost use Rattle.std.specs.Prelude.{◌≡◌, ◌++◌, OnOk, string_bytes, codes};
 ghost use Rattle.std.specs.Fmt.{decimal};
-ghost use Rattle.sci_trace.specs.Texts.{operation_name, outcome_name, mem_wait, wait_text, look_text, act_text, place_text, note_line};
+ghost use Rattle.sci_trace.specs.Texts.{operation_name, mem_wait, wait_text, look_text, act_text, place_text, note_line};
 
 use crate::events::push_event;
 use crate::lists::push_list;
 use crate::steps::push_step;
 use crate::words::{push_link, push_node, push_number, push_tag};
 use sci_cache::Request;
-use sci_core::{Event, Outcome, Pending};
+use sci_core::Pending;
 use sci_ops::Turn;
-use sci_port::Call;
-use sci_script::Passed;
+use sci_script::{Load, Passed};
 use sci_words::{LineNo, Mem, NodeId, Tag};
 use std::alloc::AllocError;
 
 /// The operation at work on a line: the one that was asked for, or, on another line, the victim's eviction.
-fn operation_name(asked: &Option<Request>, line: LineNo) -> &'static str
-    ensures { result.now ≡ operation_name asked.now line }
+fn push_operation(
+    text: &mut String,
+    asked: &Option<Request>,
+    line: LineNo,
+) -> Result<(), AllocError>
+    ensures { OnOk result (string_bytes text.new ≡ string_bytes text.old ++ operation_name asked.now line) }
 {
     let Some(request) = asked else {
-        return "evict";
+        return text.push_str(" evict: ");
     };
     if request.line() != line {
-        return "evict";
+        return text.push_str(" evict: ");
     }
     match request {
-        Request::Load { .. } => "load",
-        Request::Store { .. } => "store",
-        Request::Add { .. } => "add",
-        Request::WriteLine { .. } => "write line",
-        Request::Evict { .. } => "evict",
-    }
-}
-
-fn outcome_name(outcome: &Outcome) -> &'static str
-    ensures { result.now ≡ outcome_name outcome.now }
-{
-    match outcome {
-        Outcome::Done(_) => " Done",
-        Outcome::Missed(_) => " Missed",
-        Outcome::Busy => " Busy",
+        Request::Load { .. } => text.push_str(" load: "),
+        Request::Store { .. } => text.push_str(" store: "),
+        Request::Add { .. } => text.push_str(" add: "),
+        Request::WriteLine { .. } => text.push_str(" write line: "),
+        Request::Evict { .. } => text.push_str(" evict: "),
     }
 }
 
@@ -57,13 +50,18 @@ fn push_mem_wait(text: &mut String, pending: &Pending, mem: Mem) -> Result<(), A
 }
 
 /// What a turn that waited has seen last.
-fn push_wait(text: &mut String, node: NodeId, passed: &Passed) -> Result<(), AllocError>
-    ensures { OnOk result (string_bytes text.new ≡ string_bytes text.old ++ wait_text node passed.now.load passed.now.pending) }
+fn push_wait(
+    text: &mut String,
+    node: NodeId,
+    load: &Option<Load>,
+    pending: &Pending,
+) -> Result<(), AllocError>
+    ensures { OnOk result (string_bytes text.new ≡ string_bytes text.old ++ wait_text node load.now pending.now) }
 {
-    match passed.load {
-        Some(Call::Own(Some(tag))) => push_tag(text, node, tag),
-        Some(Call::MemWas(Some(mem))) => push_mem_wait(text, &passed.pending, mem),
-        Some(Call::TagWas(other, Some(tag))) => push_tag(text, other, tag),
+    match load {
+        Some(Load::Own(Some(tag))) => push_tag(text, node, *tag),
+        Some(Load::Mem(Some(mem))) => push_mem_wait(text, pending, *mem),
+        Some(Load::Tag(other, Some(tag))) => push_tag(text, *other, *tag),
         _ => text.push_str("the line is busy"),
     }
 }
@@ -72,28 +70,33 @@ fn push_wait(text: &mut String, node: NodeId, passed: &Passed) -> Result<(), All
 fn push_look(
     text: &mut String,
     node: NodeId,
-    passed: &Passed,
+    load: &Option<Load>,
+    pending: &Pending,
     turn: &Turn,
 ) -> Result<(), AllocError>
-    ensures { OnOk result (string_bytes text.new ≡ string_bytes text.old ++ look_text node passed.now turn.now) }
+    ensures { OnOk result (string_bytes text.new ≡ string_bytes text.old ++ look_text node load.now pending.now turn.now) }
 {
     if let Turn::Waiting = turn {
         text.push_str("waits: ")?;
-        return push_wait(text, node, passed);
+        push_wait(text, node, load, pending)?;
+        return text.push_str("; ");
     }
-    text.push_str("only looked")
+    text.push_str("only looked; ")
 }
 
-/// What a turn did: its event and the outcome, or its wait, or that it only looked.
-fn push_act(text: &mut String, node: NodeId, passed: &Passed, turn: &Turn) -> Result<(), AllocError>
-    ensures { OnOk result (string_bytes text.new ≡ string_bytes text.old ++ act_text node passed.now turn.now) }
+/// What a turn did: its event and how the exchange ended, or its wait, or that it only looked.
+fn push_act(
+    text: &mut String,
+    node: NodeId,
+    passed: &Passed,
+    pending: &Pending,
+    turn: &Turn,
+) -> Result<(), AllocError>
+    ensures { OnOk result (string_bytes text.new ≡ string_bytes text.old ++ act_text node passed.now pending.now turn.now) }
 {
     match &passed.step {
-        Some((event, outcome)) => {
-            push_event(text, &passed.load, event)?;
-            text.push_str(outcome_name(outcome))
-        }
-        None => push_look(text, node, passed, turn),
+        Some((event, ending)) => push_event(text, &passed.load, event, *ending),
+        None => push_look(text, node, &passed.load, pending, turn),
     }
 }
 
@@ -109,9 +112,7 @@ fn push_place(
     push_node(text, node)?;
     text.push_str(" line ")?;
     push_number(text, u64::from(line))?;
-    text.push_str(" ")?;
-    text.push_str(operation_name(asked, line))?;
-    text.push_str(": ")
+    push_operation(text, asked, line)
 }
 
 /// One turn of a node, which was asked for this: `# node N line L OPERATION: WHAT; STEP; LIST` and a line feed. WHAT is the event
@@ -122,17 +123,16 @@ pub(crate) fn push_note(
     node: NodeId,
     asked: &Option<Request>,
     passed: &Passed,
+    pending: &Pending,
     turn: &Turn,
     mem: Mem,
     entries: &[(NodeId, Tag)],
 ) -> Result<(), AllocError>
-    ensures { OnOk result (string_bytes text.new ≡ string_bytes text.old ++ note_line node asked.now passed.now turn.now mem entries.now) }
+    ensures { OnOk result (string_bytes text.new ≡ string_bytes text.old ++ note_line node asked.now passed.now pending.now turn.now mem entries.now) }
 {
     push_place(text, node, asked, passed.line)?;
-    push_act(text, node, passed, turn)?;
-    text.push_str("; ")?;
-    push_step(text, &passed.pending)?;
-    text.push_str("; ")?;
+    push_act(text, node, passed, pending, turn)?;
+    push_step(text, pending)?;
     push_list(text, mem, entries)?;
     text.push_str("\n")
 }

@@ -1,19 +1,37 @@
 //! The parts that the words of a note share.
 
-ghost use Rattle.std.specs.Prelude.{◌≡◌, ◌++◌, OnOk, string_bytes, codes};
+ghost use Rattle.std.specs.Prelude.{◌≡◌, ◌<◌, ◌++◌, OnOk, string_bytes, codes};
 ghost use Rattle.std.specs.Fmt.{decimal};
 ghost use Rattle.sci_script.specs.Text.{held_text};
 ghost use Rattle.sci_trace.specs.Words.{link_word, of_text, found_text, tag_text};
 
 use itoa::Buffer;
-use sci_port::Call;
+use sci_script::Load;
 use sci_words::{NodeId, Tag, name};
 use std::alloc::AllocError;
 
-/// A number in decimal digits. Each line of a turn has some, and `write!` takes several times as long.
+/// One digit.
+#[tactic(auto, using(std::proofs::lemmas::Fmt::decimal_digit))]
+#[inline(always)]
+fn push_digit(text: &mut String, digit: u64) -> Result<(), AllocError>
+    requires { digit < 10 }
+    ensures { OnOk result (string_bytes text.new ≡ string_bytes text.old ++ decimal digit) }
+{
+    text.push(char::from(b'0' + digit as u8))
+}
+
+/// A number in decimal digits. Each line of a turn has some, and `write!` takes several times as long; most have one digit or two.
+#[tactic(auto, using(std::proofs::lemmas::Fmt::decimal_digit))]
 pub(crate) fn push_number(text: &mut String, number: u64) -> Result<(), AllocError>
     ensures { OnOk result (string_bytes text.new ≡ string_bytes text.old ++ decimal number) }
 {
+    if number < 10 {
+        return push_digit(text, number);
+    }
+    if number < 100 {
+        push_digit(text, number / 10)?;
+        return push_digit(text, number % 10);
+    }
     text.push_str(Buffer::new().format(number))
 }
 
@@ -35,24 +53,22 @@ pub(crate) fn push_link(text: &mut String, link: Option<NodeId>) -> Result<(), A
 }
 
 // The node whose tag was loaded last.
-fn push_of(text: &mut String, load: &Option<Call>) -> Result<(), AllocError>
+fn push_of(text: &mut String, load: &Option<Load>) -> Result<(), AllocError>
     ensures { OnOk result (string_bytes text.new ≡ string_bytes text.old ++ of_text load.now) }
 {
-    if let Some(Call::TagWas(node, _)) = load {
+    if let Some(Load::Tag(node, _)) = load {
         push_node(text, *node)?;
         text.push_str(" ")?;
     }
     Ok(())
 }
 
-/// The tag that an event found: `(NAME)` of the own tag, `(N NAME)` of another node's.
-pub(crate) fn push_found(text: &mut String, load: &Option<Call>, tag: Tag) -> Result<(), AllocError>
+/// The tag that an event found: `NAME` of the own tag, `N NAME` of another node's.
+pub(crate) fn push_found(text: &mut String, load: &Option<Load>, tag: Tag) -> Result<(), AllocError>
     ensures { OnOk result (string_bytes text.new ≡ string_bytes text.old ++ found_text load.now tag) }
 {
-    text.push_str("(")?;
     push_of(text, load)?;
-    text.push_str(name(tag))?;
-    text.push_str(")")
+    text.push_str(name(tag))
 }
 
 /// A node's tag, with its links: `node N is NAME forw F back B`, and ` held`.

@@ -4,6 +4,7 @@ pub mod Dealing
 pub mod Fitting
 pub mod Handed
 pub mod Items
+pub mod Locked
 pub mod Making
 pub mod Opening
 pub mod Plain

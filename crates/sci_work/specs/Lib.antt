@@ -1,5 +1,6 @@
 pub mod Ended
 pub mod Hands
+pub mod Locked
 pub mod Made
 pub mod Plain
 pub mod Programs

@@ -46,7 +46,7 @@ fn turn_of(line: &CoarseLine<AnyWords>, seat: &mut Seat<AnyWords>, op: &mut Op) 
 {
     let (node, number, pending) = (seat.node(), seat.number(), seat.pending());
     let mut port = line.port(seat);
-    let is_same = port.node() == node && port.number() == number && *port.pending() == pending;
+    let is_same = port.node() == node && port.number() == number && port.pending() == pending;
     let looked = look(&mut port);
     if is_same && port.nodes() == 3 && looked == Outcome::Done(None) {
         Some(turn(&mut port, op))
@@ -141,10 +141,10 @@ fn turn_in(bank: &mut CoarseBank<'_, AnyWords>, line: LineNo, op: &mut Op) -> Op
         return None;
     }
     let node = bank.node();
-    let pending = *bank.pending(line);
+    let pending = bank.pending(line);
     let _ = (bank.mem(line)?, bank.tag(line, node)?);
     let is_same = bank.number(line) == line && bank.nodes(line) == 1;
-    if !is_same || pending != *bank.pending(line) {
+    if !is_same || pending != bank.pending(line) {
         return None;
     }
     let looked = bank.step(line, Event::Look);

@@ -94,8 +94,8 @@ fn shows_lines_in_hands(rt: HostRuntime) -> Result<(), Fail> {
         assert_eq!(rt; whole.line(writer), WRITTEN, "after {event:?}");
         assert_eq!(rt; whole.memory_line(), OPENING, "after {event:?}");
     }
-    assert_eq!(rt; *whole.pending(writer), Pending::Idle);
-    assert_eq!(rt; *whole.pending(reader), Pending::Idle);
+    assert_eq!(rt; whole.pending(writer), Pending::Idle);
+    assert_eq!(rt; whole.pending(reader), Pending::Idle);
     let closed = whole.closed(rt.alloc())?;
     let head = tag(Kind::Dirty, Some(writer), None);
     let tail = tag(Kind::Valid, None, Some(reader));

@@ -1,14 +1,14 @@
 //! The rows of a fresh head on its way to write.
 ghost use Rattle.std.specs.Prelude.{◌≡◌};
-ghost use Rattle.sci_core.specs.Row.{exchange_with};
+ghost use Rattle.sci_core.specs.Stage.{outline_of};
 ghost use Rattle.sci_core.specs.Table.Converting.{converting_allows, converting_row};
 
 use crate::events::Event;
-use crate::lines::Line;
-use crate::pending::Pending;
-use crate::rows::{Exchange, Place};
+use crate::outlines::Outline;
+use crate::rows::Place;
+use crate::stages::Stage;
 use crate::table::shorthand::{
-    answering, listed, memory, no_exchange, purges, purging_word, settled_word, stays, tag, takes,
+    answering, listed, memory, no_outline, purges, purging_word, settled_word, stays, tag, takes,
     word,
 };
 use sci_words::{Kind, NodeId};
@@ -23,17 +23,12 @@ pub fn converting_allows(turned: bool, event: &Event) -> bool
     }
 }
 
-pub fn converting_exchange(
-    me: NodeId,
-    forw: &Option<NodeId>,
-    event: &Event,
-    taken: &Line,
-) -> Exchange
-    ensures { result ≡ exchange_with taken.now (converting_row me forw.now event.now) }
+pub fn converting_outline(me: NodeId, forw: &Option<NodeId>, event: &Event) -> Outline
+    ensures { result ≡ outline_of (converting_row me forw.now event.now) }
 {
     match event {
         Event::FreshToGone => {
-            let after = Pending::Converting {
+            let after = Stage::Converting {
                 forw: *forw,
                 turned: true,
             };
@@ -41,12 +36,12 @@ pub fn converting_exchange(
         }
         Event::Converted => {
             let change = tag(me, word(Kind::Convert, *forw, None), purging_word(*forw));
-            answering(takes(change, Place::Node(me), purges(taken)), taken)
+            answering(takes(change, Place::Node(me), purges()))
         }
         Event::Unconverted => {
             let before = word(Kind::Convert, *forw, None);
-            stays(tag(me, before, settled_word(false, *forw)), Pending::Idle)
+            stays(tag(me, before, settled_word(false, *forw)), Stage::Idle)
         }
-        _ => no_exchange(),
+        _ => no_outline(),
     }
 }

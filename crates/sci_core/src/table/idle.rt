@@ -1,16 +1,16 @@
 //! The rows of a node that is Idle or Holding.
 ghost use Rattle.std.specs.Prelude.{◌≡◌};
 ghost use Rattle.sci_core.specs.declared.lines.Line as a_line;
-ghost use Rattle.sci_core.specs.Row.{exchange_with};
+ghost use Rattle.sci_core.specs.Stage.{outline_of};
 ghost use Rattle.sci_core.specs.Table.Idle.{idle_allows, idle_row, holding_allows, holding_row};
 
 use crate::events::Event;
-use crate::lines::Line;
-use crate::pending::Pending;
-use crate::rows::{Exchange, Place};
+use crate::outlines::Outline;
+use crate::rows::Place;
+use crate::stages::Stage;
 use crate::table::found;
 use crate::table::shorthand::{
-    answering, gives, held_word, invalid, leaving_word, no_exchange, purges, purging_word,
+    answering, gives, held_word, invalid, leaving_word, no_outline, purges, purging_word,
     queued_word, stays, tag, takes, unheld_word, word,
 };
 use sci_words::{Kind, NodeId, Tag};
@@ -29,24 +29,21 @@ pub fn idle_allows(nodes: u16, event: &Event) -> bool
     }
 }
 
-pub fn idle_exchange(me: NodeId, event: &Event, taken: &Line) -> Exchange
-    ensures { result ≡ exchange_with taken.now (idle_row me event.now) }
+pub fn idle_outline(me: NodeId, event: &Event) -> Outline
+    ensures { result ≡ outline_of (idle_row me event.now) }
 {
     let mine = Place::Node(me);
     match event {
         Event::Queue(forw) => {
-            let after = Pending::Queueing { forw: *forw };
+            let after = Stage::Queueing { forw: *forw };
             takes(tag(me, invalid(), queued_word(*forw)), mine, after)
         }
         Event::Hold(own) => {
-            let after = Pending::Holding {
-                word: *own,
-                line: *taken,
-            };
+            let after = Stage::Holding { word: *own };
             takes(tag(me, *own, held_word(own)), mine, after)
         }
         Event::Convert(own) => {
-            let after = Pending::Converting {
+            let after = Stage::Converting {
                 forw: own.forw,
                 turned: false,
             };
@@ -54,24 +51,23 @@ pub fn idle_exchange(me: NodeId, event: &Event, taken: &Line) -> Exchange
         }
         Event::BeginPurge(own) => {
             let change = tag(me, *own, purging_word(own.forw));
-            answering(takes(change, mine, purges(taken)), taken)
+            answering(takes(change, mine, purges()))
         }
         Event::Roll(own) => {
-            let after = Pending::Rolling {
+            let after = Stage::Rolling {
                 told: false,
                 seen: None,
             };
             stays(tag(me, *own, word(Kind::Roll, own.forw, own.back)), after)
         }
         Event::Leave(own) => {
-            let after = Pending::Leaving {
+            let after = Stage::Leaving {
                 dirty: found::is_dirty(own),
-                line: *taken,
                 seen: None,
             };
             takes(tag(me, *own, leaving_word(own.forw)), mine, after)
         }
-        _ => no_exchange(),
+        _ => no_outline(),
     }
 }
 
@@ -81,14 +77,14 @@ pub fn holding_allows(event: &Event) -> bool
     matches!(event, Event::Unhold)
 }
 
-pub fn holding_exchange(me: NodeId, kept: &Tag, line: &Line, event: &Event) -> Exchange
-    ensures { (y : a_line.Line) → result ≡ exchange_with y (holding_row me kept.now line.now event.now) }
+pub fn holding_outline(me: NodeId, kept: &Tag, event: &Event) -> Outline
+    ensures { (l : a_line.Line) → result ≡ outline_of (holding_row me kept.now l event.now) }
 {
     match event {
         Event::Unhold => {
             let change = tag(me, held_word(kept), unheld_word(kept));
-            answering(gives(change, Place::Node(me), line, Pending::Idle), line)
+            answering(gives(change, Place::Node(me), Stage::Idle))
         }
-        _ => no_exchange(),
+        _ => no_outline(),
     }
 }

@@ -1,16 +1,16 @@
 //! The rows of a head on its way out.
 ghost use Rattle.std.specs.Prelude.{◌≡◌};
 ghost use Rattle.sci_core.specs.declared.lines.Line as a_line;
-ghost use Rattle.sci_core.specs.Row.{exchange_with};
+ghost use Rattle.sci_core.specs.Stage.{outline_of};
 ghost use Rattle.sci_core.specs.Table.Leaving.{leaving_allows, leaving_row, promoted_allows, promoted_row, writing_back_allows, writing_back_row, parted_allows, parted_row};
 
 use crate::events::Event;
-use crate::lines::Line;
-use crate::pending::Pending;
-use crate::rows::{Exchange, Place};
+use crate::outlines::Outline;
+use crate::rows::Place;
+use crate::stages::Stage;
 use crate::table::found;
 use crate::table::shorthand::{
-    gives, home, invalid, leaving_word, lent_word, listed, memory, no_exchange, queued_word,
+    gives, home, invalid, leaving_word, lent_word, listed, memory, no_outline, queued_word,
     settled_word, stays, tag, takes,
 };
 use sci_words::NodeId;
@@ -29,39 +29,34 @@ pub fn leaving_allows(me: NodeId, dirty: bool, seen: &Option<Option<NodeId>>, ev
     }
 }
 
-pub fn leaving_exchange(
+pub fn leaving_outline(
     me: NodeId,
     dirty: bool,
-    line: &Line,
     seen: &Option<Option<NodeId>>,
     event: &Event,
-) -> Exchange
-    ensures { (y : a_line.Line) → result ≡ exchange_with y (leaving_row me dirty line.now event.now seen.now) }
+) -> Outline
+    ensures { (l : a_line.Line) → result ≡ outline_of (leaving_row me dirty l event.now seen.now) }
 {
     match (event, seen) {
         (Event::Promote(found), Some(Some(next))) => {
-            let after = Pending::Promoted {
-                dirty,
-                line: *line,
-                succ: *next,
-            };
+            let after = Stage::Promoted { dirty, succ: *next };
             stays(tag(*next, *found, settled_word(dirty, found.forw)), after)
         }
         (Event::Stay, Some(forw)) => {
             let change = tag(me, leaving_word(*forw), settled_word(dirty, *forw));
-            gives(change, Place::Node(me), line, Pending::Idle)
+            gives(change, Place::Node(me), Stage::Idle)
         }
         (Event::ReturnHomeFresh, Some(None)) => {
             stays(
                 memory(listed(false, me), home()),
-                Pending::Parted { forw: None },
+                Stage::Parted { forw: None },
             )
         }
         (Event::ReturnHomeDirty, Some(None)) => {
             let change = memory(listed(true, me), lent_word(&home()));
-            takes(change, Place::Memory, Pending::WritingBack { line: *line })
+            takes(change, Place::Memory, Stage::WritingBack)
         }
-        _ => no_exchange(),
+        _ => no_outline(),
     }
 }
 
@@ -71,32 +66,26 @@ pub fn promoted_allows(event: &Event) -> bool
     matches!(event, Event::PassOn | Event::ReEnter)
 }
 
-pub fn promoted_exchange(
-    me: NodeId,
-    dirty: bool,
-    line: &Line,
-    succ: NodeId,
-    event: &Event,
-) -> Exchange
-    ensures { (y : a_line.Line) → result ≡ exchange_with y (promoted_row me dirty line.now succ event.now) }
+pub fn promoted_outline(me: NodeId, dirty: bool, succ: NodeId, event: &Event) -> Outline
+    ensures { (l : a_line.Line) → result ≡ outline_of (promoted_row me dirty l succ event.now) }
 {
     match event {
         Event::PassOn => {
-            let after = Pending::Parted { forw: Some(succ) };
+            let after = Stage::Parted { forw: Some(succ) };
             stays(memory(listed(dirty, me), listed(dirty, succ)), after)
         }
         Event::ReEnter => {
-            let after = Pending::InQueue {
+            let after = Stage::InQueue {
                 forw: Some(succ),
                 dirty,
-                copy: if dirty { None } else { Some(*line) },
+                has_copy: !dirty,
             };
             stays(
                 tag(me, leaving_word(Some(succ)), queued_word(Some(succ))),
                 after,
             )
         }
-        _ => no_exchange(),
+        _ => no_outline(),
     }
 }
 
@@ -106,20 +95,15 @@ pub fn writing_back_allows(event: &Event) -> bool
     matches!(event, Event::ReturnMemory)
 }
 
-pub fn writing_back_exchange(line: &Line, event: &Event) -> Exchange
-    ensures { (y : a_line.Line) → result ≡ exchange_with y (writing_back_row line.now event.now) }
+pub fn writing_back_outline(event: &Event) -> Outline
+    ensures { (l : a_line.Line) → result ≡ outline_of (writing_back_row l event.now) }
 {
     match event {
         Event::ReturnMemory => {
-            let after = Pending::Parted { forw: None };
-            gives(
-                memory(lent_word(&home()), home()),
-                Place::Memory,
-                line,
-                after,
-            )
+            let after = Stage::Parted { forw: None };
+            gives(memory(lent_word(&home()), home()), Place::Memory, after)
         }
-        _ => no_exchange(),
+        _ => no_outline(),
     }
 }
 
@@ -129,14 +113,14 @@ pub fn parted_allows(event: &Event) -> bool
     matches!(event, Event::Left)
 }
 
-pub fn parted_exchange(me: NodeId, forw: &Option<NodeId>, event: &Event) -> Exchange
-    ensures { (y : a_line.Line) → result ≡ exchange_with y (parted_row me forw.now event.now) }
+pub fn parted_outline(me: NodeId, forw: &Option<NodeId>, event: &Event) -> Outline
+    ensures { result ≡ outline_of (parted_row me forw.now event.now) }
 {
     match event {
         Event::Left => {
-            let change = tag(me, leaving_word(*forw), invalid());
-            gives(change, Place::Node(me), &Line::ZERO, Pending::Idle)
+            let before = leaving_word(*forw);
+            gives(tag(me, before, invalid()), Place::Node(me), Stage::Idle)
         }
-        _ => no_exchange(),
+        _ => no_outline(),
     }
 }

@@ -1,17 +1,17 @@
 //! The rows of a head that purges the entries behind it, one after another, and writes.
 ghost use Rattle.std.specs.Prelude.{◌≡◌, true, IfSome};
 ghost use Rattle.sci_core.specs.declared.lines.Line as a_line;
-ghost use Rattle.sci_core.specs.Row.{exchange_with};
-ghost use Rattle.sci_core.specs.Step.{CanCount};
+ghost use Rattle.sci_core.specs.Stage.{outline_of};
 ghost use Rattle.sci_core.specs.Table.Purging.{can_count, written, saw_entry, saw_none, purging_allows, purging_row, advancing_allows, advancing_row, clearing_allows, clearing_row};
 
 use crate::events::Event;
 use crate::lines::Line;
-use crate::pending::Pending;
-use crate::rows::{Exchange, Place};
+use crate::outlines::Outline;
+use crate::rows::Place;
+use crate::stages::Stage;
 use crate::table::found;
 use crate::table::shorthand::{
-    gives, invalid, no_exchange, purged_word, purges, purging_word, settled_word, stays, tag, word,
+    gives, invalid, no_outline, purged_word, purges, purging_word, settled_word, stays, tag, word,
 };
 use sci_words::{Kind, NodeId, Tag};
 
@@ -22,8 +22,8 @@ fn can_count(line: &Line) -> bool
     line.stamp < u64::MAX
 }
 
-// The line after a write of these words.
-fn written(line: &Line, words: &Option<[u64; 8]>) -> Line
+/// The line after a write of these words.
+pub fn written(line: &Line, words: &Option<[u64; 8]>) -> Line
     requires stamp { IfSome words.now (λ _. can_count line.now ≡ true) }
     ensures { result ≡ written line.now words.now }
 {
@@ -61,42 +61,29 @@ pub fn purging_allows(me: NodeId, line: &Line, seen: &Option<Option<NodeId>>, ev
     }
 }
 
-pub fn purging_exchange(
-    me: NodeId,
-    line: &Line,
-    seen: &Option<Option<NodeId>>,
-    event: &Event,
-) -> Exchange
-    requires stamp { CanCount (Pending.Purging line.now seen.now) event.now }
-    ensures { (y : a_line.Line) → result ≡ exchange_with y (purging_row me line.now event.now seen.now) }
+pub fn purging_outline(me: NodeId, seen: &Option<Option<NodeId>>, event: &Event) -> Outline
+    ensures { (l : a_line.Line) → result ≡ outline_of (purging_row me l event.now seen.now) }
 {
     match (event, seen) {
-        (Event::Written(words), _) => {
+        (Event::Written(_), _) => {
             let change = tag(me, purging_word(None), settled_word(true, None));
-            gives(
-                change,
-                Place::Node(me),
-                &written(line, words),
-                Pending::Idle,
-            )
+            gives(change, Place::Node(me), Stage::Idle)
         }
         (Event::PurgeOne(found), Some(Some(next))) => {
-            let after = Pending::Advancing {
-                line: *line,
+            let after = Stage::Advancing {
                 victim: *next,
                 word: purged_word(found),
             };
             stays(tag(*next, *found, purged_word(found)), after)
         }
         (Event::Adopt(found), Some(Some(next))) => {
-            let after = Pending::Purging {
-                line: *line,
+            let after = Stage::Purging {
                 seen: Some(Some(*next)),
             };
             let adopted = word(Kind::Roll, found.forw, Some(me));
             stays(tag(*next, *found, adopted), after)
         }
-        _ => no_exchange(),
+        _ => no_outline(),
     }
 }
 
@@ -106,26 +93,19 @@ pub fn advancing_allows(event: &Event) -> bool
     matches!(event, Event::Advance)
 }
 
-pub fn advancing_exchange(
-    me: NodeId,
-    line: &Line,
-    victim: NodeId,
-    kept: &Tag,
-    event: &Event,
-) -> Exchange
-    ensures { (y : a_line.Line) → result ≡ exchange_with y (advancing_row me line.now victim kept.now event.now) }
+pub fn advancing_outline(me: NodeId, victim: NodeId, kept: &Tag, event: &Event) -> Outline
+    ensures { (l : a_line.Line) → result ≡ outline_of (advancing_row me l victim kept.now event.now) }
 {
     match event {
         Event::Advance => {
-            let after = Pending::Clearing {
-                line: *line,
+            let after = Stage::Clearing {
                 victim,
                 word: *kept,
             };
             let change = tag(me, purging_word(Some(victim)), purging_word(kept.forw));
             stays(change, after)
         }
-        _ => no_exchange(),
+        _ => no_outline(),
     }
 }
 
@@ -135,11 +115,11 @@ pub fn clearing_allows(event: &Event) -> bool
     matches!(event, Event::Clear)
 }
 
-pub fn clearing_exchange(line: &Line, victim: NodeId, kept: &Tag, event: &Event) -> Exchange
-    ensures { (y : a_line.Line) → result ≡ exchange_with y (clearing_row line.now victim kept.now event.now) }
+pub fn clearing_outline(victim: NodeId, kept: &Tag, event: &Event) -> Outline
+    ensures { (l : a_line.Line) → result ≡ outline_of (clearing_row l victim kept.now event.now) }
 {
     match event {
-        Event::Clear => { stays(tag(victim, purged_word(kept), invalid()), purges(line)) }
-        _ => no_exchange(),
+        Event::Clear => { stays(tag(victim, purged_word(kept), invalid()), purges()) }
+        _ => no_outline(),
     }
 }

@@ -1,16 +1,16 @@
 //! The rows of a node that prepends itself and copies memory's bytes.
 ghost use Rattle.std.specs.Prelude.{◌≡◌};
 ghost use Rattle.sci_core.specs.declared.lines.Line as a_line;
-ghost use Rattle.sci_core.specs.Row.{exchange_with};
+ghost use Rattle.sci_core.specs.Stage.{outline_of};
 ghost use Rattle.sci_core.specs.Table.Queueing.{queueing_allows, queueing_row, fetching_allows, fetching_row};
 
 use crate::events::Event;
-use crate::lines::Line;
-use crate::pending::Pending;
-use crate::rows::{Exchange, Place};
+use crate::outlines::Outline;
+use crate::rows::Place;
+use crate::stages::Stage;
 use crate::table::found;
 use crate::table::shorthand::{
-    gives, home_or_listed, lent_word, listed, memory, no_exchange, queued_word, stays, tag, takes,
+    gives, home_or_listed, lent_word, listed, memory, no_outline, queued_word, stays, tag, takes,
 };
 use sci_words::NodeId;
 
@@ -25,35 +25,34 @@ pub fn queueing_allows(nodes: u16, forw: &Option<NodeId>, event: &Event) -> bool
     }
 }
 
-pub fn queueing_exchange(me: NodeId, forw: &Option<NodeId>, event: &Event, taken: &Line) -> Exchange
-    ensures { result ≡ exchange_with taken.now (queueing_row me event.now forw.now) }
+pub fn queueing_outline(me: NodeId, forw: &Option<NodeId>, event: &Event) -> Outline
+    ensures { result ≡ outline_of (queueing_row me event.now forw.now) }
 {
     match event {
         Event::Requeue(next) => {
-            let after = Pending::Queueing { forw: *next };
+            let after = Stage::Queueing { forw: *next };
             stays(tag(me, queued_word(*forw), queued_word(*next)), after)
         }
         Event::PrependValid => {
-            let after = Pending::Fetching {
+            let after = Stage::Fetching {
                 forw: *forw,
                 dirty: false,
-                line: *taken,
             };
             let change = memory(home_or_listed(forw), lent_word(&listed(false, me)));
             takes(change, Place::Memory, after)
         }
         Event::PrependGone => match forw {
             Some(head) => {
-                let after = Pending::InQueue {
+                let after = Stage::InQueue {
                     forw: Some(*head),
                     dirty: true,
-                    copy: None,
+                    has_copy: false,
                 };
                 stays(memory(listed(true, *head), listed(true, me)), after)
             }
-            None => no_exchange(),
+            None => no_outline(),
         },
-        _ => no_exchange(),
+        _ => no_outline(),
     }
 }
 
@@ -63,25 +62,19 @@ pub fn fetching_allows(event: &Event) -> bool
     matches!(event, Event::ReturnMemory)
 }
 
-pub fn fetching_exchange(
-    me: NodeId,
-    forw: &Option<NodeId>,
-    dirty: bool,
-    line: &Line,
-    event: &Event,
-) -> Exchange
-    ensures { (y : a_line.Line) → result ≡ exchange_with y (fetching_row me forw.now dirty line.now event.now) }
+pub fn fetching_outline(me: NodeId, forw: &Option<NodeId>, dirty: bool, event: &Event) -> Outline
+    ensures { (l : a_line.Line) → result ≡ outline_of (fetching_row me forw.now dirty l event.now) }
 {
     match event {
         Event::ReturnMemory => {
-            let after = Pending::InQueue {
+            let after = Stage::InQueue {
                 forw: *forw,
                 dirty,
-                copy: Some(*line),
+                has_copy: true,
             };
             let change = memory(lent_word(&listed(dirty, me)), listed(dirty, me));
-            gives(change, Place::Memory, line, after)
+            gives(change, Place::Memory, after)
         }
-        _ => no_exchange(),
+        _ => no_outline(),
     }
 }

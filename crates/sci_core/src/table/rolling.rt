@@ -1,14 +1,13 @@
 //! The rows of a body entry on its way out.
 ghost use Rattle.std.specs.Prelude.{◌≡◌};
-ghost use Rattle.sci_core.specs.declared.lines.Line as a_line;
-ghost use Rattle.sci_core.specs.Row.{exchange_with};
+ghost use Rattle.sci_core.specs.Stage.{outline_of};
 ghost use Rattle.sci_core.specs.Table.Rolling.{rolling_allows, rolling_row, unlinked_allows, unlinked_row};
 
 use crate::events::Event;
-use crate::pending::Pending;
-use crate::rows::Exchange;
+use crate::outlines::Outline;
+use crate::stages::Stage;
 use crate::table::found;
-use crate::table::shorthand::{invalid, no_exchange, stays, tag, word};
+use crate::table::shorthand::{invalid, no_outline, stays, tag, word};
 use sci_words::{Kind, NodeId};
 
 pub fn rolling_allows(
@@ -30,12 +29,12 @@ pub fn rolling_allows(
     }
 }
 
-pub fn rolling_exchange(seen: &Option<(Option<NodeId>, NodeId)>, event: &Event) -> Exchange
-    ensures { (y : a_line.Line) → result ≡ exchange_with y (rolling_row event.now seen.now) }
+pub fn rolling_outline(seen: &Option<(Option<NodeId>, NodeId)>, event: &Event) -> Outline
+    ensures { result ≡ outline_of (rolling_row event.now seen.now) }
 {
     match (event, seen) {
         (Event::TellSuccessor(found), Some((Some(next), back))) => {
-            let after = Pending::Rolling {
+            let after = Stage::Rolling {
                 told: true,
                 seen: Some((Some(*next), *back)),
             };
@@ -43,14 +42,14 @@ pub fn rolling_exchange(seen: &Option<(Option<NodeId>, NodeId)>, event: &Event) 
             stays(tag(*next, *found, passed), after)
         }
         (Event::TellPredecessor(found), Some((forw, back))) => {
-            let after = Pending::Unlinked {
+            let after = Stage::Unlinked {
                 forw: *forw,
                 back: *back,
             };
             let passed = word(found.kind, *forw, found.back);
             stays(tag(*back, *found, passed), after)
         }
-        _ => no_exchange(),
+        _ => no_outline(),
     }
 }
 
@@ -60,14 +59,14 @@ pub fn unlinked_allows(event: &Event) -> bool
     matches!(event, Event::Rolled)
 }
 
-pub fn unlinked_exchange(me: NodeId, forw: &Option<NodeId>, back: NodeId, event: &Event) -> Exchange
-    ensures { (y : a_line.Line) → result ≡ exchange_with y (unlinked_row me forw.now back event.now) }
+pub fn unlinked_outline(me: NodeId, forw: &Option<NodeId>, back: NodeId, event: &Event) -> Outline
+    ensures { result ≡ outline_of (unlinked_row me forw.now back event.now) }
 {
     match event {
         Event::Rolled => {
             let change = tag(me, word(Kind::Roll, *forw, Some(back)), invalid());
-            stays(change, Pending::Idle)
+            stays(change, Stage::Idle)
         }
-        _ => no_exchange(),
+        _ => no_outline(),
     }
 }

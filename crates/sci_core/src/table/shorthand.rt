@@ -1,11 +1,11 @@
 //! Short ways to write the words and the exchanges of the table.
-ghost use Rattle.std.specs.Prelude.{◌≡◌};
+ghost use Rattle.std.specs.Prelude.{◌≡◌, true, false};
 ghost use Rattle.sci_core.specs.State.{word, held_word, unheld_word, lent_word, memory_word, invalid};
-ghost use Rattle.sci_core.specs.Row.{exchange_with, stays, takes, takes_and_answers, gives, gives_and_answers, queued_word, purging_word, leaving_word, attached, purged_word, settled_word, listed, home, home_or_listed, no_row};
+ghost use Rattle.sci_core.specs.Row.{queued_word, purging_word, leaving_word, attached, purged_word, settled_word, listed, home, home_or_listed, no_row};
 
-use crate::lines::Line;
-use crate::pending::Pending;
-use crate::rows::{Carry, Change, Exchange, Place};
+use crate::outlines::{Motion, Outline};
+use crate::rows::{Change, Place};
+use crate::stages::Stage;
 use sci_words::{Kind, Mem, MemState, NodeId, Tag};
 
 pub fn word(kind: Kind, forw: Option<NodeId>, back: Option<NodeId>) -> Tag
@@ -140,64 +140,61 @@ pub fn memory(before: Mem, after: Mem) -> Change
 }
 
 /// No slot is moved.
-pub fn stays(change: Change, after: Pending) -> Exchange
-    ensures { result ≡ record { change = change; carry = Carry.Stays; after = after; answer = None } }
+pub fn stays(change: Change, after: Stage) -> Outline
+    ensures { result ≡ record { change = change; motion = Motion.Stays; after = after; answers = false } }
 {
-    Exchange {
+    Outline {
         change,
-        carry: Carry::Stays,
+        motion: Motion::Stays,
         after,
-        answer: None,
+        answers: false,
     }
 }
 
 /// A slot is taken.
-pub fn takes(change: Change, place: Place, after: Pending) -> Exchange
-    ensures { result ≡ record { change = change; carry = Carry.Takes place; after = after; answer = None } }
+pub fn takes(change: Change, place: Place, after: Stage) -> Outline
+    ensures { result ≡ record { change = change; motion = Motion.Takes place; after = after; answers = false } }
 {
-    Exchange {
+    Outline {
         change,
-        carry: Carry::Takes(place),
+        motion: Motion::Takes(place),
         after,
-        answer: None,
+        answers: false,
     }
 }
 
-/// A line is given back into its slot.
-pub fn gives(change: Change, place: Place, line: &Line, after: Pending) -> Exchange
-    ensures { result ≡ record { change = change; carry = Carry.Gives place line.now; after = after; answer = None } }
+/// The own bytes are given back into this slot.
+pub fn gives(change: Change, place: Place, after: Stage) -> Outline
+    ensures { result ≡ record { change = change; motion = Motion.Gives place; after = after; answers = false } }
 {
-    Exchange {
+    Outline {
         change,
-        carry: Carry::Gives(place, *line),
+        motion: Motion::Gives(place),
         after,
-        answer: None,
+        answers: false,
     }
 }
 
 /// The step that purges, just entered: nothing was seen yet.
-pub fn purges(line: &Line) -> Pending
-    ensures { result ≡ Pending.Purging line.now None }
+pub fn purges() -> Stage
+    ensures { result ≡ Stage.Purging None }
 {
-    Pending::Purging {
-        line: *line,
-        seen: None,
-    }
+    Stage::Purging { seen: None }
 }
 
-/// The same exchange, which answers this line.
-pub fn answering(exchange: Exchange, line: &Line) -> Exchange
-    ensures { result ≡ record exchange { answer = Some line.now } }
+/// The same exchange, which answers the line that is taken or given back.
+pub fn answering(outline: Outline) -> Outline
+    ensures { result ≡ record outline { answers = true } }
 {
-    Exchange {
-        answer: Some(*line),
-        ..exchange
+    Outline {
+        answers: true,
+        ..outline
     }
 }
 
 /// What stands for the exchange of an event that is not allowed.
-pub fn no_exchange() -> Exchange
-    ensures { result ≡ record { change = no_row.change; carry = no_row.carry; after = Pending.Idle; answer = None } }
+pub fn no_outline() -> Outline
+    ensures { result ≡ record { change = no_row.change; motion = Motion.Stays; after = Stage.Idle; answers = false } }
 {
-    stays(memory(home(), home()), Pending::Idle)
+    stays(memory(home(), home()), Stage::Idle)
 }

@@ -100,16 +100,16 @@ module _ (n : ℕ) (fits : List ℕ → Type 0) (me : ℕ) where
   in_queue_falls goal s t r (Some x) false (Some l) is rest a h =
       let p : Pending = Pending.InQueue (Some x) false (Some l) in
       let y : Tag = s.tags x in
-      let fresh : may_attach_fresh false (Some l) y ≡ true = rw (a.1.0.0, a.1.0.1) refl in
-      let plan : Takes (on_line n fits me) (move (Event.AttachFresh y)) s r t = chosen (may_attach_fresh false (Some l) y) (move (Event.AttachFresh y)) (if may_attach_dirty false (Some l) y then move (Event.AttachDirty y) else wait) fresh (of_tag n fits me h) in
+      let fresh : may_attach_fresh false true y ≡ true = rw (a.1.0.0, a.1.0.1) refl in
+      let plan : Takes (on_line n fits me) (move (Event.AttachFresh y)) s r t = chosen (may_attach_fresh false true y) (move (Event.AttachFresh y)) (if may_attach_dirty false true y then move (Event.AttachDirty y) else wait) fresh (of_tag n fits me h) in
       let m = made n fits me p is refl refl (of_exchange n fits me plan) in
       moves n goal me s s t r p (exchange_with m.taken (row_of me p (Event.AttachFresh (s.tags x)))) is rest m.turn m.next a.0 (listed_same me s.tags x (attached me (s.tags x)) n (rw a.1.0.0 refl) refl) (omega arith)
   in_queue_falls goal s t r (Some x) true None is rest a h =
       let p : Pending = Pending.InQueue (Some x) true None in
       let w : Tag = held_word (attached me (s.tags x)) in
       let y : Tag = s.tags x in
-      let dirty : may_attach_dirty true None y ≡ true = rw (a.1.0.0, a.1.0.1) refl in
-      let plan : Takes (on_line n fits me) (move (Event.AttachDirty y)) s r t = chosen (may_attach_dirty true None y) (move (Event.AttachDirty y)) wait dirty (of_tag n fits me h) in
+      let dirty : may_attach_dirty true false y ≡ true = rw (a.1.0.0, a.1.0.1) refl in
+      let plan : Takes (on_line n fits me) (move (Event.AttachDirty y)) s r t = chosen (may_attach_dirty true false y) (move (Event.AttachDirty y)) wait dirty (of_tag n fits me h) in
       let m = made n fits me p is refl refl (of_exchange n fits me plan) in
       moves n goal me s s t r p (exchange_with m.taken (row_of me p (Event.AttachDirty (s.tags x)))) is rest m.turn m.next (a.0, updated s.tags x w, refl) (listed_same me s.tags x w n (rw a.1.0.0 refl) refl) (omega arith)
   in_queue_falls goal s t r (Some x) false None is rest a h = absurd (let q : false ≡ true = a.1.1 in cc)

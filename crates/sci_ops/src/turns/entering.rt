@@ -1,5 +1,5 @@
 //! The turns of a node that enters the list.
-ghost use Rattle.std.specs.Prelude.{◌≡◌};
+ghost use Rattle.std.specs.Prelude.{◌≡◌, is_some};
 ghost use Rattle.sci_port.specs.Owes.{IsSoundStep};
 ghost use Rattle.sci_ops.specs.Plan.{Takes};
 ghost use Rattle.sci_ops.specs.Table.{queueing, in_queue, attach};
@@ -8,7 +8,7 @@ use crate::answers::Turn;
 use crate::found::{may_attach_dirty, may_attach_fresh};
 use crate::goals::Goal;
 use crate::turns::{exchange, go_on, seen_end};
-use sci_core::{Event, Line, Pending};
+use sci_core::{Event, Pending};
 use sci_port::Port;
 use sci_words::{MemState, NodeId};
 
@@ -41,11 +41,11 @@ pub fn in_queue<P: Port>(
     goal: Goal,
     forw: Option<NodeId>,
     dirty: bool,
-    copy: Option<Line>,
+    has_copy: bool,
 ) -> Turn
-    requires step { P.at_step port.old ≡ Pending.InQueue forw dirty copy }
-    requires sound { IsSoundStep (P.way port.old).nodes (P.Keep.fits (P.keep port.old) (P.way port.old).number) (Pending.InQueue forw dirty copy) }
-    ensures calls { Takes P.gives (in_queue goal forw dirty copy) port.old result port.new }
+    requires step { (copy : _) × (P.at_step port.old ≡ Pending.InQueue forw dirty copy) × (is_some copy ≡ has_copy) }
+    requires sound { IsSoundStep (P.way port.old).nodes (P.Keep.fits (P.keep port.old) (P.way port.old).number) (P.at_step port.old) }
+    ensures calls { Takes P.gives (in_queue goal forw dirty has_copy) port.old result port.new }
     ensures same_way { P.way port.new ≡ P.way port.old }
     ensures same_fact { P.keep port.new ≡ P.keep port.old }
 {
@@ -55,9 +55,9 @@ pub fn in_queue<P: Port>(
     let Some(found) = port.tag(forw) else {
         return Turn::Waiting;
     };
-    if may_attach_fresh(dirty, &copy, &found) {
+    if may_attach_fresh(dirty, has_copy, &found) {
         go_on(port, Event::AttachFresh(found))
-    } else if may_attach_dirty(dirty, &copy, &found) {
+    } else if may_attach_dirty(dirty, has_copy, &found) {
         go_on(port, Event::AttachDirty(found))
     } else {
         Turn::Waiting

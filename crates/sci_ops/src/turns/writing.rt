@@ -1,8 +1,9 @@
 //! The turns of a head on its way to write.
-ghost use Rattle.std.specs.Prelude.{◌≡◌, ◌<◌, Some, None};
+ghost use Rattle.std.specs.Prelude.{◌≡◌, ◌<◌, ◌≤◌, Some, None};
+ghost use Rattle.sci_ops.specs.Answers.{EndsWithStamp, GoesOn};
 ghost use Rattle.sci_ops.specs.Change.{StoresFitting};
 ghost use Rattle.sci_ops.specs.Plan.{Takes, tag};
-ghost use Rattle.sci_ops.specs.Table.{converting, purging, purge, write};
+ghost use Rattle.sci_ops.specs.Table.{converting, purge, turn_in, write};
 
 use crate::answers::{End, Turn};
 use crate::found::{is_valid, may_adopt, names};
@@ -34,11 +35,11 @@ pub fn converting<P: Port>(port: &mut P, turned: bool) -> Turn
 }
 
 /// Purging: it purges the next entry, or writes where there is none.
-pub fn purging<P: Port>(port: &mut P, goal: Goal, line: Line) -> Turn
-    requires step { (seen : _) × (P.at_step port.old ≡ Pending.Purging line seen) }
+pub fn purging<P: Port>(port: &mut P, goal: Goal) -> Turn
+    requires step { (line : _) × (seen : _) × (P.at_step port.old ≡ Pending.Purging line seen) }
     requires fits { StoresFitting (P.Keep.fits (P.keep port.old) (P.way port.old).number) goal }
-    requires line { P.Keep.fits (P.keep port.old) (P.way port.old).number line.words }
-    ensures calls { Takes P.gives (purging goal (P.way port.old).node line) port.old result port.new }
+    ensures calls { Takes P.gives (turn_in goal (P.way port.old).node (P.at_step port.old)) port.old result port.new }
+    ensures stamp { EndsWithStamp result (P.at_step port.old) }
     ensures same_way { P.way port.new ≡ P.way port.old }
     ensures same_fact { P.keep port.new ≡ P.keep port.old }
 {
@@ -47,7 +48,10 @@ pub fn purging<P: Port>(port: &mut P, goal: Goal, line: Line) -> Turn
     };
     match tag.forw {
         Some(next) => purge(port, next),
-        None => write(port, goal, line),
+        None => match port.pending() {
+            Pending::Purging { line, .. } => write(port, goal, &line),
+            _ => unreachable!(),
+        },
     }
 }
 
@@ -57,6 +61,7 @@ fn purge<P: Port>(port: &mut P, next: NodeId) -> Turn
     requires node { next < (P.way port.old).nodes }
     requires step { (line : _) × (P.at_step port.old ≡ Pending.Purging line (Some (Some next))) }
     ensures calls { Takes P.gives (tag next (purge (P.way port.old).node)) port.old result port.new }
+    ensures goes_on { GoesOn result }
     ensures same_way { P.way port.new ≡ P.way port.old }
     ensures same_fact { P.keep port.new ≡ P.keep port.old }
 {
@@ -74,21 +79,23 @@ fn purge<P: Port>(port: &mut P, next: NodeId) -> Turn
 }
 
 // It writes into the line that it keeps, if the stamp can count one more write.
-fn write<P: Port>(port: &mut P, goal: Goal, line: Line) -> Turn
-    requires step { P.at_step port.old ≡ Pending.Purging line (Some None) }
+fn write<P: Port>(port: &mut P, goal: Goal, line: &Line) -> Turn
+    requires step { P.at_step port.old ≡ Pending.Purging line.now (Some None) }
     requires fits { StoresFitting (P.Keep.fits (P.keep port.old) (P.way port.old).number) goal }
-    requires line { P.Keep.fits (P.keep port.old) (P.way port.old).number line.words }
-    ensures calls { Takes P.gives (write goal line) port.old result port.new }
+    requires line { P.Keep.fits (P.keep port.old) (P.way port.old).number line.now.words }
+    ensures calls { Takes P.gives (write goal line.now) port.old result port.new }
+    ensures stamp { line.now.stamp ≤ 18446744073709551615 }
     ensures same_way { P.way port.new ≡ P.way port.old }
     ensures same_fact { P.keep port.new ≡ P.keep port.old }
 {
+    let stamp = line.stamp;
     let Goal::Write(write) = goal else {
         return go_on(port, Event::Written(None));
     };
-    if line.stamp < u64::MAX {
+    if stamp < u64::MAX {
         let words = write.change(&line.words);
         let before = line.words;
-        let stamp = line.stamp + 1;
+        let stamp = stamp + 1;
         exchange(
             port,
             Event::Written(Some(words)),

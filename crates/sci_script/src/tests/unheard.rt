@@ -6,7 +6,7 @@ ghost use Rattle.sci_port.specs.Owes.{Owes};
 use super::banks::run_over;
 use super::node;
 use crate::{ScriptRefusal, read_script};
-use sci_core::{AnyWords, Event, Outcome, Pending};
+use sci_core::{AnyWords, Event, Outcome, Pending, Stage};
 use sci_port::Bank;
 use sci_words::{LineNo, Mem, NodeId, Tag};
 use std::test::Fail;
@@ -59,8 +59,13 @@ impl Bank for Unheard {
     }
 
     #[tactic(auto, using(crate::proofs::Unheard::idle_sound))]
-    fn pending(&self, _line: LineNo) -> &Pending {
-        &self.step
+    fn pending(&self, _line: LineNo) -> Pending {
+        self.step
+    }
+
+    #[tactic(auto, using(crate::proofs::Unheard::idle_sound))]
+    fn stage(&self, _line: LineNo) -> Stage {
+        self.step.stage()
     }
 
     fn own(&mut self, _line: LineNo) -> Option<Tag> {

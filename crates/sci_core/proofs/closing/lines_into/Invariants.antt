@@ -1,10 +1,9 @@
-use Rattle.std.proofs.Common.{◌≡◌, ◌≤◌, length, map, take}
+use Rattle.std.proofs.Common.{◌≡◌, ◌≤◌, length, take}
 use Rattle.std.specs.Prelude.{vec_capacity}
-use Rattle.sci_core.specs.Step.{line_in}
 use Rattle.sci_core.proofs.closing.lines_into.Given as goal
 
-abbrev pub invariant-loop-slot : goal.invariant-loop-slot
-invariant-loop-slot l = record {
-  room : length l.slots ≤ vec_capacity l.lines;
-  items : l.lines.items ≡ map line_in (take l.slot-index l.slots);
+abbrev pub invariant-loop-line : goal.invariant-loop-line
+invariant-loop-line l = record {
+  room : length l.lines ≤ vec_capacity l.copies;
+  items : l.copies.items ≡ take l.line-index l.lines;
 }

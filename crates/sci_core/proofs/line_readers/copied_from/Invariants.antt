@@ -1,7 +1,7 @@
 use Rattle.std.proofs.Common.{ℕ, ◌<◌}
 use Rattle.sci_core.specs.Copies.{IsCopying}
-use Rattle.sci_core.specs.Hands.{step_at}
+use Rattle.sci_core.specs.Laid.{step_laid}
 use Rattle.sci_core.proofs.line_readers.copied_from.Given as goal
 
-abbrev pub invariant-loop-step : goal.invariant-loop-step
-invariant-loop-step l = (k : ℕ) → k < l.step-index → IsCopying (step_at l.steps k) l.node → ⊥
+abbrev pub invariant-loop-place : goal.invariant-loop-place
+invariant-loop-place l = (k : ℕ) → k < l.place → IsCopying (step_laid l.stages l.lines k) l.node → ⊥

@@ -1,4 +1,3 @@
-use Rattle.std.proofs.Common.{rules}
 use Rattle.sci_ops.proofs.Took.{took_step}
 use Rattle.sci_ops.proofs.turns.exchange.Goals as goal
 

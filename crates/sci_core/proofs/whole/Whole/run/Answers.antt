@@ -12,7 +12,7 @@ use Rattle.sci_core.proofs.whole.Whole.run.Goals as goal
 
 pub loop-place-init : goal.loop-place-init
 loop-place-init g c =
-    let sound = subst (λ (w : WholeLine g.row.K.Denot). IsSound (g.K.Keeps.fits w.keep w.number) w) c.self.view_is c.self.invariant in
+    let sound = subst (λ (w : WholeLine g.row.K.Denot). IsSound (g.K.Keeps.fits w.keep w.number) w) c.self.view_is c.self.invariant.sound in
     record {
       same = record { keep = refl; number = refl; nodes = refl };
       runs = run_none _ _ _ (lawful_line _ _ _ sound.ruled);

@@ -10,10 +10,10 @@ pub returns-clause-well_formed : goal.returns-clause-well_formed
 returns-clause-well_formed g c =
     let below : c.from.result < length c.self.inside.tags.items = search rules in
     let is : c.index.result.now ≡ slice_index_or c.self.inside.tags.items c.from.result invalid = get_or_read_under _ _ _ _ invalid c.index.ensures below refl in
-    subst (λ (t : Tag). tag_well_formed t ≡ true) (sym is) (c.self.invariant.ruled.words.tags c.from.result)
+    subst (λ (t : Tag). tag_well_formed t ≡ true) (sym is) (c.self.invariant.sound.ruled.words.tags c.from.result)
 
 pub returns-clause-links : goal.returns-clause-links
 returns-clause-links g c =
     let below : c.from.result < length c.self.inside.tags.items = search rules in
     let is : c.index.result.now ≡ slice_index_or c.self.inside.tags.items c.from.result invalid = get_or_read_under _ _ _ _ invalid c.index.ensures below refl in
-    rw (← c.self.view_is) (subst (λ (t : Tag). tag_links_below (length c.self.inside.tags.items) t ≡ true) (sym is) (tag_links _ _ c.self.invariant.ruled.links c.from.result))
+    rw (← c.self.view_is) (subst (λ (t : Tag). tag_links_below (length c.self.inside.tags.items) t ≡ true) (sym is) (tag_links _ _ c.self.invariant.sound.ruled.links c.from.result))

@@ -1,5 +1,6 @@
-use Rattle.sci_fine.proofs.Carried.{gives_top}
+use Rattle.std.proofs.Common.{sym, ◌∙◌}
+use Rattle.sci_fine.proofs.Carried.{gives_there}
 use Rattle.sci_fine.proofs.line.FineLine.lay.Goals as goal
 
-pub exchange-requires : goal.exchange-requires
-exchange-requires g c = (c.requires.of, gives_top _ _ _ _ _ c.in-Gives.is c.slot_of.ensures c.requires.hand)
+pub slot_mut-slot-requires : goal.slot_mut-slot-requires
+slot_mut-slot-requires g c = (c.requires.of, gives_there _ _ _ _ (sym c.requires.motion ∙ c.in-Gives.is) c.slot_of.ensures c.requires.hand)

@@ -1,4 +1,4 @@
-use Rattle.std.proofs.Common.{◌≤◌, subst, arith}
+use Rattle.std.proofs.Common.{◌≤◌, refl, subst, arith}
 use Rattle.sci_core.specs.declared.events.Event.{Event}
 use Rattle.sci_fine.specs.Steps.{exchanged}
 use Rattle.sci_fine.proofs.Moves.{exchanges}
@@ -6,10 +6,10 @@ use Rattle.sci_fine.proofs.line.FineLine.swap.Goals as goal
 
 pub compare_exchange-requires : goal.compare_exchange-requires
 compare_exchange-requires g c =
-    let sized = c.args.self.now.sized in let t = c.args.self.now.terms in let row = c.requires.row in let codes = c.requires.codes in let small : t.nodes ≤ 255 = omega arith in (
+    let sized = c.args.self.now.sized in let t = c.args.self.now.terms in let codes = c.requires.codes in let small : t.nodes ≤ 255 = omega arith in (
       c.requires.of.0,
       omega (arith, c.lies_at-place.ensures),
-      exchanges g.K.Keeps.fits t c.args.self.now.table.shared.key _ _ c.args.token.now.me sized.0 small c.requires.of.1 c.args.event.now _ c.args.asked.now.change c.args.asked.now.carry c.args.number _ _ _ c.requires.ask row.0 row.1 c.requires.turn c.requires.fits codes.3 c.requires.carries codes.0 c.lies_at-place.ensures codes.1 codes.2,
+      exchanges g.K.Keeps.fits t c.args.self.now.table.shared.key _ _ c.args.token.now.me sized.0 small c.requires.of.1 c.args.event.now _ _ _ c.args.number _ _ _ c.requires.ask refl refl c.requires.turn c.requires.fits codes.3 c.requires.carries codes.0 c.lies_at-place.ensures codes.1 codes.2,
     )
 
 pub returns-clause-exchanged : goal.returns-clause-exchanged

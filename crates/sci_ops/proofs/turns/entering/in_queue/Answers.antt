@@ -1,4 +1,4 @@
-use Rattle.std.proofs.Common.{rules, refl}
+use Rattle.std.proofs.Common.{rules}
 use Rattle.sci_ops.proofs.Took.{took_tag, no_tag, took_none}
 use Rattle.sci_ops.proofs.turns.entering.in_queue.Goals as goal
 

@@ -1,4 +1,4 @@
-use Rattle.std.proofs.Common.{rules, refl}
+use Rattle.std.proofs.Common.{rules}
 use Rattle.sci_ops.proofs.Took.{took_mem, no_mem}
 use Rattle.sci_ops.proofs.turns.leaving.promoted.Goals as goal
 

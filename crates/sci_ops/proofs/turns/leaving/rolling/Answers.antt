@@ -1,4 +1,4 @@
-use Rattle.std.proofs.Common.{rules, refl}
+use Rattle.std.proofs.Common.{rules}
 use Rattle.sci_ops.proofs.Took.{took_own, no_own}
 use Rattle.sci_ops.proofs.turns.leaving.rolling.Goals as goal
 

@@ -8,5 +8,5 @@ invariant_of-self c =
     record {
       lines = subst (λ (x : List ℕ). AreNotes x) (sym c.in-Ok.ensures)
           (notes_more (string_bytes c.args.self.now.text)
-          (record { node = c.args.node; asked = c.args.asked.now; passed = c.args.passed.now; turn = c.args.turn.now; mem = c.args.mem; entries = c.args.entries.now }) c.args.self.now.lines);
+          (record { node = c.args.node; asked = c.args.asked.now; passed = c.args.passed.now; pending = c.args.pending.now; turn = c.args.turn.now; mem = c.args.mem; entries = c.args.entries.now }) c.args.self.now.lines);
     }
