@@ -1,6 +1,6 @@
 //! Each growth may be refused: its call then answers 7 or an `AllocError`, all is as before, and a second try has the memory.
 //! With ample memory this test passes. tools/allocations runs it once for each growth of its table, with that one refused, and
-//! the test ends by saying which call answered it. Where a call makes up for a refused growth by a later one, it answers Ok.
+//! the test ends by saying which call answered it.
 use super::{LINE, fresh, node, run};
 use crate::closing::Closed;
 use crate::events::Event;
@@ -92,7 +92,7 @@ fn refuses(rt: &impl Abort, alloc: Global) -> Result<(), Fail> {
     lists(rt, &whole, alloc, &[0, 1])
 }
 
-/// Growths: 3 of open, 1 of closed, 1 made up for, 2 of chain.
+/// Growths: 3 of open, 2 of closed, 2 of chain.
 #[test]
 fn refused_growths(rt: HostRuntime) -> Result<(), Fail> {
     refuses(&rt, rt.alloc())
