@@ -116,6 +116,7 @@ impl Node {
     /// One turn of the open call: of the victim's eviction, as long as there is one, whose end is Moved, and then of the
     /// request's operation. At the end of an eviction its line leaves the table. Refusal 15 where no call is open, and only
     /// there.
+    #[inline(always)]
     pub fn turn<B: Bank>(&mut self, bank: &mut B) -> Result<Turn, NodeRefusal>
         requires node { (B.way bank.old).node ≡ self.old.id }
         requires lines { (B.way bank.old).lines ≡ self.old.lines }

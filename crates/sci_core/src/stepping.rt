@@ -22,12 +22,14 @@ use crate::table::purging::written;
 use crate::whole::Whole;
 use sci_words::{Mem, NodeId, Tag, write_mem, write_tag};
 
+#[inline(always)]
 fn place_of(node: NodeId) -> usize
     ensures { result ≡ node }
 {
     usize::from(node.get())
 }
 
+#[inline(always)]
 fn is_look(event: &Event) -> bool
     ensures { result ≡ is_look event.now }
 {
@@ -45,6 +47,7 @@ fn done_in(outcome: &Outcome) -> usize
     }
 }
 
+#[inline(always)]
 fn is_same(found: &Tag, before: &Tag) -> bool
     ensures { IsTrue result ↔ (found.now ≡ before.now) }
 {
@@ -52,6 +55,7 @@ fn is_same(found: &Tag, before: &Tag) -> bool
 }
 
 // Writes the word after the change.
+#[inline(always)]
 fn write_word(memory: &mut Mem, tags: &mut [Tag], change: &Change)
     requires { ChangesBelow (length tags.old) change.now }
     ensures memory { memory.new ≡ memory_after memory.old change.now }
@@ -64,6 +68,7 @@ fn write_word(memory: &mut Mem, tags: &mut [Tag], change: &Change)
 }
 
 // Writes over the own bytes as they are given back.
+#[inline(always)]
 fn give(lines: &mut [Line], me: NodeId, event: &Event)
     requires own { me < length lines.old }
     requires stamp { CanCountIn (slice_index_or lines.old me blank) event.now }
@@ -81,6 +86,7 @@ fn give(lines: &mut [Line], me: NodeId, event: &Event)
 
 // Moves bytes where an exchange moves them: from the slot that is taken to the node's own, and from there to the slot that
 // is given back.
+#[inline(always)]
 fn move_bytes(bytes: &mut Line, lines: &mut [Line], me: NodeId, event: &Event, outline: &Outline)
     requires own { me < length lines.old }
     requires motion { MovesBelow (length lines.old) outline.now.motion }
@@ -108,6 +114,7 @@ fn move_bytes(bytes: &mut Line, lines: &mut [Line], me: NodeId, event: &Event, o
 }
 
 // The line, where it is to be answered.
+#[inline(always)]
 fn answer(answers: bool, line: &Line) -> Option<Line>
     ensures { result ≡ cond answers (Some line.now) None }
 {
@@ -152,6 +159,7 @@ impl<K: Keeps> Whole<K> {
     }
 
     // Whether the node's pending step allows the event.
+    #[inline(always)]
     fn allows(&self, node: NodeId, event: &Event) -> bool
         requires { node < nodes_of self.now }
         ensures allowed { result ≡ is_allowed (nodes_of self.now) node ((state_of self.now).steps node) event.now }
@@ -163,6 +171,7 @@ impl<K: Keeps> Whole<K> {
     }
 
     // The exchange that an allowed event asks for, but for lines.
+    #[inline(always)]
     fn asked(&self, node: NodeId, event: &Event) -> Outline
         requires { node < nodes_of self.now }
         ensures outline { result ≡ outline_of (row_at (state_of self.now) node event.now) }
@@ -174,6 +183,7 @@ impl<K: Keeps> Whole<K> {
     }
 
     // Makes the exchange that an allowed event asks for, which finds its word, and gives its answer.
+    #[inline(always)]
     fn make(&mut self, node: NodeId, event: &Event, outline: &Outline) -> Option<Line>
         requires node { node < nodes_of self.old }
         requires allowed { has_row (nodes_of self.old) node ((state_of self.old).steps node) event.now ≡ true }
@@ -200,6 +210,7 @@ impl<K: Keeps> Whole<K> {
     }
 
     // Makes the exchange of an allowed event, or finds another word than it asks for.
+    #[inline(always)]
     fn exchange(&mut self, node: NodeId, event: &Event) -> Outcome
         requires node { node < nodes_of self.old }
         requires allowed { has_row (nodes_of self.old) node ((state_of self.old).steps node) event.now ≡ true }
@@ -216,6 +227,7 @@ impl<K: Keeps> Whole<K> {
     }
 
     // The node looks at its own tag.
+    #[inline(always)]
     fn look(&mut self, node: NodeId)
         requires node { node < nodes_of self.old }
         ensures same { IsSameLine self.old self.new }
@@ -231,6 +243,7 @@ impl<K: Keeps> Whole<K> {
     /// nothing changed. Refusal 8: the node's pending step doesn't allow the event, and nothing changed. The line is lawful
     /// before and after, and its value changes only where words were written, by the only valid sharer. A line that is
     /// answered is the value, and the node is a valid sharer with it.
+    #[inline(always)]
     pub fn step(&mut self, node: NodeId, event: Event) -> Result<Outcome, NotInTurn>
         requires node { node < nodes_of self.old }
         requires fits { FitsEvent (K.fits self.old.keep self.old.number) event }

@@ -27,6 +27,7 @@ use sci_words::{NodeId, Tag};
 
 impl Stage {
     // Whether the node `me` may make this event in this step, which keeps this line where it keeps one.
+    #[inline(always)]
     pub(crate) fn allows(&self, me: NodeId, nodes: u16, event: &Event, line: &Line) -> bool
         ensures { result ≡ (is_look event.now || has_row nodes me (pending_of self.now line.now) event.now) }
     {
@@ -59,6 +60,7 @@ impl Stage {
     }
 
     /// The exchange that an allowed event asks for, but for lines.
+    #[inline(always)]
     pub fn outline(&self, me: NodeId, event: &Event) -> Outline
         ensures { (l : a_line.Line) → result ≡ outline_of (row_of me (pending_of self.now l) event.now) }
     {
@@ -198,6 +200,7 @@ impl Pending {
 
     /// Whether the node `me`, one of `nodes`, may make this event in this step: a look always, an exchange where the
     /// table has a row for it. It says nothing of the word that the exchange will find.
+    #[inline(always)]
     pub fn allows(&self, me: NodeId, nodes: u16, event: &Event) -> bool
         ensures { result ≡ (is_look event.now || has_row nodes me self.now event.now) }
     {

@@ -46,6 +46,7 @@ pub enum End {
 
 impl End {
     /// The turn, by the exchange's outcome.
+    #[inline(always)]
     pub(crate) fn turn_after(self, outcome: Outcome) -> Turn
         ensures { result ≡ turn_after self outcome }
     {

@@ -21,6 +21,7 @@ use sci_core::{Event, Stage};
 use sci_port::Port;
 
 /// Tries an exchange, which ends the turn so once it is made.
+#[inline(always)]
 fn exchange<P: Port>(port: &mut P, event: Event, end: End) -> Turn
     requires allowed { is_allowed (P.way port.old).nodes (P.way port.old).node (P.at_step port.old) event ≡ true }
     requires fits { FitsEvent (P.Keep.fits (P.keep port.old) (P.way port.old).number) event }
@@ -33,6 +34,7 @@ fn exchange<P: Port>(port: &mut P, event: Event, end: End) -> Turn
 }
 
 /// Tries an exchange after which the operation goes on.
+#[inline(always)]
 fn go_on<P: Port>(port: &mut P, event: Event) -> Turn
     requires allowed { is_allowed (P.way port.old).nodes (P.way port.old).node (P.at_step port.old) event ≡ true }
     requires fits { FitsEvent (P.Keep.fits (P.keep port.old) (P.way port.old).number) event }

@@ -66,6 +66,7 @@ impl<B: Bank> Port for At<'_, B> {
         self.bank.stage(self.line)
     }
 
+    #[inline(always)]
     fn own(&mut self) -> Option<Tag> {
         self.bank.own(self.line)
     }
@@ -78,6 +79,7 @@ impl<B: Bank> Port for At<'_, B> {
         self.bank.tag(self.line, node)
     }
 
+    #[inline(always)]
     fn step(&mut self, event: Event) -> Outcome {
         self.bank.step(self.line, event)
     }

@@ -111,6 +111,7 @@ impl<K: Keeps> Bank for SoloBank<K> {
         *whole.stage(self.node)
     }
 
+    #[inline(always)]
     fn own(&mut self, line: LineNo) -> Option<Tag> {
         let me = self.node;
         let wholes = self.wholes.as_mut_slice();
@@ -129,6 +130,7 @@ impl<K: Keeps> Bank for SoloBank<K> {
         Solo::new(&mut wholes[usize::from(line)], me).tag(node)
     }
 
+    #[inline(always)]
     fn step(&mut self, line: LineNo, event: Event) -> Outcome {
         let me = self.node;
         let wholes = self.wholes.as_mut_slice();

@@ -46,6 +46,7 @@ pub(crate) fn unused(alloc: Global, script: &Script) -> Result<Vec<Whole<AnyWord
 
 /// One turn of the node's call, over the bank that it is seated at.
 #[tactic(auto, using(sci_ops::proofs::Storing::any_store_fits))]
+#[inline(always)]
 fn turn_on(bank: &mut SoloBank<AnyWords>, node: &mut Node) -> Turn
     requires seat { bank.old.node ≡ node.old.id }
     requires lines { length bank.old.wholes.items ≡ node.old.lines }
@@ -100,6 +101,7 @@ impl Desk for WholeDesk {
         }
     }
 
+    #[inline(always)]
     fn turn(&mut self, node: NodeId) -> Turn {
         self.bank.seat(node);
         turn_on(&mut self.bank, &mut self.nodes[usize::from(node.get())])

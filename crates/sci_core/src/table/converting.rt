@@ -13,6 +13,7 @@ use crate::table::shorthand::{
 };
 use sci_words::{Kind, NodeId};
 
+#[inline(always)]
 pub fn converting_allows(turned: bool, event: &Event) -> bool
     ensures { result ≡ converting_allows turned event.now }
 {
@@ -23,6 +24,7 @@ pub fn converting_allows(turned: bool, event: &Event) -> bool
     }
 }
 
+#[inline(always)]
 pub fn converting_outline(me: NodeId, forw: &Option<NodeId>, event: &Event) -> Outline
     ensures { result ≡ outline_of (converting_row me forw.now event.now) }
 {

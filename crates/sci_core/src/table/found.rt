@@ -6,6 +6,7 @@ ghost use Rattle.sci_core.specs.Found.{names, is_fresh, is_dirty, is_settled_fro
 use sci_words::{Kind, NodeId, Tag};
 
 /// The link names a node of the line, or none.
+#[inline]
 pub fn is_below(nodes: u16, link: &Option<NodeId>) -> bool
     ensures { result ≡ link_below nodes link.now }
 {
@@ -16,6 +17,7 @@ pub fn is_below(nodes: u16, link: &Option<NodeId>) -> bool
 }
 
 /// The link names this node.
+#[inline]
 pub fn names(me: NodeId, link: &Option<NodeId>) -> bool
     ensures { result ≡ names me link.now }
 {
@@ -26,6 +28,7 @@ pub fn names(me: NodeId, link: &Option<NodeId>) -> bool
 }
 
 // An event may carry this word: it is well formed and not held.
+#[inline]
 fn may_be_carried(tag: &Tag) -> bool
     ensures { result ≡ (not tag.now.held && tag_well_formed tag.now) }
 {
@@ -33,6 +36,7 @@ fn may_be_carried(tag: &Tag) -> bool
 }
 
 /// The tag was found Fresh.
+#[inline]
 pub fn fresh(tag: &Tag) -> bool
     ensures { result ≡ is_found is_fresh tag.now }
 {
@@ -40,6 +44,7 @@ pub fn fresh(tag: &Tag) -> bool
 }
 
 /// The tag was found Dirty.
+#[inline]
 pub fn dirty(tag: &Tag) -> bool
     ensures { result ≡ is_found is_dirty tag.now }
 {
@@ -47,6 +52,7 @@ pub fn dirty(tag: &Tag) -> bool
 }
 
 /// The tag is Dirty.
+#[inline]
 pub fn is_dirty(tag: &Tag) -> bool
     ensures { result ≡ is_dirty tag.now.kind }
 {
@@ -54,6 +60,7 @@ pub fn is_dirty(tag: &Tag) -> bool
 }
 
 /// The tag was found Fresh or Dirty.
+#[inline]
 pub fn settled_front(tag: &Tag) -> bool
     ensures { result ≡ is_found is_settled_front tag.now }
 {
@@ -61,6 +68,7 @@ pub fn settled_front(tag: &Tag) -> bool
 }
 
 /// The tag was found Valid.
+#[inline]
 pub fn settled_body(tag: &Tag) -> bool
     ensures { result ≡ is_found is_settled_body tag.now }
 {
@@ -68,6 +76,7 @@ pub fn settled_body(tag: &Tag) -> bool
 }
 
 /// The tag was found Fresh, Dirty or Valid.
+#[inline]
 pub fn settled(tag: &Tag) -> bool
     ensures { result ≡ is_found is_settled tag.now }
 {
@@ -75,6 +84,7 @@ pub fn settled(tag: &Tag) -> bool
 }
 
 /// The tag was found in Roll.
+#[inline]
 pub fn rolling(tag: &Tag) -> bool
     ensures { result ≡ is_found is_rolling tag.now }
 {
@@ -82,6 +92,7 @@ pub fn rolling(tag: &Tag) -> bool
 }
 
 /// The tag was found to be an entry that may be told its new successor.
+#[inline]
 pub fn tellable(tag: &Tag) -> bool
     ensures { result ≡ is_found can_be_told tag.now }
 {

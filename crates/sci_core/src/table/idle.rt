@@ -15,6 +15,7 @@ use crate::table::shorthand::{
 };
 use sci_words::{Kind, NodeId, Tag};
 
+#[inline(always)]
 pub fn idle_allows(nodes: u16, event: &Event) -> bool
     ensures { result ≡ idle_allows nodes event.now }
 {
@@ -29,6 +30,7 @@ pub fn idle_allows(nodes: u16, event: &Event) -> bool
     }
 }
 
+#[inline(always)]
 pub fn idle_outline(me: NodeId, event: &Event) -> Outline
     ensures { result ≡ outline_of (idle_row me event.now) }
 {
@@ -71,12 +73,14 @@ pub fn idle_outline(me: NodeId, event: &Event) -> Outline
     }
 }
 
+#[inline(always)]
 pub fn holding_allows(event: &Event) -> bool
     ensures { result ≡ holding_allows event.now }
 {
     matches!(event, Event::Unhold)
 }
 
+#[inline(always)]
 pub fn holding_outline(me: NodeId, kept: &Tag, event: &Event) -> Outline
     ensures { (l : a_line.Line) → result ≡ outline_of (holding_row me kept.now l event.now) }
 {

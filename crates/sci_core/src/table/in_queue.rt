@@ -15,6 +15,7 @@ use crate::table::shorthand::{
 };
 use sci_words::{NodeId, Tag};
 
+#[inline(always)]
 pub fn in_queue_allows(forw: &Option<NodeId>, dirty: bool, has_copy: bool, event: &Event) -> bool
     ensures { (l : a_line.Line) → result ≡ in_queue_allows event.now forw.now dirty (cond has_copy (Some l) None) }
 {
@@ -26,6 +27,7 @@ pub fn in_queue_allows(forw: &Option<NodeId>, dirty: bool, has_copy: bool, event
     }
 }
 
+#[inline(always)]
 pub fn in_queue_outline(
     me: NodeId,
     forw: &Option<NodeId>,
@@ -59,12 +61,14 @@ pub fn in_queue_outline(
     }
 }
 
+#[inline(always)]
 pub fn copying_allows(event: &Event) -> bool
     ensures { result ≡ copying_allows event.now }
 {
     matches!(event, Event::ReturnCopy)
 }
 
+#[inline(always)]
 pub fn copying_outline(head: NodeId, kept: &Tag, event: &Event) -> Outline
     ensures { (l : a_line.Line) → result ≡ outline_of (copying_row head kept.now l event.now) }
 {
@@ -84,12 +88,14 @@ pub fn copying_outline(head: NodeId, kept: &Tag, event: &Event) -> Outline
     }
 }
 
+#[inline(always)]
 pub fn ready_allows(event: &Event) -> bool
     ensures { result ≡ ready_allows event.now }
 {
     matches!(event, Event::Settle)
 }
 
+#[inline(always)]
 pub fn ready_outline(me: NodeId, forw: &Option<NodeId>, dirty: bool, event: &Event) -> Outline
     ensures { (l : a_line.Line) → result ≡ outline_of (ready_row me forw.now dirty l event.now) }
 {

@@ -15,6 +15,7 @@ use crate::table::shorthand::{
 };
 use sci_words::NodeId;
 
+#[inline(always)]
 pub fn leaving_allows(me: NodeId, dirty: bool, seen: &Option<Option<NodeId>>, event: &Event) -> bool
     ensures { result ≡ leaving_allows me dirty event.now seen.now }
 {
@@ -29,6 +30,7 @@ pub fn leaving_allows(me: NodeId, dirty: bool, seen: &Option<Option<NodeId>>, ev
     }
 }
 
+#[inline(always)]
 pub fn leaving_outline(
     me: NodeId,
     dirty: bool,
@@ -60,12 +62,14 @@ pub fn leaving_outline(
     }
 }
 
+#[inline(always)]
 pub fn promoted_allows(event: &Event) -> bool
     ensures { result ≡ promoted_allows event.now }
 {
     matches!(event, Event::PassOn | Event::ReEnter)
 }
 
+#[inline(always)]
 pub fn promoted_outline(me: NodeId, dirty: bool, succ: NodeId, event: &Event) -> Outline
     ensures { (l : a_line.Line) → result ≡ outline_of (promoted_row me dirty l succ event.now) }
 {
@@ -89,12 +93,14 @@ pub fn promoted_outline(me: NodeId, dirty: bool, succ: NodeId, event: &Event) ->
     }
 }
 
+#[inline(always)]
 pub fn writing_back_allows(event: &Event) -> bool
     ensures { result ≡ writing_back_allows event.now }
 {
     matches!(event, Event::ReturnMemory)
 }
 
+#[inline(always)]
 pub fn writing_back_outline(event: &Event) -> Outline
     ensures { (l : a_line.Line) → result ≡ outline_of (writing_back_row l event.now) }
 {
@@ -107,12 +113,14 @@ pub fn writing_back_outline(event: &Event) -> Outline
     }
 }
 
+#[inline(always)]
 pub fn parted_allows(event: &Event) -> bool
     ensures { result ≡ parted_allows event.now }
 {
     matches!(event, Event::Left)
 }
 
+#[inline(always)]
 pub fn parted_outline(me: NodeId, forw: &Option<NodeId>, event: &Event) -> Outline
     ensures { result ≡ outline_of (parted_row me forw.now event.now) }
 {

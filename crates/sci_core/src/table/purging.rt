@@ -16,6 +16,7 @@ use crate::table::shorthand::{
 use sci_words::{Kind, NodeId, Tag};
 
 // The stamp can count one more write.
+#[inline]
 fn can_count(line: &Line) -> bool
     ensures { result ≡ can_count line.now }
 {
@@ -23,6 +24,7 @@ fn can_count(line: &Line) -> bool
 }
 
 /// The line after a write of these words.
+#[inline]
 pub fn written(line: &Line, words: &Option<[u64; 8]>) -> Line
     requires stamp { IfSome words.now (λ _. can_count line.now ≡ true) }
     ensures { result ≡ written line.now words.now }
@@ -36,18 +38,21 @@ pub fn written(line: &Line, words: &Option<[u64; 8]>) -> Line
     }
 }
 
+#[inline]
 fn saw_entry(seen: &Option<Option<NodeId>>) -> bool
     ensures { result ≡ saw_entry seen.now }
 {
     matches!(seen, Some(Some(_)))
 }
 
+#[inline]
 fn saw_none(seen: &Option<Option<NodeId>>) -> bool
     ensures { result ≡ saw_none seen.now }
 {
     matches!(seen, Some(None))
 }
 
+#[inline(always)]
 pub fn purging_allows(me: NodeId, line: &Line, seen: &Option<Option<NodeId>>, event: &Event) -> bool
     ensures { result ≡ purging_allows me line.now event.now seen.now }
 {
@@ -61,6 +66,7 @@ pub fn purging_allows(me: NodeId, line: &Line, seen: &Option<Option<NodeId>>, ev
     }
 }
 
+#[inline(always)]
 pub fn purging_outline(me: NodeId, seen: &Option<Option<NodeId>>, event: &Event) -> Outline
     ensures { (l : a_line.Line) → result ≡ outline_of (purging_row me l event.now seen.now) }
 {
@@ -87,12 +93,14 @@ pub fn purging_outline(me: NodeId, seen: &Option<Option<NodeId>>, event: &Event)
     }
 }
 
+#[inline(always)]
 pub fn advancing_allows(event: &Event) -> bool
     ensures { result ≡ advancing_allows event.now }
 {
     matches!(event, Event::Advance)
 }
 
+#[inline(always)]
 pub fn advancing_outline(me: NodeId, victim: NodeId, kept: &Tag, event: &Event) -> Outline
     ensures { (l : a_line.Line) → result ≡ outline_of (advancing_row me l victim kept.now event.now) }
 {
@@ -109,12 +117,14 @@ pub fn advancing_outline(me: NodeId, victim: NodeId, kept: &Tag, event: &Event) 
     }
 }
 
+#[inline(always)]
 pub fn clearing_allows(event: &Event) -> bool
     ensures { result ≡ clearing_allows event.now }
 {
     matches!(event, Event::Clear)
 }
 
+#[inline(always)]
 pub fn clearing_outline(victim: NodeId, kept: &Tag, event: &Event) -> Outline
     ensures { (l : a_line.Line) → result ≡ outline_of (clearing_row l victim kept.now event.now) }
 {

@@ -14,6 +14,7 @@ use crate::table::shorthand::{
 };
 use sci_words::NodeId;
 
+#[inline(always)]
 pub fn queueing_allows(nodes: u16, forw: &Option<NodeId>, event: &Event) -> bool
     ensures { result ≡ queueing_allows nodes forw.now event.now }
 {
@@ -25,6 +26,7 @@ pub fn queueing_allows(nodes: u16, forw: &Option<NodeId>, event: &Event) -> bool
     }
 }
 
+#[inline(always)]
 pub fn queueing_outline(me: NodeId, forw: &Option<NodeId>, event: &Event) -> Outline
     ensures { result ≡ outline_of (queueing_row me event.now forw.now) }
 {
@@ -56,12 +58,14 @@ pub fn queueing_outline(me: NodeId, forw: &Option<NodeId>, event: &Event) -> Out
     }
 }
 
+#[inline(always)]
 pub fn fetching_allows(event: &Event) -> bool
     ensures { result ≡ fetching_allows event.now }
 {
     matches!(event, Event::ReturnMemory)
 }
 
+#[inline(always)]
 pub fn fetching_outline(me: NodeId, forw: &Option<NodeId>, dirty: bool, event: &Event) -> Outline
     ensures { (l : a_line.Line) → result ≡ outline_of (fetching_row me forw.now dirty l event.now) }
 {

@@ -10,6 +10,7 @@ use crate::table::found;
 use crate::table::shorthand::{invalid, no_outline, stays, tag, word};
 use sci_words::{Kind, NodeId};
 
+#[inline(always)]
 pub fn rolling_allows(
     me: NodeId,
     told: bool,
@@ -29,6 +30,7 @@ pub fn rolling_allows(
     }
 }
 
+#[inline(always)]
 pub fn rolling_outline(seen: &Option<(Option<NodeId>, NodeId)>, event: &Event) -> Outline
     ensures { result ≡ outline_of (rolling_row event.now seen.now) }
 {
@@ -53,12 +55,14 @@ pub fn rolling_outline(seen: &Option<(Option<NodeId>, NodeId)>, event: &Event) -
     }
 }
 
+#[inline(always)]
 pub fn unlinked_allows(event: &Event) -> bool
     ensures { result ≡ unlinked_allows event.now }
 {
     matches!(event, Event::Rolled)
 }
 
+#[inline(always)]
 pub fn unlinked_outline(me: NodeId, forw: &Option<NodeId>, back: NodeId, event: &Event) -> Outline
     ensures { result ≡ outline_of (unlinked_row me forw.now back event.now) }
 {

@@ -8,6 +8,7 @@ use crate::rows::{Change, Place};
 use crate::stages::Stage;
 use sci_words::{Kind, Mem, MemState, NodeId, Tag};
 
+#[inline]
 pub fn word(kind: Kind, forw: Option<NodeId>, back: Option<NodeId>) -> Tag
     ensures { result ≡ word kind forw back }
 {
@@ -19,24 +20,28 @@ pub fn word(kind: Kind, forw: Option<NodeId>, back: Option<NodeId>) -> Tag
     }
 }
 
+#[inline]
 pub fn invalid() -> Tag
     ensures { result ≡ invalid }
 {
     word(Kind::Invalid, None, None)
 }
 
+#[inline]
 pub fn queued_word(forw: Option<NodeId>) -> Tag
     ensures { result ≡ queued_word forw }
 {
     word(Kind::Queued, forw, None)
 }
 
+#[inline]
 pub fn purging_word(forw: Option<NodeId>) -> Tag
     ensures { result ≡ purging_word forw }
 {
     word(Kind::Purging, forw, None)
 }
 
+#[inline]
 pub fn leaving_word(forw: Option<NodeId>) -> Tag
     ensures { result ≡ leaving_word forw }
 {
@@ -44,6 +49,7 @@ pub fn leaving_word(forw: Option<NodeId>) -> Tag
 }
 
 /// The old head's word, with the actor in front of it.
+#[inline]
 pub fn attached(me: NodeId, found: &Tag) -> Tag
     ensures { result ≡ attached me found.now }
 {
@@ -51,6 +57,7 @@ pub fn attached(me: NodeId, found: &Tag) -> Tag
 }
 
 /// The victim's word.
+#[inline]
 pub fn purged_word(found: &Tag) -> Tag
     ensures { result ≡ purged_word found.now }
 {
@@ -58,18 +65,21 @@ pub fn purged_word(found: &Tag) -> Tag
 }
 
 /// A settled front.
+#[inline]
 pub fn settled_word(dirty: bool, forw: Option<NodeId>) -> Tag
     ensures { result ≡ settled_word dirty forw }
 {
     word(if dirty { Kind::Dirty } else { Kind::Fresh }, forw, None)
 }
 
+#[inline]
 pub fn held_word(tag: &Tag) -> Tag
     ensures { result ≡ held_word tag.now }
 {
     Tag { held: true, ..*tag }
 }
 
+#[inline]
 pub fn unheld_word(tag: &Tag) -> Tag
     ensures { result ≡ unheld_word tag.now }
 {
@@ -80,6 +90,7 @@ pub fn unheld_word(tag: &Tag) -> Tag
 }
 
 /// Memory's word without a list.
+#[inline]
 pub fn home() -> Mem
     ensures { result ≡ home }
 {
@@ -91,6 +102,7 @@ pub fn home() -> Mem
 }
 
 /// Memory's word with a list: GONE if the list is dirty.
+#[inline]
 pub fn listed(dirty: bool, head: NodeId) -> Mem
     ensures { result ≡ listed dirty head }
 {
@@ -106,6 +118,7 @@ pub fn listed(dirty: bool, head: NodeId) -> Mem
 }
 
 /// Memory's word where its data is valid.
+#[inline]
 pub fn home_or_listed(head: &Option<NodeId>) -> Mem
     ensures { result ≡ home_or_listed head.now }
 {
@@ -115,6 +128,7 @@ pub fn home_or_listed(head: &Option<NodeId>) -> Mem
     }
 }
 
+#[inline]
 pub fn lent_word(mem: &Mem) -> Mem
     ensures { result ≡ lent_word mem.now }
 {
@@ -122,6 +136,7 @@ pub fn lent_word(mem: &Mem) -> Mem
 }
 
 /// The change of the node's tag.
+#[inline]
 pub fn tag(node: NodeId, before: Tag, after: Tag) -> Change
     ensures { result ≡ Change.OfTag node before after }
 {
@@ -133,6 +148,7 @@ pub fn tag(node: NodeId, before: Tag, after: Tag) -> Change
 }
 
 /// The change of memory's word.
+#[inline]
 pub fn memory(before: Mem, after: Mem) -> Change
     ensures { result ≡ Change.OfMemory before after }
 {
@@ -140,6 +156,7 @@ pub fn memory(before: Mem, after: Mem) -> Change
 }
 
 /// No slot is moved.
+#[inline]
 pub fn stays(change: Change, after: Stage) -> Outline
     ensures { result ≡ record { change = change; motion = Motion.Stays; after = after; answers = false } }
 {
@@ -152,6 +169,7 @@ pub fn stays(change: Change, after: Stage) -> Outline
 }
 
 /// A slot is taken.
+#[inline]
 pub fn takes(change: Change, place: Place, after: Stage) -> Outline
     ensures { result ≡ record { change = change; motion = Motion.Takes place; after = after; answers = false } }
 {
@@ -164,6 +182,7 @@ pub fn takes(change: Change, place: Place, after: Stage) -> Outline
 }
 
 /// The own bytes are given back into this slot.
+#[inline]
 pub fn gives(change: Change, place: Place, after: Stage) -> Outline
     ensures { result ≡ record { change = change; motion = Motion.Gives place; after = after; answers = false } }
 {
@@ -176,6 +195,7 @@ pub fn gives(change: Change, place: Place, after: Stage) -> Outline
 }
 
 /// The step that purges, just entered: nothing was seen yet.
+#[inline]
 pub fn purges() -> Stage
     ensures { result ≡ Stage.Purging None }
 {
@@ -183,6 +203,7 @@ pub fn purges() -> Stage
 }
 
 /// The same exchange, which answers the line that is taken or given back.
+#[inline]
 pub fn answering(outline: Outline) -> Outline
     ensures { result ≡ record outline { answers = true } }
 {
@@ -193,6 +214,7 @@ pub fn answering(outline: Outline) -> Outline
 }
 
 /// What stands for the exchange of an event that is not allowed.
+#[inline]
 pub fn no_outline() -> Outline
     ensures { result ≡ record { change = no_row.change; motion = Motion.Stays; after = Stage.Idle; answers = false } }
 {
