@@ -31,6 +31,7 @@ pub struct Outline {
 
 impl Line {
     /// Writes over the actor's line as it is given back.
+    #[inline(always)]
     pub fn give_back(&mut self, event: &Event)
         requires stamp { CanCountIn self.old event.now }
         ensures { self.new ≡ given event.now self.old }
@@ -55,6 +56,7 @@ fn carry_with(motion: &Motion, line: &Line) -> Carry
 
 impl Outline {
     /// Writes over the actor's own line as it stands after the exchange. `taken` is that of the slot that is taken.
+    #[inline(always)]
     pub fn write_own(&self, event: &Event, own: &mut Line, taken: &Line)
         requires stamp { CountsGiven event.now self.now.motion own.old }
         ensures { own.new ≡ own_after self.now.motion self.now.after event.now own.old taken.now }
