@@ -8,6 +8,7 @@ mod memory;
 use super::*;
 use sci_words::{Kind, MemState, NodeId, Tag};
 use std::alloc::Global;
+use std::fmt::Debug;
 use std::process::Abort;
 use std::test::Fail;
 
@@ -26,13 +27,17 @@ fn node(number: u16) -> NodeId
     }
 }
 
-fn fresh(forw: Option<NodeId>) -> Tag {
-    Tag {
-        kind: Kind::Fresh,
-        held: false,
-        forw,
-        back: None,
-    }
+/// The tag of a node that is alone on its list.
+pub const ALONE: Tag = Tag {
+    kind: Kind::Fresh,
+    held: false,
+    forw: None,
+    back: None,
+};
+
+/// Both are the same. Each `assert_eq!` is proved by itself; this one is proved once.
+pub fn same<T: Debug + PartialEq>(rt: &impl Abort, left: &T, right: &T) {
+    assert_eq!(rt; left, right);
 }
 
 /// One event of a node, if there is that node.
@@ -68,13 +73,13 @@ fn opens_with_1_to_64_nodes(rt: HostRuntime) -> Result<(), Fail> {
         match opened {
             Ok(whole) => {
                 assert!(rt; !refused, "with {nodes}");
-                assert_eq!(rt; whole.nodes(), nodes);
-                assert_eq!(rt; whole.number(), 7);
-                assert_eq!(rt; whole.mem().state, MemState::Home);
+                same(&rt, &whole.nodes(), &nodes);
+                same(&rt, &whole.number(), &7);
+                same(&rt, &whole.mem().state, &MemState::Home);
             }
             Err(refusal) => {
                 assert!(rt; refused, "with {nodes}");
-                assert_eq!(rt; refusal.number(), 6);
+                same(&rt, &refusal.number(), &6);
             }
         }
     }
@@ -86,7 +91,7 @@ fn closes_and_lists_1_to_64_nodes(rt: HostRuntime) -> Result<(), Fail> {
     for nodes in 1..65 {
         let mut whole = Whole::open(rt.alloc(), nodes, 7, LINE, AnyWords)?;
         let closed = whole.closed(rt.alloc())?;
-        assert_eq!(rt; closed.tags.len(), usize::from(nodes));
+        same(&rt, &closed.tags.len(), &usize::from(nodes));
         let mut head = None;
         for number in 0..nodes {
             for event in [Event::Queue(head), Event::PrependValid, Event::ReturnMemory] {
@@ -101,37 +106,45 @@ fn closes_and_lists_1_to_64_nodes(rt: HostRuntime) -> Result<(), Fail> {
             .map(|node| node.get())
             .collect(rt.alloc())?;
         let want: Vec<u16> = (0..nodes).rev().collect(rt.alloc())?;
-        assert_eq!(rt; chain.as_slice(), want.as_slice(), "of {nodes}");
+        same(&rt, &(nodes, chain.as_slice()), &(nodes, want.as_slice()));
     }
     Ok(())
+}
+
+// A reader, until a second one prepends itself.
+fn two_read(zero: NodeId, one: NodeId, alone: Tag) -> [(NodeId, Event); 7] {
+    [
+        (zero, Event::Queue(None)),
+        (zero, Event::PrependValid),
+        (zero, Event::ReturnMemory),
+        (zero, Event::Settle),
+        (zero, Event::Convert(alone)),
+        (one, Event::Queue(Some(zero))),
+        (one, Event::PrependValid),
+    ]
 }
 
 #[test]
 fn runs_two_readers(rt: HostRuntime) -> Result<(), Fail> {
     let mut whole = Whole::open(rt.alloc(), 2, 0, LINE, AnyWords)?;
-    let events = [
-        (node(0), Event::Queue(None)),
-        (node(0), Event::PrependValid),
-        (node(0), Event::ReturnMemory),
-        (node(0), Event::Settle),
-        (node(0), Event::Convert(fresh(None))),
-        (node(1), Event::Queue(Some(node(0)))),
-        (node(1), Event::PrependValid),
-    ];
-    assert_eq!(rt; run(&mut whole, &events), Some(Ok(7)));
+    same(
+        &rt,
+        &run(&mut whole, &two_read(node(0), node(1), ALONE)),
+        &Some(Ok(7)),
+    );
     let chain: Vec<u16> = whole
         .chain(rt.alloc())?
         .iter()
         .map(|node| node.get())
         .collect(rt.alloc())?;
-    assert_eq!(rt; chain.as_slice(), [1, 0].as_slice());
+    same(&rt, &chain.as_slice(), &[1, 0].as_slice());
     for (number, event, outcome) in [
         (0, Event::FreshToGone, Ok(Outcome::Missed(0x111))),
         (1, Event::Settle, Err(NotInTurn)),
         (0, Event::Unconverted, Ok(Outcome::Done(None))),
         (0, Event::Look, Ok(Outcome::Done(None))),
     ] {
-        assert_eq!(rt; step(&mut whole, number, event), Some(outcome));
+        same(&rt, &step(&mut whole, number, event), &Some(outcome));
     }
     Ok(())
 }
@@ -145,14 +158,16 @@ fn stops_at_the_first_that_is_not_in_turn(rt: HostRuntime) -> Result<(), Fail> {
         (node(0), Event::Settle),
         (node(0), Event::ReturnMemory),
     ];
-    assert_eq!(rt; run(&mut whole, &events), Some(Err(2)));
-    assert_eq!(rt;
-        step(&mut whole, 0, Event::ReturnMemory),
-        Some(Ok(Outcome::Done(None)))
+    same(&rt, &run(&mut whole, &events), &Some(Err(2)));
+    same(
+        &rt,
+        &step(&mut whole, 0, Event::ReturnMemory),
+        &Some(Ok(Outcome::Done(None))),
     );
-    assert_eq!(rt;
-        step(&mut whole, 0, Event::Settle),
-        Some(Ok(Outcome::Done(Some(LINE))))
+    same(
+        &rt,
+        &step(&mut whole, 0, Event::Settle),
+        &Some(Ok(Outcome::Done(Some(LINE)))),
     );
     Ok(())
 }

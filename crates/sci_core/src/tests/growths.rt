@@ -1,7 +1,7 @@
 //! Each growth may be refused: its call then answers 7 or an `AllocError`, all is as before, and a second try has the memory.
 //! With ample memory this test passes. tools/allocations runs it once for each growth of its table, with that one refused, and
 //! the test ends by saying which call answered it.
-use super::{LINE, fresh, node, run};
+use super::{ALONE, LINE, node, run, same};
 use crate::closing::Closed;
 use crate::events::Event;
 use crate::keeps::AnyWords;
@@ -27,9 +27,9 @@ fn shown(whole: &Whole<AnyWords>) -> Option<(MemState, Tag, Tag, u64)> {
 }
 
 fn is_chain(rt: &impl Abort, chain: &[NodeId], want: &[u16]) {
-    assert_eq!(rt; chain.len(), want.len());
+    same(rt, &chain.len(), &want.len());
     for (node, number) in chain.iter().zip(want.iter()) {
-        assert_eq!(rt; node.get(), *number);
+        same(rt, &node.get(), number);
     }
 }
 
@@ -50,18 +50,31 @@ fn lists(
 }
 
 fn is_unused(rt: &impl Abort, closed: &Closed) {
-    assert_eq!(rt; closed.memory, LINE);
-    assert_eq!(rt; closed.tags.len(), 2);
-    assert_eq!(rt; closed.lines.as_slice(), [LINE; 2].as_slice());
+    same(rt, &closed.memory, &LINE);
+    same(rt, &closed.tags.len(), &2);
+    same(rt, &closed.lines.as_slice(), &[LINE; 2].as_slice());
 }
 
 // A second try to open has the memory.
 fn opens_again(rt: &impl Abort, alloc: Global, refusal: OpenRefusal) -> Result<(), Fail> {
-    assert_eq!(rt; refusal, OpenRefusal::OutOfMemory);
-    assert_eq!(rt; refusal.number(), 7);
+    same(rt, &refusal, &OpenRefusal::OutOfMemory);
+    same(rt, &refusal.number(), &7);
     let whole = Whole::open(alloc, 2, 7, LINE, AnyWords)?;
     is_chain(rt, &whole.chain(alloc)?, &[]);
     Err(Fail::new("open answered 7"))
+}
+
+// Node 1 reads, and then node 0.
+fn reads(zero: NodeId, one: NodeId, alone: Tag) -> [(NodeId, Event); 7] {
+    [
+        (one, Event::Queue(None)),
+        (one, Event::PrependValid),
+        (one, Event::ReturnMemory),
+        (one, Event::Settle),
+        (zero, Event::Queue(Some(one))),
+        (zero, Event::PrependValid),
+        (one, Event::Hold(alone)),
+    ]
 }
 
 fn refuses(rt: &impl Abort, alloc: Global) -> Result<(), Fail> {
@@ -79,16 +92,11 @@ fn refuses(rt: &impl Abort, alloc: Global) -> Result<(), Fail> {
         }
     }
     lists(rt, &whole, alloc, &[])?;
-    let reads: [(NodeId, Event); 7] = [
-        (node(1), Event::Queue(None)),
-        (node(1), Event::PrependValid),
-        (node(1), Event::ReturnMemory),
-        (node(1), Event::Settle),
-        (node(0), Event::Queue(Some(node(1)))),
-        (node(0), Event::PrependValid),
-        (node(1), Event::Hold(fresh(None))),
-    ];
-    assert_eq!(rt; run(&mut whole, &reads), Some(Ok(7)));
+    same(
+        rt,
+        &run(&mut whole, &reads(node(0), node(1), ALONE)),
+        &Some(Ok(7)),
+    );
     lists(rt, &whole, alloc, &[0, 1])
 }
 

@@ -1,7 +1,7 @@
 //! Steps and readers take no memory, as a walk by chance through all rows shows, nor do runs, nor does closing in room that
 //! was taken before. tools/allocations runs each of these tests with the allocation of its last line refused, and wants it to
 //! fail there, and there alone.
-use super::{LINE, fresh, run, step};
+use super::{ALONE, LINE, node, run, same, step};
 use crate::events::Event;
 use crate::keeps::AnyWords;
 use crate::lines::Line;
@@ -111,37 +111,30 @@ fn steps_take_no_memory(rt: HostRuntime) {
 }
 
 /// Three events of a first reader.
-fn first() -> Option<[(NodeId, Event); 3]> {
-    let zero = NodeId::new(0)?;
-    Some([
+fn first(zero: NodeId) -> [(NodeId, Event); 3] {
+    [
         (zero, Event::Queue(None)),
         (zero, Event::PrependValid),
         (zero, Event::ReturnMemory),
-    ])
+    ]
 }
 
 /// The same reader, until a second one prepends itself; a missed exchange; and an event that isn't in turn.
-fn then() -> Option<[(NodeId, Event); 6]> {
-    let (zero, one) = (NodeId::new(0)?, NodeId::new(1)?);
-    Some([
+fn then(zero: NodeId, one: NodeId, alone: Tag) -> [(NodeId, Event); 6] {
+    [
         (zero, Event::Settle),
-        (zero, Event::Convert(fresh(None))),
+        (zero, Event::Convert(alone)),
         (one, Event::Queue(Some(zero))),
         (one, Event::PrependValid),
         (zero, Event::FreshToGone),
         (one, Event::Settle),
-    ])
+    ]
 }
 
 #[test]
 fn runs_and_closing_take_no_memory(rt: HostRuntime) {
     // `open` takes three, and the room two, for two numbers of nodes.
-    let Some(first) = first() else {
-        panic!(rt; "no such node")
-    };
-    let Some(then) = then() else {
-        panic!(rt; "no such nodes")
-    };
+    let (zero, one) = (node(0), node(1));
     for nodes in [NODES, MOST] {
         let Ok(mut whole) = Whole::open(rt.alloc(), nodes, 7, LINE, AnyWords) else {
             panic!(rt; "`open` takes more than three allocations")
@@ -153,11 +146,15 @@ fn runs_and_closing_take_no_memory(rt: HostRuntime) {
             panic!(rt; "no room")
         };
         let closed = whole.closed_in(tags, lines);
-        assert_eq!(rt; closed.tags.len(), usize::from(nodes));
-        assert_eq!(rt; closed.lines.len(), usize::from(nodes));
+        same(&rt, &closed.tags.len(), &usize::from(nodes));
+        same(&rt, &closed.lines.len(), &usize::from(nodes));
         assert!(rt; closed.lines.iter().all(|line| *line == LINE));
-        assert_eq!(rt; run(&mut whole, &first), Some(Ok(3)));
-        assert_eq!(rt; run(&mut whole, &then), Some(Err(5)));
+        same(&rt, &run(&mut whole, &first(zero)), &Some(Ok(3)));
+        same(
+            &rt,
+            &run(&mut whole, &then(zero, one, ALONE)),
+            &Some(Err(5)),
+        );
     }
     let last = Vec::<u8>::with_capacity(rt.alloc(), 1);
     assert!(rt; last.is_ok(), "allocation 11 is refused");
