@@ -13,6 +13,7 @@ use sci_ops::{Answer, Turn};
 use sci_port::SoloBank;
 use sci_words::{NodeId, mem_name, name};
 use std::alloc::Global;
+use std::fmt::Debug;
 use std::process::Abort;
 use std::test::Fail;
 
@@ -20,6 +21,11 @@ const ZEROS: Answer = Answer::Seen {
     words: [0; 8],
     stamp: 0,
 };
+
+/// Both are the same. Each `assert_eq!` is proved by itself; this one is proved once.
+fn same<T: Debug + PartialEq>(rt: &impl Abort, left: &T, right: &T) {
+    assert_eq!(rt; left, right);
+}
 
 // So many lines of so many nodes, each opened with this content.
 fn opened(
@@ -118,19 +124,27 @@ fn names(
 fn the_last_of_a_full_table_is_evicted(rt: HostRuntime) -> Result<(), Fail> {
     let zero = NodeId::new(0).ok_or("no node")?;
     let mut node = Node::new(rt.alloc(), zero, 3, 1)?;
-    assert_eq!(rt; node.resident(rt.alloc())?.as_slice(), [].as_slice());
+    same(&rt, &node.resident(rt.alloc())?.as_slice(), &[].as_slice());
     let wholes = opened(rt.alloc(), 1, 3, Line::ZERO)?;
     let load = Request::Load { line: 0 };
     let (turns, answer, wholes) = done(&mut node, wholes, load).ok_or("no end")?;
-    assert_eq!(rt; (turns, answer), (4, ZEROS));
-    assert_eq!(rt; names(&wholes, 0, zero), Some(("FRESH", "ONLY_FRESH")));
+    same(&rt, &(turns, answer), &(4, ZEROS));
+    same(
+        &rt,
+        &names(&wholes, 0, zero),
+        &Some(("FRESH", "ONLY_FRESH")),
+    );
     // Leave, ReturnHomeFresh and Left of line 0, and then the four turns of the load.
     let load = Request::Load { line: 1 };
     let (turns, answer, wholes) = done(&mut node, wholes, load).ok_or("no end")?;
-    assert_eq!(rt; (turns, answer), (7, ZEROS));
-    assert_eq!(rt; names(&wholes, 0, zero), Some(("HOME", "INVALID")));
-    assert_eq!(rt; names(&wholes, 1, zero), Some(("FRESH", "ONLY_FRESH")));
-    assert_eq!(rt; node.resident(rt.alloc())?.as_slice(), [1].as_slice());
+    same(&rt, &(turns, answer), &(7, ZEROS));
+    same(&rt, &names(&wholes, 0, zero), &Some(("HOME", "INVALID")));
+    same(
+        &rt,
+        &names(&wholes, 1, zero),
+        &Some(("FRESH", "ONLY_FRESH")),
+    );
+    same(&rt, &node.resident(rt.alloc())?.as_slice(), &[1].as_slice());
     Ok(())
 }
 
@@ -170,8 +184,8 @@ fn the_table_goes_by_the_last_use(rt: HostRuntime) -> Result<(), Fail> {
     let lines = takes(&rt, rt.alloc(), &mut node, lines, evict(0), (3, &[2]))?;
     let lines = takes(&rt, rt.alloc(), &mut node, lines, load(1), (4, &[1, 2]))?;
     let lines = takes(&rt, rt.alloc(), &mut node, lines, evict(1), (3, &[2]))?;
-    assert_eq!(rt; names(&lines, 2, zero), Some(("FRESH", "ONLY_FRESH")));
-    assert_eq!(rt; names(&lines, 0, zero), Some(("HOME", "INVALID")));
+    same(&rt, &names(&lines, 2, zero), &Some(("FRESH", "ONLY_FRESH")));
+    same(&rt, &names(&lines, 0, zero), &Some(("HOME", "INVALID")));
     Ok(())
 }
 
@@ -184,7 +198,7 @@ fn a_purged_line_stays_named(rt: HostRuntime) -> Result<(), Fail> {
     let wholes = opened(rt.alloc(), 2, 3, Line::ZERO)?;
     let load = Request::Load { line: 0 };
     let (_, answer, wholes) = done(&mut reader, wholes, load).ok_or("no end")?;
-    assert_eq!(rt; answer, ZEROS);
+    same(&rt, &answer, &ZEROS);
     let store = |value| Request::Store {
         line: 0,
         word: 0,
@@ -192,23 +206,35 @@ fn a_purged_line_stays_named(rt: HostRuntime) -> Result<(), Fail> {
     };
     let (_, answer, wholes) = done(&mut writer, wholes, store(5)).ok_or("no end")?;
     let before = [0; 8];
-    assert_eq!(rt; answer, Answer::Wrote { before, stamp: 1 });
-    assert_eq!(rt; names(&wholes, 0, zero), Some(("GONE", "INVALID")));
-    assert_eq!(rt; reader.resident(rt.alloc())?.as_slice(), [0].as_slice());
+    same(&rt, &answer, &Answer::Wrote { before, stamp: 1 });
+    same(&rt, &names(&wholes, 0, zero), &Some(("GONE", "INVALID")));
+    same(
+        &rt,
+        &reader.resident(rt.alloc())?.as_slice(),
+        &[0].as_slice(),
+    );
     // It is read again, and purged again.
     let (_, answer, wholes) = done(&mut reader, wholes, load).ok_or("no end")?;
     let words = [5, 0, 0, 0, 0, 0, 0, 0];
-    assert_eq!(rt; answer, Answer::Seen { words, stamp: 1 });
+    same(&rt, &answer, &Answer::Seen { words, stamp: 1 });
     let (_, answer, wholes) = done(&mut writer, wholes, store(6)).ok_or("no end")?;
     let before = words;
-    assert_eq!(rt; answer, Answer::Wrote { before, stamp: 2 });
-    assert_eq!(rt; reader.resident(rt.alloc())?.as_slice(), [0].as_slice());
+    same(&rt, &answer, &Answer::Wrote { before, stamp: 2 });
+    same(
+        &rt,
+        &reader.resident(rt.alloc())?.as_slice(),
+        &[0].as_slice(),
+    );
     // As a victim it is out at once.
     let load = Request::Load { line: 1 };
     let (turns, answer, wholes) = done(&mut reader, wholes, load).ok_or("no end")?;
-    assert_eq!(rt; (turns, answer), (5, ZEROS));
-    assert_eq!(rt; names(&wholes, 0, zero), Some(("GONE", "INVALID")));
-    assert_eq!(rt; names(&wholes, 0, one), Some(("GONE", "ONLY_DIRTY")));
-    assert_eq!(rt; reader.resident(rt.alloc())?.as_slice(), [1].as_slice());
+    same(&rt, &(turns, answer), &(5, ZEROS));
+    same(&rt, &names(&wholes, 0, zero), &Some(("GONE", "INVALID")));
+    same(&rt, &names(&wholes, 0, one), &Some(("GONE", "ONLY_DIRTY")));
+    same(
+        &rt,
+        &reader.resident(rt.alloc())?.as_slice(),
+        &[1].as_slice(),
+    );
     Ok(())
 }

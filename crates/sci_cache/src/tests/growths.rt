@@ -3,7 +3,7 @@
 //! saying which call answered it.
 ghost use Rattle.std.specs.Prelude.{◌≡◌, IfOk};
 
-use super::{ended, opened};
+use super::{ended, opened, same};
 use crate::{Node, NodeRefusal, Request};
 use sci_core::{AnyWords, Line, OpenRefusal, Whole};
 use sci_words::NodeId;
@@ -18,9 +18,9 @@ fn made(rt: &impl Abort, alloc: Global, zero: NodeId) -> Result<Node, Fail>
     match Node::new(alloc, zero, 3, 2) {
         Ok(node) => Ok(node),
         Err(refusal) => {
-            assert_eq!(rt; refusal, NodeRefusal::OutOfMemory);
+            same(rt, &refusal, &NodeRefusal::OutOfMemory);
             let again = Node::new(alloc, zero, 3, 2)?;
-            assert_eq!(rt; again.resident(alloc)?.len(), 0);
+            same(rt, &again.resident(alloc)?.len(), &0);
             Err(Fail::new("new answered 7"))
         }
     }
@@ -30,7 +30,7 @@ fn lent(rt: &impl Abort, alloc: Global) -> Result<Vec<Whole<AnyWords>>, Fail> {
     match opened(alloc, 1, 3, Line::ZERO) {
         Ok(wholes) => Ok(wholes),
         Err(refusal) => {
-            assert_eq!(rt; refusal, OpenRefusal::OutOfMemory);
+            same(rt, &refusal, &OpenRefusal::OutOfMemory);
             Err(Fail::new("open answered 7"))
         }
     }
@@ -50,21 +50,21 @@ fn begins(
     let Err(refusal) = node.begin(load) else {
         return Ok(());
     };
-    assert_eq!(rt; refusal, NodeRefusal::OutOfMemory);
-    assert_eq!(rt; refusal.number(), 7);
+    same(rt, &refusal, &NodeRefusal::OutOfMemory);
+    same(rt, &refusal.number(), &7);
     assert!(rt; !node.open());
-    assert_eq!(rt; node.resident(alloc)?.as_slice(), named);
-    assert_eq!(rt; node.begin(load), Ok(()));
+    same(rt, &node.resident(alloc)?.as_slice(), &named);
+    same(rt, &node.begin(load), &Ok(()));
     Err(Fail::new("begin answered 7"))
 }
 
 // The residents are these.
 fn lists(rt: &impl Abort, alloc: Global, node: &Node, named: &[u16]) -> Result<(), Fail> {
     if let Ok(lines) = node.resident(alloc) {
-        assert_eq!(rt; lines.as_slice(), named);
+        same(rt, &lines.as_slice(), &named);
         return Ok(());
     }
-    assert_eq!(rt; node.resident(alloc)?.as_slice(), named);
+    same(rt, &node.resident(alloc)?.as_slice(), &named);
     Err(Fail::new("resident answered 7"))
 }
 

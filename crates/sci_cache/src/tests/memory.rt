@@ -2,7 +2,7 @@
 //! allocation of its last line refused, and wants it to fail there, and there alone.
 ghost use Rattle.std.specs.Prelude.{◌≡◌};
 
-use super::{done, opened};
+use super::{done, opened, same};
 use crate::{Node, Request};
 use sci_core::{AnyWords, Line, Whole};
 use sci_words::{LineNo, NodeId};
@@ -67,11 +67,11 @@ fn turns_take_no_memory(rt: HostRuntime) -> Result<(), Fail> {
     let (_, _, wholes) = done(&mut second, wholes, load(1)).ok_or("no end")?;
     // Line 0 is put out: its eviction comes behind the last allocation.
     let (turns, _, wholes) = done(&mut first, wholes, load(1)).ok_or("no end")?;
-    assert_eq!(rt; turns, 8);
+    same(&rt, &turns, &8);
     let wholes = rounds(&mut first, &mut second, wholes).ok_or("no end")?;
     let evict = Request::Evict { line: 1 };
     let (_, _, wholes) = done(&mut first, wholes, evict).ok_or("no end")?;
-    assert_eq!(rt; wholes.len(), 3);
+    same(&rt, &wholes.len(), &3);
     let last = Vec::<u8>::with_capacity(rt.alloc(), 1);
     assert!(rt; last.is_ok(), "allocation 25 is refused");
     Ok(())

@@ -1,5 +1,5 @@
 //! Refusals, and the calls that wait for their end.
-use super::{banked, opened};
+use super::{banked, opened, same};
 use crate::{Node, NodeRefusal, Request};
 use sci_core::Line;
 use sci_ops::Answer;
@@ -33,7 +33,7 @@ fn refusals_have_their_numbers(rt: HostRuntime) {
         (NodeRefusal::CallOpen, 14),
         (NodeRefusal::NoCall, 15),
     ] {
-        assert_eq!(rt; refusal.number(), number);
+        same(&rt, &refusal.number(), &number);
     }
 }
 
@@ -50,12 +50,12 @@ fn requests_and_turns_are_refused(rt: HostRuntime) -> Result<(), Fail> {
     let zero = NodeId::new(0).ok_or("no node")?;
     let mut node = Node::new(rt.alloc(), zero, 1, 1)?;
     let wholes = opened(rt.alloc(), 1, 1, Line::ZERO)?;
-    assert_eq!(rt; wholes.len(), 1);
+    same(&rt, &wholes.len(), &1);
     if wholes.len() != 1 {
         return Ok(());
     }
     let mut bank = banked(wholes, zero).ok_or("no bank")?;
-    assert_eq!(rt; node.turn(&mut bank), Err(NodeRefusal::NoCall));
+    same(&rt, &node.turn(&mut bank), &Err(NodeRefusal::NoCall));
     for (request, refusal) in [
         (Request::Load { line: 1 }, NodeRefusal::BadLine),
         (Request::Evict { line: 1 }, NodeRefusal::BadLine),
@@ -73,14 +73,14 @@ fn requests_and_turns_are_refused(rt: HostRuntime) -> Result<(), Fail> {
         assert_eq!(rt; node.begin(request), Err(refusal), "of {request:?}");
         assert!(rt; !node.open());
     }
-    assert_eq!(rt; node.resident(rt.alloc())?.as_slice(), [].as_slice());
+    same(&rt, &node.resident(rt.alloc())?.as_slice(), &[].as_slice());
     let load = Request::Load { line: 0 };
-    assert_eq!(rt; node.begin(load), Ok(()));
+    same(&rt, &node.begin(load), &Ok(()));
     for request in [load, store(1, 8)] {
-        assert_eq!(rt; node.begin(request), Err(NodeRefusal::CallOpen));
+        same(&rt, &node.begin(request), &Err(NodeRefusal::CallOpen));
         assert!(rt; node.open());
     }
-    assert_eq!(rt; node.resident(rt.alloc())?.as_slice(), [0].as_slice());
+    same(&rt, &node.resident(rt.alloc())?.as_slice(), &[0].as_slice());
     Ok(())
 }
 
@@ -90,7 +90,7 @@ fn five_calls_wait_for_their_end(rt: HostRuntime) -> Result<(), Fail> {
     let zero = NodeId::new(0).ok_or("no node")?;
     let mut node = Node::new(rt.alloc(), zero, 1, 1)?;
     let wholes = opened(rt.alloc(), 1, 1, Line::ZERO)?;
-    assert_eq!(rt; wholes.len(), 1);
+    same(&rt, &wholes.len(), &1);
     if wholes.len() != 1 {
         return Ok(());
     }
@@ -99,15 +99,19 @@ fn five_calls_wait_for_their_end(rt: HostRuntime) -> Result<(), Fail> {
         let before = [first, 0, 0, 0, 0, 0, 0, 0];
         Ok(Answer::Wrote { before, stamp })
     };
-    assert_eq!(rt; node.store(&rt, &mut bank, 0, 0, 7), wrote(0, 1));
+    same(&rt, &node.store(&rt, &mut bank, 0, 0, 7), &wrote(0, 1));
     let words = [7, 0, 0, 0, 0, 0, 0, 0];
     let seen = Ok(Answer::Seen { words, stamp: 1 });
-    assert_eq!(rt; node.load(&rt, &mut bank, 0), seen);
-    assert_eq!(rt; node.add(&rt, &mut bank, 0, 0, 1), wrote(7, 2));
-    assert_eq!(rt; node.write_line(&rt, &mut bank, 0, [0; 8]), wrote(8, 3));
-    assert_eq!(rt; node.resident(rt.alloc())?.as_slice(), [0].as_slice());
-    assert_eq!(rt; node.evict(&rt, &mut bank, 0), Ok(Answer::Out));
-    assert_eq!(rt; node.resident(rt.alloc())?.as_slice(), [].as_slice());
+    same(&rt, &node.load(&rt, &mut bank, 0), &seen);
+    same(&rt, &node.add(&rt, &mut bank, 0, 0, 1), &wrote(7, 2));
+    same(
+        &rt,
+        &node.write_line(&rt, &mut bank, 0, [0; 8]),
+        &wrote(8, 3),
+    );
+    same(&rt, &node.resident(rt.alloc())?.as_slice(), &[0].as_slice());
+    same(&rt, &node.evict(&rt, &mut bank, 0), &Ok(Answer::Out));
+    same(&rt, &node.resident(rt.alloc())?.as_slice(), &[].as_slice());
     assert!(rt; !node.open());
     Ok(())
 }
@@ -122,24 +126,32 @@ fn calls_that_wait_are_refused(rt: HostRuntime) -> Result<(), Fail> {
         stamp: u64::MAX - 1,
     };
     let wholes = opened(rt.alloc(), 1, 1, line)?;
-    assert_eq!(rt; wholes.len(), 1);
+    same(&rt, &wholes.len(), &1);
     if wholes.len() != 1 {
         return Ok(());
     }
     let mut bank = banked(wholes, zero).ok_or("no bank")?;
-    assert_eq!(rt; node.load(&rt, &mut bank, 1), Err(NodeRefusal::BadLine));
+    same(
+        &rt,
+        &node.load(&rt, &mut bank, 1),
+        &Err(NodeRefusal::BadLine),
+    );
     let refused = node.store(&rt, &mut bank, 0, 8, 0);
-    assert_eq!(rt; refused, Err(NodeRefusal::BadWord));
+    same(&rt, &refused, &Err(NodeRefusal::BadWord));
     let before = [0; 8];
     let stamp = u64::MAX;
     let wrote = node.store(&rt, &mut bank, 0, 0, 5);
-    assert_eq!(rt; wrote, Ok(Answer::Wrote { before, stamp }));
+    same(&rt, &wrote, &Ok(Answer::Wrote { before, stamp }));
     let refused = node.store(&rt, &mut bank, 0, 0, 6);
-    assert_eq!(rt; refused, Err(NodeRefusal::StampsSpent));
+    same(&rt, &refused, &Err(NodeRefusal::StampsSpent));
     let words = [5, 0, 0, 0, 0, 0, 0, 0];
     let seen = node.load(&rt, &mut bank, 0);
-    assert_eq!(rt; seen, Ok(Answer::Seen { words, stamp }));
-    assert_eq!(rt; node.begin(Request::Evict { line: 0 }), Ok(()));
-    assert_eq!(rt; node.evict(&rt, &mut bank, 0), Err(NodeRefusal::CallOpen));
+    same(&rt, &seen, &Ok(Answer::Seen { words, stamp }));
+    same(&rt, &node.begin(Request::Evict { line: 0 }), &Ok(()));
+    same(
+        &rt,
+        &node.evict(&rt, &mut bank, 0),
+        &Err(NodeRefusal::CallOpen),
+    );
     Ok(())
 }
