@@ -1,6 +1,6 @@
 //! Pending steps in words.
 
-ghost use Rattle.std.specs.Prelude.{◌≡◌, ◌++◌, OnOk, string_bytes};
+ghost use Rattle.std.specs.Prelude.{◌≡◌, ◌++◌, OnOk, string_bytes, codes, if◌then◌else◌};
 ghost use Rattle.sci_trace.specs.Words.{link_word};
 ghost use Rattle.sci_trace.specs.Steps.{step_text};
 
@@ -25,6 +25,23 @@ fn push_kept(
     text.push_str(mark)
 }
 
+/// The same of a step that keeps in mind whether its bytes are dirty.
+#[inline(always)]
+fn push_dirty(
+    text: &mut String,
+    name: &str,
+    kept: Option<NodeId>,
+    dirty: bool,
+) -> Result<(), AllocError>
+    ensures { OnOk result (string_bytes text.new ≡ string_bytes text.old ++ name.now ++ link_word kept ++ (if dirty then codes ") dirty; " else codes "); ")) }
+{
+    if dirty {
+        push_kept(text, name, kept, ") dirty; ")
+    } else {
+        push_kept(text, name, kept, "); ")
+    }
+}
+
 /// A pending step, with the node that it keeps and its mark.
 pub(crate) fn push_step(text: &mut String, step: &Stage) -> Result<(), AllocError>
     ensures { OnOk result (string_bytes text.new ≡ string_bytes text.old ++ step_text step.now) }
@@ -33,40 +50,25 @@ pub(crate) fn push_step(text: &mut String, step: &Stage) -> Result<(), AllocErro
         Stage::Idle => text.push_str("Idle; "),
         Stage::Holding { .. } => text.push_str("Holding; "),
         Stage::Queueing { forw } => push_kept(text, "Queueing(", forw, "); "),
-        Stage::Fetching { forw, dirty: true } => push_kept(text, "Fetching(", forw, ") dirty; "),
-        Stage::Fetching { forw, .. } => push_kept(text, "Fetching(", forw, "); "),
-        Stage::InQueue {
-            forw,
-            dirty: true,
-            ..
-        } => push_kept(text, "InQueue(", forw, ") dirty; "),
-        Stage::InQueue { forw, .. } => push_kept(text, "InQueue(", forw, "); "),
+        Stage::Fetching { forw, dirty } => push_dirty(text, "Fetching(", forw, dirty),
+        Stage::InQueue { forw, dirty, .. } => push_dirty(text, "InQueue(", forw, dirty),
         Stage::Copying { forw, .. } => push_kept(text, "Copying(", Some(forw), "); "),
-        Stage::Ready { forw, dirty: true } => push_kept(text, "Ready(", forw, ") dirty; "),
-        Stage::Ready { forw, .. } => push_kept(text, "Ready(", forw, "); "),
-        Stage::Converting { forw, turned: true } => push_kept(
-            text,
-            "Converting(",
+        Stage::Ready { forw, dirty } => push_dirty(text, "Ready(", forw, dirty),
+        Stage::Converting {
             forw,
-            ") turned; ",
-        ),
-        Stage::Converting { forw, .. } => push_kept(text, "Converting(", forw, "); "),
+            turned: false,
+        } => push_kept(text, "Converting(", forw, "); "),
+        Stage::Converting { forw, .. } => push_kept(text, "Converting(", forw, ") turned; "),
         Stage::Purging { .. } => text.push_str("Purging; "),
         Stage::Advancing { victim, .. } => push_kept(text, "Advancing(", Some(victim), "); "),
         Stage::Clearing { victim, .. } => push_kept(text, "Clearing(", Some(victim), "); "),
-        Stage::Leaving { dirty: true, .. } => text.push_str("Leaving dirty; "),
-        Stage::Leaving { .. } => text.push_str("Leaving; "),
-        Stage::Promoted { dirty: true, succ } => push_kept(
-            text,
-            "Promoted(",
-            Some(succ),
-            ") dirty; ",
-        ),
-        Stage::Promoted { succ, .. } => push_kept(text, "Promoted(", Some(succ), "); "),
+        Stage::Leaving { dirty: false, .. } => text.push_str("Leaving; "),
+        Stage::Leaving { .. } => text.push_str("Leaving dirty; "),
+        Stage::Promoted { dirty, succ } => push_dirty(text, "Promoted(", Some(succ), dirty),
         Stage::WritingBack => text.push_str("WritingBack; "),
         Stage::Parted { forw } => push_kept(text, "Parted(", forw, "); "),
-        Stage::Rolling { told: true, .. } => text.push_str("Rolling told; "),
-        Stage::Rolling { .. } => text.push_str("Rolling; "),
+        Stage::Rolling { told: false, .. } => text.push_str("Rolling; "),
+        Stage::Rolling { .. } => text.push_str("Rolling told; "),
         Stage::Unlinked { forw, .. } => push_kept(text, "Unlinked(", forw, "); "),
     }
 }
