@@ -1,5 +1,5 @@
 -- Pending steps in words, which show nothing of the lines that they keep. This project's profile.
-use Rattle.std.specs.Prelude.{List, [], ◌++◌, codes, true, false, ℕ}
+use Rattle.std.specs.Prelude.{List, [], ◌++◌, codes, true, false, ℕ, if◌then◌else◌}
 use Rattle.std.specs.Fmt.{decimal}
 use Rattle.sci_core.specs.declared.stages.Stage.{Stage}
 use Rattle.sci_trace.specs.Words.{link_word}
@@ -45,11 +45,11 @@ mark_of Stage.Idle = codes "; "
 mark_of (Stage.Holding word) = codes "; "
 mark_of (Stage.Purging seen) = codes "; "
 mark_of Stage.WritingBack = codes "; "
-mark_of (Stage.Fetching forw true) = codes ") dirty; "
-mark_of (Stage.InQueue forw true copy) = codes ") dirty; "
-mark_of (Stage.Ready forw true) = codes ") dirty; "
-mark_of (Stage.Promoted true succ) = codes ") dirty; "
-mark_of (Stage.Converting forw true) = codes ") turned; "
+mark_of (Stage.Fetching forw dirty) = if dirty then codes ") dirty; " else codes "); "
+mark_of (Stage.InQueue forw dirty copy) = if dirty then codes ") dirty; " else codes "); "
+mark_of (Stage.Ready forw dirty) = if dirty then codes ") dirty; " else codes "); "
+mark_of (Stage.Promoted dirty succ) = if dirty then codes ") dirty; " else codes "); "
+mark_of (Stage.Converting forw turned) = if turned then codes ") turned; " else codes "); "
 mark_of (Stage.Leaving true seen) = codes " dirty; "
 mark_of (Stage.Leaving false seen) = codes "; "
 mark_of (Stage.Rolling true seen) = codes " told; "

@@ -60,7 +60,7 @@ fn push_closed(text: &mut String, ending: Ending) -> Result<(), AllocError>
 /// An event without an argument. As a text that is known where it is pushed, its name takes no call; so do those below.
 #[inline(always)]
 fn push_bare(text: &mut String, name: &str, ending: Ending) -> Result<(), AllocError>
-    ensures { OnOk result (string_bytes text.new ≡ string_bytes text.old ++ name.now ++ ending_text ending) }
+    ensures { OnOk result (string_bytes text.new ≡ string_bytes text.old ++ (name.now ++ ending_text ending)) }
 {
     text.push_str(name)?;
     push_ending(text, ending)
@@ -74,7 +74,7 @@ fn push_linked(
     forw: Option<NodeId>,
     ending: Ending,
 ) -> Result<(), AllocError>
-    ensures { OnOk result (string_bytes text.new ≡ string_bytes text.old ++ name.now ++ link_word forw ++ closed_ending ending) }
+    ensures { OnOk result (string_bytes text.new ≡ string_bytes text.old ++ (name.now ++ (link_word forw ++ closed_ending ending))) }
 {
     text.push_str(name)?;
     push_link(text, forw)?;
@@ -90,7 +90,7 @@ fn push_tagged(
     found: Tag,
     ending: Ending,
 ) -> Result<(), AllocError>
-    ensures { OnOk result (string_bytes text.new ≡ string_bytes text.old ++ name.now ++ found_text load.now found ++ closed_ending ending) }
+    ensures { OnOk result (string_bytes text.new ≡ string_bytes text.old ++ (name.now ++ (found_text load.now found ++ closed_ending ending))) }
 {
     text.push_str(name)?;
     push_found(text, load, found)?;
@@ -104,7 +104,7 @@ fn push_writing(
     words: &Option<[u64; 8]>,
     ending: Ending,
 ) -> Result<(), AllocError>
-    ensures { OnOk result (string_bytes text.new ≡ string_bytes text.old ++ name.now ++ written_text words.now ++ closed_ending ending) }
+    ensures { OnOk result (string_bytes text.new ≡ string_bytes text.old ++ (name.now ++ (written_text words.now ++ closed_ending ending))) }
 {
     text.push_str(name)?;
     push_written(text, words)?;

@@ -18,25 +18,26 @@ fn push_kept(
     kept: Option<NodeId>,
     mark: &str,
 ) -> Result<(), AllocError>
-    ensures { OnOk result (string_bytes text.new ≡ string_bytes text.old ++ name.now ++ link_word kept ++ mark.now) }
+    ensures { OnOk result (string_bytes text.new ≡ string_bytes text.old ++ (name.now ++ link_word kept ++ mark.now)) }
 {
     text.push_str(name)?;
     push_link(text, kept)?;
     text.push_str(mark)
 }
 
-/// The same of a step that keeps in mind whether its bytes are dirty.
+/// The same of a step that keeps something else in mind: it has this mark where that is so.
 #[inline(always)]
-fn push_dirty(
+fn push_marked(
     text: &mut String,
     name: &str,
     kept: Option<NodeId>,
-    dirty: bool,
+    is_marked: bool,
+    mark: &str,
 ) -> Result<(), AllocError>
-    ensures { OnOk result (string_bytes text.new ≡ string_bytes text.old ++ name.now ++ link_word kept ++ (if dirty then codes ") dirty; " else codes "); ")) }
+    ensures { OnOk result (string_bytes text.new ≡ string_bytes text.old ++ (name.now ++ link_word kept ++ (if is_marked then mark.now else codes "); "))) }
 {
-    if dirty {
-        push_kept(text, name, kept, ") dirty; ")
+    if is_marked {
+        push_kept(text, name, kept, mark)
     } else {
         push_kept(text, name, kept, "); ")
     }
@@ -50,21 +51,35 @@ pub(crate) fn push_step(text: &mut String, step: &Stage) -> Result<(), AllocErro
         Stage::Idle => text.push_str("Idle; "),
         Stage::Holding { .. } => text.push_str("Holding; "),
         Stage::Queueing { forw } => push_kept(text, "Queueing(", forw, "); "),
-        Stage::Fetching { forw, dirty } => push_dirty(text, "Fetching(", forw, dirty),
-        Stage::InQueue { forw, dirty, .. } => push_dirty(text, "InQueue(", forw, dirty),
-        Stage::Copying { forw, .. } => push_kept(text, "Copying(", Some(forw), "); "),
-        Stage::Ready { forw, dirty } => push_dirty(text, "Ready(", forw, dirty),
-        Stage::Converting {
+        Stage::Fetching { forw, dirty } => push_marked(text, "Fetching(", forw, dirty, ") dirty; "),
+        Stage::InQueue { forw, dirty, .. } => push_marked(
+            text,
+            "InQueue(",
             forw,
-            turned: false,
-        } => push_kept(text, "Converting(", forw, "); "),
-        Stage::Converting { forw, .. } => push_kept(text, "Converting(", forw, ") turned; "),
+            dirty,
+            ") dirty; ",
+        ),
+        Stage::Copying { forw, .. } => push_kept(text, "Copying(", Some(forw), "); "),
+        Stage::Ready { forw, dirty } => push_marked(text, "Ready(", forw, dirty, ") dirty; "),
+        Stage::Converting { forw, turned } => push_marked(
+            text,
+            "Converting(",
+            forw,
+            turned,
+            ") turned; ",
+        ),
         Stage::Purging { .. } => text.push_str("Purging; "),
         Stage::Advancing { victim, .. } => push_kept(text, "Advancing(", Some(victim), "); "),
         Stage::Clearing { victim, .. } => push_kept(text, "Clearing(", Some(victim), "); "),
         Stage::Leaving { dirty: false, .. } => text.push_str("Leaving; "),
         Stage::Leaving { .. } => text.push_str("Leaving dirty; "),
-        Stage::Promoted { dirty, succ } => push_dirty(text, "Promoted(", Some(succ), dirty),
+        Stage::Promoted { dirty, succ } => push_marked(
+            text,
+            "Promoted(",
+            Some(succ),
+            dirty,
+            ") dirty; ",
+        ),
         Stage::WritingBack => text.push_str("WritingBack; "),
         Stage::Parted { forw } => push_kept(text, "Parted(", forw, "); "),
         Stage::Rolling { told: false, .. } => text.push_str("Rolling; "),

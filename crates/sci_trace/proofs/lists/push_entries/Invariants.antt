@@ -8,8 +8,8 @@ use Rattle.sci_trace.proofs.lists.push_entries.Given as goal
 abbrev pub invariant-loop : goal.invariant-loop
 invariant-loop l =
     record {
-      text : string_bytes l.text ++ flat_map (λ e. codes ", " ++ entry_text e) (walked ((shared_of l.fn.desk).lines l.line).tags (l.nodes - l.loop-index) l.next)
-          ≡ string_bytes l.fn.text ++ entries_text (walked ((shared_of l.fn.desk).lines l.line).tags l.nodes (Some l.head));
+      text : string_bytes l.text ++ flat_map (λ e. codes ", " ++ entry_text e) (walked ((shared_of l.fn.desk).lines l.line).tags (l.nodes - l.counter) l.next)
+          ≡ string_bytes l.fn.text ++ entries_text (walked ((shared_of l.fn.desk).lines l.line).tags l.nodes (Some l.fn.head));
       same : shared_of l.desk ≡ shared_of l.fn.desk;
       size : l.desk.size ≡ l.fn.desk.size;
       link : IfSome l.next (λ n. n < l.fn.desk.size.nodes);
