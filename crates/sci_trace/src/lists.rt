@@ -11,6 +11,7 @@ use sci_words::{LineNo, Mem, MemState, NodeId, Tag};
 use std::alloc::AllocError;
 
 /// An entry as it stands, `N NAME`, and ` held`. Answers the one behind it.
+#[inline(always)]
 fn push_entry(
     text: &mut String,
     desk: &mut WholeDesk,

@@ -21,16 +21,21 @@ fn push_digit(text: &mut String, digit: u64) -> Result<(), AllocError>
     text.push(char::from(b'0' + digit as u8))
 }
 
-/// A number of two digits or more.
+/// A number of two digits.
 #[tactic(auto, using(std::proofs::lemmas::Fmt::decimal_digit))]
-fn push_digits(text: &mut String, number: u64) -> Result<(), AllocError>
-    requires { 10 ≤ number }
+#[inline(always)]
+fn push_two_digits(text: &mut String, number: u64) -> Result<(), AllocError>
+    requires { (10 ≤ number) × (number < 100) }
     ensures { OnOk result (string_bytes text.new ≡ string_bytes text.old ++ decimal number) }
 {
-    if number < 100 {
-        push_digit(text, number / 10)?;
-        return push_digit(text, number % 10);
-    }
+    push_digit(text, number / 10)?;
+    push_digit(text, number % 10)
+}
+
+/// A number of any size.
+fn push_digits(text: &mut String, number: u64) -> Result<(), AllocError>
+    ensures { OnOk result (string_bytes text.new ≡ string_bytes text.old ++ decimal number) }
+{
     text.push_str(Buffer::new().format(number))
 }
 
@@ -41,6 +46,9 @@ pub(crate) fn push_number(text: &mut String, number: u64) -> Result<(), AllocErr
 {
     if number < 10 {
         return push_digit(text, number);
+    }
+    if number < 100 {
+        return push_two_digits(text, number);
     }
     push_digits(text, number)
 }
@@ -76,6 +84,7 @@ pub(crate) fn push_found(text: &mut String, load: &Option<Load>, tag: Tag) -> Re
 }
 
 /// A tag's name behind a blank. Each is a text that is known where it is pushed, and so takes no call.
+#[inline(always)]
 pub(crate) fn push_name(text: &mut String, tag: Tag) -> Result<(), AllocError>
     ensures { OnOk result (string_bytes text.new ≡ string_bytes text.old ++ codes " " ++ name_of tag) }
 {
