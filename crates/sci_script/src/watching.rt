@@ -1,5 +1,6 @@
 //! A turn over a bank that keeps what passes on its way.
 ghost use Rattle.std.specs.Prelude.{◌≡◌, ◌<◌, ℕ, true, Some, length, is_some, IfSome};
+ghost use Rattle.sci_core.specs.Stage.{stage_of};
 ghost use Rattle.sci_core.specs.Whole.{nodes_of};
 ghost use Rattle.sci_cache.specs.Nodes.{IsSameNode, line_by};
 ghost use Rattle.sci_script.specs.Nodes.{TurnsOverOf, whole_of};
@@ -210,5 +211,17 @@ impl WholeDesk {
     {
         self.bank.seat(node);
         Bank::pending(&self.bank, line)
+    }
+
+    /// The same, but for the bytes that it keeps.
+    pub fn stage(&mut self, line: LineNo, node: NodeId) -> Stage
+        requires line { line < self.old.size.lines }
+        requires node { node < self.old.size.nodes }
+        ensures value { result ≡ stage_of (((shared_of self.old).lines line).steps node) }
+        ensures same { shared_of self.new ≡ shared_of self.old }
+        ensures size { self.new.size ≡ self.old.size }
+    {
+        self.bank.seat(node);
+        Bank::stage(&self.bank, line)
     }
 }

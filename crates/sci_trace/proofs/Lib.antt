@@ -5,3 +5,4 @@ pub mod Pages
 pub mod Tellings
 pub mod Same
 pub mod Digits
+pub mod Walking

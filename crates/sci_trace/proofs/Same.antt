@@ -5,7 +5,7 @@ use Rattle.sci_script.specs.declared.wholes.WholeDesk.{WholeDesk}
 use Rattle.sci_trace.specs.declared.desk.TraceDesk.{TraceDesk}
 
 abbrev with_desk : (w : TraceDesk) (d : WholeDesk) → d.size ≡ w.size → w.size.nodes ≤ 64 → TraceDesk
-with_desk w d same few = record { size = w.size; desk = d; asked = w.asked; notes = w.notes; entries = w.entries; same = same; few = few }
+with_desk w d same few = record { size = w.size; desk = d; asked = w.asked; notes = w.notes; same = same; few = few }
 
 pub same_desk : (w : TraceDesk) (d : WholeDesk) → d ≡ w.desk → (same : d.size ≡ w.size) (few : w.size.nodes ≤ 64) → with_desk w d same few ≡ w
 same_desk w d e =

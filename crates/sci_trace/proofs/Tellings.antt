@@ -3,7 +3,8 @@ use Rattle.std.proofs.Common.{◌≡◌, ◌∙◌, ◌<◌, ◌+◌, ◌⊎◌,
 use Rattle.std.proofs.lemmas.List.{append-nil, take_more}
 use Rattle.sci_words.specs.declared.memory.Mem.{Mem}
 use Rattle.sci_words.specs.declared.tags.Tag.{Tag}
-use Rattle.sci_core.specs.declared.pending.Pending.{Pending}
+use Rattle.sci_core.specs.declared.stages.Stage.{Stage}
+use Rattle.sci_core.specs.Stage.{stage_of}
 use Rattle.sci_ops.specs.declared.answers.Turn.{Turn}
 use Rattle.sci_cache.specs.declared.requests.Request.{Request}
 use Rattle.sci_script.specs.declared.commands.Step.{Step}
@@ -28,18 +29,18 @@ told_does s (SawTag line node tag) t h = h.0
 told_does s (SawResidents node lines) t h = h.0
 
 -- a line that was added tells of this
-pub told_line : (node : ℕ) (asked : Option Request) (passed : Passed) (pending : Pending) (turn : Turn) (mem : Mem) (entries : List (ℕ × Tag)) (before after : List ℕ) (cut still : Bool) (step : Pending) (word : Mem)
-    → pending ≡ step → mem ≡ word
-    → (still ≡ true) ⊎ ((still ≡ cut) × (after ≡ before ++ note_line node asked passed pending turn mem entries))
-    → (still ≡ true) ⊎ ((still ≡ cut) × (told : Told) × (told.node ≡ node) × (told.turn ≡ turn) × (told.passed ≡ passed) × (told.pending ≡ step) × (told.mem ≡ word) × (after ≡ before ++ line_of_turn told))
-told_line node asked passed pending turn mem entries before after cut still step word stands is (inl h) = inl h
-told_line node asked passed pending turn mem entries before after cut still step word stands is (inr (kept, added)) =
-    let told : Told = record { node = node; asked = asked; passed = passed; pending = pending; turn = turn; mem = mem; entries = entries } in
+pub told_line : (node : ℕ) (asked : Option Request) (passed : Passed) (stage : Stage) (turn : Turn) (mem : Mem) (entries : List (ℕ × Tag)) (before after : List ℕ) (cut still : Bool) (step : Stage) (word : Mem)
+    → stage ≡ step → mem ≡ word
+    → (still ≡ true) ⊎ ((still ≡ cut) × (after ≡ before ++ note_line node asked passed stage turn mem entries))
+    → (still ≡ true) ⊎ ((still ≡ cut) × (told : Told) × (told.node ≡ node) × (told.turn ≡ turn) × (told.passed ≡ passed) × (told.stage ≡ step) × (told.mem ≡ word) × (after ≡ before ++ line_of_turn told))
+told_line node asked passed stage turn mem entries before after cut still step word stands is (inl h) = inl h
+told_line node asked passed stage turn mem entries before after cut still step word stands is (inr (kept, added)) =
+    let told : Told = record { node = node; asked = asked; passed = passed; stage = stage; turn = turn; mem = mem; entries = entries } in
     inr (kept, told, refl, refl, refl, stands, is, added)
 
 -- a turn's line is added: the desk stands as the turn left it, and the line tells what passed
 pub adds_line : (s mid t : Shared) (node : ℕ) (turn : Turn) (q : Passed) (before after : List ℕ) (cut still : Bool) → t ≡ mid → shared_passes s node mid nothing q
-    → (still ≡ true) ⊎ ((still ≡ cut) × (told : Told) × (told.node ≡ node) × (told.turn ≡ turn) × (told.passed ≡ q) × (told.pending ≡ (mid.lines q.line).steps node) × (told.mem ≡ (mid.lines q.line).memory) × (after ≡ before ++ line_of_turn told))
+    → (still ≡ true) ⊎ ((still ≡ cut) × (told : Told) × (told.node ≡ node) × (told.turn ≡ turn) × (told.passed ≡ q) × (told.stage ≡ stage_of ((mid.lines q.line).steps node)) × (told.mem ≡ (mid.lines q.line).memory) × (after ≡ before ++ line_of_turn told))
     → AddsLine (record { shared = s; notes = before; is_cut = cut }) node turn (record { shared = t; notes = after; is_cut = still })
 adds_line s mid t node turn q before after cut still same passes (inl h) = inl h
 adds_line s mid t node turn q before after cut still same passes (inr (kept, told, of, is, passed, step, mem, added)) =
@@ -51,7 +52,7 @@ adds_line s mid t node turn q before after cut still same passes (inr (kept, tol
         of,
         is,
         subst (λ (p : Passed). shared_passes s node mid nothing p) (sym passed) passes,
-        subst (λ (p : Passed). told.pending ≡ (mid.lines p.line).steps node) (sym passed) step,
+        subst (λ (p : Passed). told.stage ≡ stage_of ((mid.lines p.line).steps node)) (sym passed) step,
         subst (λ (p : Passed). told.mem ≡ (mid.lines p.line).memory) (sym passed) mem,
       ),
       added,

@@ -1,5 +1,5 @@
 -- A sharing list with what listings don't show: what is lent and what is held. This project's profile.
-use Rattle.std.specs.Prelude.{ℕ, Bool, true, false, List, [], ◌∷◌, ◌++◌, Option, Some, None, codes}
+use Rattle.std.specs.Prelude.{ℕ, zero, suc, Bool, true, false, List, [], ◌∷◌, ◌++◌, Option, Some, None, codes}
 use Rattle.std.specs.Fmt.{decimal}
 use Rattle.std.specs.List.{flat_map}
 use Rattle.sci_words.specs.declared.memory.Mem.{Mem}
@@ -7,6 +7,12 @@ use Rattle.sci_words.specs.declared.tags.Tag.{Tag}
 use Rattle.sci_words.specs.Mem.{mem_name_of}
 use Rattle.sci_words.specs.Tag.{name_of}
 use Rattle.sci_script.specs.Text.{held_text}
+
+-- the entries along the links from one on, at most so many
+abbrev pub walked : (ℕ → Tag) → ℕ → Option ℕ → List (ℕ × Tag)
+walked tags zero next = []
+walked tags (suc n) None = []
+walked tags (suc n) (Some node) = (node, tags node) ∷ walked tags n (tags node).forw
 
 -- `N NAME`, and ` held`
 abbrev pub entry_text : ℕ × Tag → List ℕ

@@ -1,5 +1,6 @@
 -- A run that tells of its turns, one after the other. This project's profile.
 use Rattle.std.specs.Prelude.{◌≡◌, ◌⊎◌, ℕ, Bool, true, false, List, [], ◌∷◌, ◌++◌, None, string_bytes}
+use Rattle.sci_core.specs.Stage.{stage_of}
 use Rattle.sci_ops.specs.declared.answers.Turn.{Turn}
 use Rattle.sci_script.specs.declared.commands.Step.{Step}
 use Rattle.sci_script.specs.declared.watching.Passed.{Passed}
@@ -31,7 +32,7 @@ nothing = record { line = 0; load = None; step = None }
 -- this is told of the turn that the node took from s to t: whose it was, what it came to, what passed in it, and the node's pending
 -- step and memory's word after it
 abbrev pub IsTold : Shared → ℕ → Turn → Shared → Told → Type 0
-IsTold s node turn t told = (told.node ≡ node) × (told.turn ≡ turn) × shared_passes s node t nothing told.passed × (told.pending ≡ (t.lines told.passed.line).steps node)
+IsTold s node turn t told = (told.node ≡ node) × (told.turn ≡ turn) × shared_passes s node t nothing told.passed × (told.stage ≡ stage_of ((t.lines told.passed.line).steps node))
     × (told.mem ≡ (t.lines told.passed.line).memory)
 
 -- the turn's line is added, unless memory is refused for it

@@ -3,7 +3,7 @@ use Rattle.std.specs.Prelude.{ℕ, List, ◌++◌, Option, Some, None, codes, �
 use Rattle.std.specs.Fmt.{decimal}
 use Rattle.sci_words.specs.declared.memory.Mem.{Mem}
 use Rattle.sci_words.specs.declared.tags.Tag.{Tag}
-use Rattle.sci_core.specs.declared.pending.Pending.{Pending}
+use Rattle.sci_core.specs.declared.stages.Stage.{Stage}
 use Rattle.sci_ops.specs.declared.answers.Turn.{Turn}
 use Rattle.sci_cache.specs.declared.requests.Request.{Request}
 use Rattle.sci_cache.specs.Requests.{line_of}
@@ -27,26 +27,26 @@ operation_name None line = codes " evict: "
 operation_name (Some request) line = if line_of request == line then request_name request else codes " evict: "
 
 -- a wait behind a load of the memory word: in Queueing for the lent line, elsewhere for the place of the head
-abbrev pub mem_wait : Pending → Mem → List ℕ
-mem_wait (Pending.Queueing forw) mem = codes "memory is lent"
+abbrev pub mem_wait : Stage → Mem → List ℕ
+mem_wait (Stage.Queueing forw) mem = codes "memory is lent"
 mem_wait _ mem = codes "memory names " ++ link_word mem.forw
 
 -- what a turn that waited has seen last
-abbrev pub wait_text : ℕ → Option Load → Pending → List ℕ
-wait_text node (Some (Load.Own (Some tag))) pending = tag_text node tag
-wait_text node (Some (Load.Mem (Some mem))) pending = mem_wait pending mem
-wait_text node (Some (Load.Tag other (Some tag))) pending = tag_text other tag
-wait_text node _ pending = codes "the line is busy"
+abbrev pub wait_text : ℕ → Option Load → Stage → List ℕ
+wait_text node (Some (Load.Own (Some tag))) stage = tag_text node tag
+wait_text node (Some (Load.Mem (Some mem))) stage = mem_wait stage mem
+wait_text node (Some (Load.Tag other (Some tag))) stage = tag_text other tag
+wait_text node _ stage = codes "the line is busy"
 
 -- a turn without an exchange: it waited, or it only looked
-abbrev pub look_text : ℕ → Option Load → Pending → Turn → List ℕ
-look_text node load pending Turn.Waiting = codes "waits: " ++ wait_text node load pending ++ codes "; "
-look_text node load pending _ = codes "only looked; "
+abbrev pub look_text : ℕ → Option Load → Stage → Turn → List ℕ
+look_text node load stage Turn.Waiting = codes "waits: " ++ wait_text node load stage ++ codes "; "
+look_text node load stage _ = codes "only looked; "
 
 -- what a turn did: its event and how the exchange ended, or its wait, or that it only looked
-abbrev pub act_text : ℕ → Passed → Pending → Turn → List ℕ
-act_text node passed pending turn = elim passed.step [
-  | None ↦ look_text node passed.load pending turn
+abbrev pub act_text : ℕ → Passed → Stage → Turn → List ℕ
+act_text node passed stage turn = elim passed.step [
+  | None ↦ look_text node passed.load stage turn
   | Some step ↦ event_text passed.load step.0 step.1
 ]
 
@@ -55,6 +55,6 @@ abbrev pub place_text : ℕ → Option Request → ℕ → List ℕ
 place_text node asked line = codes "# node " ++ decimal node ++ codes " line " ++ decimal line ++ operation_name asked line
 
 -- `# node N line L OPERATION: WHAT; STEP; LIST`
-abbrev pub note_line : ℕ → Option Request → Passed → Pending → Turn → Mem → List (ℕ × Tag) → List ℕ
-note_line node asked passed pending turn mem entries =
-    place_text node asked passed.line ++ act_text node passed pending turn ++ step_text pending ++ list_text mem entries ++ codes "\n"
+abbrev pub note_line : ℕ → Option Request → Passed → Stage → Turn → Mem → List (ℕ × Tag) → List ℕ
+note_line node asked passed stage turn mem entries =
+    place_text node asked passed.line ++ act_text node passed stage turn ++ step_text stage ++ list_text mem entries ++ codes "\n"

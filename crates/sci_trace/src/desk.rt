@@ -1,6 +1,7 @@
 //! A desk that says of each turn what it did.
 
 ghost use Rattle.std.specs.Prelude.{◌≡◌, ◌<◌, ◌≤◌, ◌⊎◌, ◌++◌, true, string_bytes, IfOk, IfSome};
+ghost use Rattle.sci_core.specs.Stage.{stage_of};
 ghost use Rattle.sci_script.specs.Wholes.{shared_of};
 ghost use Rattle.sci_trace.specs.Notes.{Told, line_of_turn};
 
@@ -21,37 +22,8 @@ pub struct TraceDesk {
     desk: WholeDesk,
     asked: [Option<Request>; NODES],
     pub(crate) notes: Notes,
-    entries: Vec<(NodeId, Tag)>,
     ghost same: { desk.size ≡ size },
     ghost few: { size.nodes ≤ 64 },
-}
-
-/// The entries along the links from `head` on, at most as many as there are nodes.
-fn walk(
-    entries: &mut Vec<(NodeId, Tag)>,
-    desk: &mut WholeDesk,
-    line: LineNo,
-    head: Option<NodeId>,
-    nodes: u16,
-) -> Result<(), AllocError>
-    requires line { line < desk.old.size.lines }
-    requires head { IfSome head (λ n. n < desk.old.size.nodes) }
-    ensures same { shared_of desk.new ≡ shared_of desk.old }
-    ensures size { desk.new.size ≡ desk.old.size }
-{
-    entries.clear();
-    let mut next = head;
-    for _ in 0..nodes {
-        let Some(node) = next else {
-            return Ok(());
-        };
-        let Some(tag) = desk.tag(line, node) else {
-            return Ok(());
-        };
-        next = tag.forw;
-        entries.push((node, tag))?;
-    }
-    Ok(())
 }
 
 impl TraceDesk {
@@ -73,7 +45,6 @@ impl TraceDesk {
             desk,
             asked: [None; NODES],
             notes: Notes::new(alloc),
-            entries: Vec::new(alloc),
         })
     }
 
@@ -83,7 +54,7 @@ impl TraceDesk {
         requires line { passed.now.line < self.old.size.lines }
         ensures same { shared_of self.new.desk ≡ shared_of self.old.desk }
         ensures told { (self.new.notes.is_cut ≡ true) ⊎ ((self.new.notes.is_cut ≡ self.old.notes.is_cut) × (told : Told) × (told.node ≡ node) × (told.turn ≡ turn.now) × (told.passed ≡ passed.now)
-            × (told.pending ≡ ((shared_of self.old.desk).lines passed.now.line).steps node) × (told.mem ≡ ((shared_of self.old.desk).lines passed.now.line).memory)
+            × (told.stage ≡ stage_of (((shared_of self.old.desk).lines passed.now.line).steps node)) × (told.mem ≡ ((shared_of self.old.desk).lines passed.now.line).memory)
             × (string_bytes self.new.notes.text ≡ string_bytes self.old.notes.text ++ line_of_turn told)) }
         ensures size { self.new.size ≡ self.old.size }
     {
@@ -91,15 +62,12 @@ impl TraceDesk {
         let Some(mem) = self.desk.mem(line) else {
             unreachable!()
         };
-        let nodes = self.size.nodes;
-        if walk(&mut self.entries, &mut self.desk, line, mem.forw, nodes).is_err() {
-            self.notes.cut();
-            return;
-        }
-        let pending = self.desk.pending(line, node);
+        let stage = self.desk.stage(line, node);
         let asked = &self.asked[usize::from(node.get())];
+        let nodes = self.size.nodes;
+        let desk = &mut self.desk;
         self.notes
-            .tell(node, asked, passed, &pending, turn, mem, &self.entries);
+            .tell(desk, node, asked, passed, &stage, turn, mem, nodes);
     }
 }
 

@@ -3,55 +3,14 @@
 ghost use Rattle.std.specs.Prelude.{◌≡◌, ◌++◌, OnOk, string_bytes, codes};
 ghost use Rattle.std.specs.Fmt.{decimal};
 ghost use Rattle.std.specs.List.{flat_map};
-ghost use Rattle.sci_trace.specs.Events.{event_name, written_text, ending_text, closed_ending, argument_text, event_text};
+ghost use Rattle.sci_trace.specs.Words.{link_word, found_text};
+ghost use Rattle.sci_trace.specs.Events.{written_text, ending_text, closed_ending, event_text};
 
 use crate::words::{push_found, push_link, push_number};
 use sci_core::Event;
 use sci_script::{Ending, Load};
+use sci_words::{NodeId, Tag};
 use std::alloc::AllocError;
-
-/// An event's name, and the bracket in front of its argument, where it has one.
-fn event_name(event: &Event) -> &'static str
-    ensures { result.now ≡ event_name event.now }
-{
-    match event {
-        Event::Look => "Look",
-        Event::Queue(_) => "Queue(",
-        Event::Requeue(_) => "Requeue(",
-        Event::PrependValid => "PrependValid",
-        Event::ReturnMemory => "ReturnMemory",
-        Event::AttachFresh(_) => "AttachFresh(",
-        Event::Settle => "Settle",
-        Event::Hold(_) => "Hold(",
-        Event::Unhold => "Unhold",
-        Event::Convert(_) => "Convert(",
-        Event::FreshToGone => "FreshToGone",
-        Event::Converted => "Converted",
-        Event::Unconverted => "Unconverted",
-        Event::BeginPurge(_) => "BeginPurge(",
-        Event::Written(_) => "Written(",
-        Event::PrependGone => "PrependGone",
-        Event::AttachDirty(_) => "AttachDirty(",
-        Event::ReturnCopy => "ReturnCopy",
-        Event::PurgeOne(_) => "PurgeOne(",
-        Event::Advance => "Advance",
-        Event::Clear => "Clear",
-        Event::Roll(_) => "Roll(",
-        Event::TellSuccessor(_) => "TellSuccessor(",
-        Event::TellPredecessor(_) => "TellPredecessor(",
-        Event::Adopt(_) => "Adopt(",
-        Event::Rolled => "Rolled",
-        Event::Leave(_) => "Leave(",
-        Event::Promote(_) => "Promote(",
-        Event::PassOn => "PassOn",
-        Event::Stay => "Stay",
-        Event::ReEnter => "ReEnter",
-        Event::ReturnHomeFresh => "ReturnHomeFresh",
-        Event::ReturnHomeDirty => "ReturnHomeDirty",
-        Event::Left => "Left",
-        Event::HomeWrite => "HomeWrite",
-    }
-}
 
 fn push_words(text: &mut String, words: &[u64]) -> Result<(), AllocError>
     ensures { OnOk result (string_bytes text.new ≡ string_bytes text.old ++ flat_map (λ word. codes " " ++ decimal word) words.now) }
@@ -98,40 +57,58 @@ fn push_closed(text: &mut String, ending: Ending) -> Result<(), AllocError>
     }
 }
 
-fn push_argument(
+/// An event without an argument. As a text that is known where it is pushed, its name takes no call; so do those below.
+#[inline(always)]
+fn push_bare(text: &mut String, name: &str, ending: Ending) -> Result<(), AllocError>
+    ensures { OnOk result (string_bytes text.new ≡ string_bytes text.old ++ (name.now ++ ending_text ending)) }
+{
+    text.push_str(name)?;
+    push_ending(text, ending)
+}
+
+/// An event that notes a link.
+#[inline(always)]
+fn push_linked(
     text: &mut String,
-    load: &Option<Load>,
-    event: &Event,
+    name: &str,
+    forw: Option<NodeId>,
     ending: Ending,
 ) -> Result<(), AllocError>
-    ensures { OnOk result (string_bytes text.new ≡ string_bytes text.old ++ argument_text load.now event.now ending) }
+    ensures { OnOk result (string_bytes text.new ≡ string_bytes text.old ++ (name.now ++ (link_word forw ++ closed_ending ending))) }
 {
-    match event {
-        Event::Queue(forw) | Event::Requeue(forw) => {
-            push_link(text, *forw)?;
-            push_closed(text, ending)
-        }
-        Event::Written(words) => {
-            push_written(text, words)?;
-            push_closed(text, ending)
-        }
-        Event::AttachFresh(found)
-        | Event::Hold(found)
-        | Event::Convert(found)
-        | Event::BeginPurge(found)
-        | Event::AttachDirty(found)
-        | Event::PurgeOne(found)
-        | Event::Roll(found)
-        | Event::TellSuccessor(found)
-        | Event::TellPredecessor(found)
-        | Event::Adopt(found)
-        | Event::Leave(found)
-        | Event::Promote(found) => {
-            push_found(text, load, *found)?;
-            push_closed(text, ending)
-        }
-        _ => push_ending(text, ending),
-    }
+    text.push_str(name)?;
+    push_link(text, forw)?;
+    push_closed(text, ending)
+}
+
+/// An event that found a tag, behind this load.
+#[inline(always)]
+fn push_tagged(
+    text: &mut String,
+    name: &str,
+    load: &Option<Load>,
+    found: Tag,
+    ending: Ending,
+) -> Result<(), AllocError>
+    ensures { OnOk result (string_bytes text.new ≡ string_bytes text.old ++ (name.now ++ (found_text load.now found ++ closed_ending ending))) }
+{
+    text.push_str(name)?;
+    push_found(text, load, found)?;
+    push_closed(text, ending)
+}
+
+/// An event that writes words.
+fn push_writing(
+    text: &mut String,
+    name: &str,
+    words: &Option<[u64; 8]>,
+    ending: Ending,
+) -> Result<(), AllocError>
+    ensures { OnOk result (string_bytes text.new ≡ string_bytes text.old ++ (name.now ++ (written_text words.now ++ closed_ending ending))) }
+{
+    text.push_str(name)?;
+    push_written(text, words)?;
+    push_closed(text, ending)
 }
 
 /// An event with its arguments, behind this load, and how it ended.
@@ -143,6 +120,47 @@ pub(crate) fn push_event(
 ) -> Result<(), AllocError>
     ensures { OnOk result (string_bytes text.new ≡ string_bytes text.old ++ event_text load.now event.now ending) }
 {
-    text.push_str(event_name(event))?;
-    push_argument(text, load, event, ending)
+    match event {
+        Event::Look => push_bare(text, "Look", ending),
+        Event::Queue(forw) => push_linked(text, "Queue(", *forw, ending),
+        Event::Requeue(forw) => push_linked(text, "Requeue(", *forw, ending),
+        Event::PrependValid => push_bare(text, "PrependValid", ending),
+        Event::ReturnMemory => push_bare(text, "ReturnMemory", ending),
+        Event::AttachFresh(found) => push_tagged(text, "AttachFresh(", load, *found, ending),
+        Event::Settle => push_bare(text, "Settle", ending),
+        Event::Hold(found) => push_tagged(text, "Hold(", load, *found, ending),
+        Event::Unhold => push_bare(text, "Unhold", ending),
+        Event::Convert(found) => push_tagged(text, "Convert(", load, *found, ending),
+        Event::FreshToGone => push_bare(text, "FreshToGone", ending),
+        Event::Converted => push_bare(text, "Converted", ending),
+        Event::Unconverted => push_bare(text, "Unconverted", ending),
+        Event::BeginPurge(found) => push_tagged(text, "BeginPurge(", load, *found, ending),
+        Event::Written(words) => push_writing(text, "Written(", words, ending),
+        Event::PrependGone => push_bare(text, "PrependGone", ending),
+        Event::AttachDirty(found) => push_tagged(text, "AttachDirty(", load, *found, ending),
+        Event::ReturnCopy => push_bare(text, "ReturnCopy", ending),
+        Event::PurgeOne(found) => push_tagged(text, "PurgeOne(", load, *found, ending),
+        Event::Advance => push_bare(text, "Advance", ending),
+        Event::Clear => push_bare(text, "Clear", ending),
+        Event::Roll(found) => push_tagged(text, "Roll(", load, *found, ending),
+        Event::TellSuccessor(found) => push_tagged(text, "TellSuccessor(", load, *found, ending),
+        Event::TellPredecessor(found) => push_tagged(
+            text,
+            "TellPredecessor(",
+            load,
+            *found,
+            ending,
+        ),
+        Event::Adopt(found) => push_tagged(text, "Adopt(", load, *found, ending),
+        Event::Rolled => push_bare(text, "Rolled", ending),
+        Event::Leave(found) => push_tagged(text, "Leave(", load, *found, ending),
+        Event::Promote(found) => push_tagged(text, "Promote(", load, *found, ending),
+        Event::PassOn => push_bare(text, "PassOn", ending),
+        Event::Stay => push_bare(text, "Stay", ending),
+        Event::ReEnter => push_bare(text, "ReEnter", ending),
+        Event::ReturnHomeFresh => push_bare(text, "ReturnHomeFresh", ending),
+        Event::ReturnHomeDirty => push_bare(text, "ReturnHomeDirty", ending),
+        Event::Left => push_bare(text, "Left", ending),
+        Event::HomeWrite => push_bare(text, "HomeWrite", ending),
+    }
 }

@@ -1,74 +1,104 @@
 //! A sharing list with what listings don't show: what is lent and what is held.
 
-ghost use Rattle.std.specs.Prelude.{◌≡◌, ◌++◌, OnOk, string_bytes, codes};
-ghost use Rattle.std.specs.List.{flat_map};
-ghost use Rattle.sci_trace.specs.Lists.{entry_text, entries_text, lent_text, head_text, list_text};
+ghost use Rattle.std.specs.Prelude.{◌≡◌, ◌<◌, ◌++◌, Some, OnOk, IfOk, IfSome, string_bytes, codes};
+ghost use Rattle.sci_words.specs.Mem.{mem_name_of};
+ghost use Rattle.sci_script.specs.Wholes.{shared_of};
+ghost use Rattle.sci_trace.specs.Lists.{entry_text, entries_text, lent_text, list_text, walked};
 
-use crate::words::{push_held, push_node};
-use sci_words::{Mem, NodeId, Tag, mem_name, name};
+use crate::words::{push_held, push_name, push_node};
+use sci_script::{Desk, WholeDesk};
+use sci_words::{LineNo, Mem, MemState, NodeId, Tag};
 use std::alloc::AllocError;
 
-fn push_entry(text: &mut String, entry: (NodeId, Tag)) -> Result<(), AllocError>
-    ensures { OnOk result (string_bytes text.new ≡ string_bytes text.old ++ entry_text entry) }
+/// An entry as it stands, `N NAME`, and ` held`. Answers the one behind it.
+#[inline(always)]
+fn push_entry(
+    text: &mut String,
+    desk: &mut WholeDesk,
+    line: LineNo,
+    node: NodeId,
+) -> Result<Option<NodeId>, AllocError>
+    requires line { line < desk.old.size.lines }
+    requires node { node < desk.old.size.nodes }
+    ensures pushed { OnOk result (string_bytes text.new ≡ string_bytes text.old ++ entry_text (node, ((shared_of desk.old).lines line).tags node)) }
+    ensures next { IfOk result (λ next. next ≡ (((shared_of desk.old).lines line).tags node).forw) }
+    ensures link { IfOk result (λ next. IfSome next (λ n. n < desk.old.size.nodes)) }
+    ensures same { shared_of desk.new ≡ shared_of desk.old }
+    ensures size { desk.new.size ≡ desk.old.size }
 {
-    let (node, tag) = entry;
-    let held = tag.held;
+    let Some(tag) = desk.tag(line, node) else {
+        unreachable!()
+    };
+    let Tag { held, forw, .. } = tag;
     push_node(text, node)?;
-    text.push_str(" ")?;
-    text.push_str(name(tag))?;
-    push_held(text, held)
+    push_name(text, tag)?;
+    push_held(text, held)?;
+    Ok(forw)
 }
 
-fn push_entries(text: &mut String, entries: &[(NodeId, Tag)]) -> Result<(), AllocError>
-    ensures { OnOk result (string_bytes text.new ≡ string_bytes text.old ++ entries_text entries.now) }
+/// The entries along the links from `head` on, at most as many as there are nodes.
+fn push_entries(
+    text: &mut String,
+    desk: &mut WholeDesk,
+    line: LineNo,
+    head: NodeId,
+    nodes: u16,
+) -> Result<(), AllocError>
+    requires line { line < desk.old.size.lines }
+    requires head { head < desk.old.size.nodes }
+    requires nodes { nodes ≡ desk.old.size.nodes }
+    ensures pushed { OnOk result (string_bytes text.new ≡ string_bytes text.old ++ entries_text (walked ((shared_of desk.old).lines line).tags nodes (Some head))) }
+    ensures same { shared_of desk.new ≡ shared_of desk.old }
+    ensures size { desk.new.size ≡ desk.old.size }
 {
-    if let [first, others @ ..] = entries {
-        text.push_str(": ")?;
-        push_entry(text, *first)?;
-        for entry in others {
-            text.push_str(", ")?;
-            push_entry(text, *entry)?;
-        }
-        return Ok(());
-    }
-    text.push_str(":")
-}
-
-fn push_lent(text: &mut String, lent: bool) -> Result<(), AllocError>
-    ensures { OnOk result (string_bytes text.new ≡ string_bytes text.old ++ lent_text lent) }
-{
-    if lent {
-        text.push_str(" lent")?;
+    text.push_str(": ")?;
+    let mut next = push_entry(text, desk, line, head)?;
+    for _ in 1..nodes {
+        let Some(node) = next else {
+            return Ok(());
+        };
+        text.push_str(", ")?;
+        next = push_entry(text, desk, line, node)?;
     }
     Ok(())
 }
 
-fn push_head(
-    text: &mut String,
-    head: Option<NodeId>,
-    entries: &[(NodeId, Tag)],
-) -> Result<(), AllocError>
-    ensures { OnOk result (string_bytes text.new ≡ string_bytes text.old ++ head_text head entries.now) }
+/// The state of the memory word, and ` lent`.
+fn push_state(text: &mut String, mem: Mem) -> Result<(), AllocError>
+    ensures { OnOk result (string_bytes text.new ≡ string_bytes text.old ++ mem_name_of mem ++ lent_text mem.lent) }
 {
+    match (mem.state, mem.lent) {
+        (MemState::Home, false) => text.push_str("HOME"),
+        (MemState::Home, true) => text.push_str("HOME lent"),
+        (MemState::Fresh, false) => text.push_str("FRESH"),
+        (MemState::Fresh, true) => text.push_str("FRESH lent"),
+        (MemState::Gone, false) => text.push_str("GONE"),
+        (MemState::Gone, true) => text.push_str("GONE lent"),
+    }
+}
+
+/// This memory word of the line and the entries as they stand: `HOME`, `FRESH F: N NAME, N NAME ..`, with ` lent` behind the state
+/// and ` held` behind a name.
+pub(crate) fn push_list(
+    text: &mut String,
+    desk: &mut WholeDesk,
+    line: LineNo,
+    mem: Mem,
+    nodes: u16,
+) -> Result<(), AllocError>
+    requires line { line < desk.old.size.lines }
+    requires head { IfSome mem.forw (λ n. n < desk.old.size.nodes) }
+    requires nodes { nodes ≡ desk.old.size.nodes }
+    ensures pushed { OnOk result (string_bytes text.new ≡ string_bytes text.old ++ list_text mem (walked ((shared_of desk.old).lines line).tags nodes mem.forw)) }
+    ensures same { shared_of desk.new ≡ shared_of desk.old }
+    ensures size { desk.new.size ≡ desk.old.size }
+{
+    let head = mem.forw;
+    push_state(text, mem)?;
     if let Some(head) = head {
         text.push_str(" ")?;
         push_node(text, head)?;
-        push_entries(text, entries)?;
+        push_entries(text, desk, line, head, nodes)?;
     }
     Ok(())
-}
-
-/// The memory word and the entries: `HOME`, `FRESH F: N NAME, N NAME ..`, with ` lent` behind the state and ` held` behind a name.
-pub(crate) fn push_list(
-    text: &mut String,
-    mem: Mem,
-    entries: &[(NodeId, Tag)],
-) -> Result<(), AllocError>
-    ensures { OnOk result (string_bytes text.new ≡ string_bytes text.old ++ list_text mem entries.now) }
-{
-    let head = mem.forw;
-    let lent = mem.lent;
-    text.push_str(mem_name(mem))?;
-    push_lent(text, lent)?;
-    push_head(text, head, entries)
 }

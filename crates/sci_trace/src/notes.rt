@@ -1,15 +1,17 @@
 //! The lines of the turns of one command, until they are written.
 
-ghost use Rattle.std.specs.Prelude.{◌≡◌, ◌++◌, ◌⊎◌, [], string_bytes, true, false};
+ghost use Rattle.std.specs.Prelude.{◌≡◌, ◌<◌, IfSome, ◌++◌, ◌⊎◌, [], string_bytes, true, false};
+ghost use Rattle.sci_script.specs.Wholes.{shared_of};
+ghost use Rattle.sci_trace.specs.Lists.{walked};
 ghost use Rattle.sci_trace.specs.Notes.{AreNotes};
 ghost use Rattle.sci_trace.specs.Texts.{note_line};
 
 use crate::texts::push_note;
 use sci_cache::Request;
-use sci_core::Pending;
+use sci_core::Stage;
 use sci_ops::Turn;
-use sci_script::Passed;
-use sci_words::{Mem, NodeId, Tag};
+use sci_script::{Passed, WholeDesk};
+use sci_words::{Mem, NodeId};
 use std::alloc::Global;
 
 /// Whole lines, one for each turn. Where memory was refused for one, there is none, and it says so from then on.
@@ -66,26 +68,25 @@ impl Notes {
     /// Adds the line of a turn.
     pub(crate) fn tell(
         &mut self,
+        desk: &mut WholeDesk,
         node: NodeId,
         asked: &Option<Request>,
         passed: &Passed,
-        pending: &Pending,
+        stage: &Stage,
         turn: &Turn,
         mem: Mem,
-        entries: &[(NodeId, Tag)],
+        nodes: u16,
     )
-        ensures { (self.new.is_cut ≡ true) ⊎ ((self.new.is_cut ≡ self.old.is_cut) × (string_bytes self.new.text ≡ string_bytes self.old.text ++ note_line node asked.now passed.now pending.now turn.now mem entries.now)) }
+        requires line { passed.now.line < desk.old.size.lines }
+        requires head { IfSome mem.forw (λ n. n < desk.old.size.nodes) }
+        requires nodes { nodes ≡ desk.old.size.nodes }
+        ensures told { (self.new.is_cut ≡ true) ⊎ ((self.new.is_cut ≡ self.old.is_cut) × (string_bytes self.new.text ≡ string_bytes self.old.text
+            ++ note_line node asked.now passed.now stage.now turn.now mem (walked ((shared_of desk.old).lines passed.now.line).tags nodes mem.forw))) }
+        ensures same { shared_of desk.new ≡ shared_of desk.old }
+        ensures size { desk.new.size ≡ desk.old.size }
     {
-        match push_note(
-            &mut self.text,
-            node,
-            asked,
-            passed,
-            pending,
-            turn,
-            mem,
-            entries,
-        ) {
+        let text = &mut self.text;
+        match push_note(text, desk, node, asked, passed, stage, turn, mem, nodes) {
             Ok(()) => {}
             Err(_) => {
                 // the front of a line is no line

@@ -1,6 +1,8 @@
 //! The lines that a trace adds.
 
-ghost use Rattle.std.specs.Prelude.{◌≡◌, ◌++◌, OnOk, string_bytes, codes};
+ghost use Rattle.std.specs.Prelude.{◌≡◌, ◌<◌, ◌++◌, OnOk, IfSome, string_bytes, codes};
+ghost use Rattle.sci_script.specs.Wholes.{shared_of};
+ghost use Rattle.sci_trace.specs.Lists.{walked};
 ghost use Rattle.std.specs.Fmt.{decimal};
 ghost use Rattle.sci_trace.specs.Texts.{operation_name, mem_wait, wait_text, look_text, act_text, place_text, note_line};
 
@@ -9,9 +11,9 @@ use crate::lists::push_list;
 use crate::steps::push_step;
 use crate::words::{push_link, push_node, push_number, push_tag};
 use sci_cache::Request;
-use sci_core::Pending;
+use sci_core::Stage;
 use sci_ops::Turn;
-use sci_script::{Load, Passed};
+use sci_script::{Load, Passed, WholeDesk};
 use sci_words::{LineNo, Mem, NodeId, Tag};
 use std::alloc::AllocError;
 
@@ -39,10 +41,10 @@ fn push_operation(
 }
 
 /// A wait behind a load of the memory word: in Queueing for the lent line, elsewhere for the place of the head.
-fn push_mem_wait(text: &mut String, pending: &Pending, mem: Mem) -> Result<(), AllocError>
-    ensures { OnOk result (string_bytes text.new ≡ string_bytes text.old ++ mem_wait pending.now mem) }
+fn push_mem_wait(text: &mut String, stage: &Stage, mem: Mem) -> Result<(), AllocError>
+    ensures { OnOk result (string_bytes text.new ≡ string_bytes text.old ++ mem_wait stage.now mem) }
 {
-    if let Pending::Queueing { .. } = pending {
+    if let Stage::Queueing { .. } = stage {
         return text.push_str("memory is lent");
     }
     text.push_str("memory names ")?;
@@ -54,13 +56,13 @@ fn push_wait(
     text: &mut String,
     node: NodeId,
     load: &Option<Load>,
-    pending: &Pending,
+    stage: &Stage,
 ) -> Result<(), AllocError>
-    ensures { OnOk result (string_bytes text.new ≡ string_bytes text.old ++ wait_text node load.now pending.now) }
+    ensures { OnOk result (string_bytes text.new ≡ string_bytes text.old ++ wait_text node load.now stage.now) }
 {
     match load {
         Some(Load::Own(Some(tag))) => push_tag(text, node, *tag),
-        Some(Load::Mem(Some(mem))) => push_mem_wait(text, pending, *mem),
+        Some(Load::Mem(Some(mem))) => push_mem_wait(text, stage, *mem),
         Some(Load::Tag(other, Some(tag))) => push_tag(text, *other, *tag),
         _ => text.push_str("the line is busy"),
     }
@@ -71,14 +73,14 @@ fn push_look(
     text: &mut String,
     node: NodeId,
     load: &Option<Load>,
-    pending: &Pending,
+    stage: &Stage,
     turn: &Turn,
 ) -> Result<(), AllocError>
-    ensures { OnOk result (string_bytes text.new ≡ string_bytes text.old ++ look_text node load.now pending.now turn.now) }
+    ensures { OnOk result (string_bytes text.new ≡ string_bytes text.old ++ look_text node load.now stage.now turn.now) }
 {
     if let Turn::Waiting = turn {
         text.push_str("waits: ")?;
-        push_wait(text, node, load, pending)?;
+        push_wait(text, node, load, stage)?;
         return text.push_str("; ");
     }
     text.push_str("only looked; ")
@@ -89,14 +91,14 @@ fn push_act(
     text: &mut String,
     node: NodeId,
     passed: &Passed,
-    pending: &Pending,
+    stage: &Stage,
     turn: &Turn,
 ) -> Result<(), AllocError>
-    ensures { OnOk result (string_bytes text.new ≡ string_bytes text.old ++ act_text node passed.now pending.now turn.now) }
+    ensures { OnOk result (string_bytes text.new ≡ string_bytes text.old ++ act_text node passed.now stage.now turn.now) }
 {
     match &passed.step {
         Some((event, ending)) => push_event(text, &passed.load, event, *ending),
-        None => push_look(text, node, &passed.load, pending, turn),
+        None => push_look(text, node, &passed.load, stage, turn),
     }
 }
 
@@ -116,23 +118,30 @@ fn push_place(
 }
 
 /// One turn of a node, which was asked for this: `# node N line L OPERATION: WHAT; STEP; LIST` and a line feed. WHAT is the event
-/// and Done or Missed, `waits: ` and what it waits for, or `only looked`; STEP is the pending step after the turn; LIST is the
-/// memory word and these entries, with what is lent and held.
+/// and Done or Missed, `waits: ` and what it waits for, or `only looked`; STEP is the pending step after the turn; LIST is this
+/// memory word and the entries as they stand, with what is lent and held.
 pub(crate) fn push_note(
     text: &mut String,
+    desk: &mut WholeDesk,
     node: NodeId,
     asked: &Option<Request>,
     passed: &Passed,
-    pending: &Pending,
+    stage: &Stage,
     turn: &Turn,
     mem: Mem,
-    entries: &[(NodeId, Tag)],
+    nodes: u16,
 ) -> Result<(), AllocError>
-    ensures { OnOk result (string_bytes text.new ≡ string_bytes text.old ++ note_line node asked.now passed.now pending.now turn.now mem entries.now) }
+    requires line { passed.now.line < desk.old.size.lines }
+    requires head { IfSome mem.forw (λ n. n < desk.old.size.nodes) }
+    requires nodes { nodes ≡ desk.old.size.nodes }
+    ensures pushed { OnOk result (string_bytes text.new ≡ string_bytes text.old ++ note_line node asked.now passed.now stage.now turn.now mem (walked ((shared_of desk.old).lines passed.now.line).tags nodes mem.forw)) }
+    ensures same { shared_of desk.new ≡ shared_of desk.old }
+    ensures size { desk.new.size ≡ desk.old.size }
 {
-    push_place(text, node, asked, passed.line)?;
-    push_act(text, node, passed, pending, turn)?;
-    push_step(text, pending)?;
-    push_list(text, mem, entries)?;
+    let line = passed.line;
+    push_place(text, node, asked, line)?;
+    push_act(text, node, passed, stage, turn)?;
+    push_step(text, stage)?;
+    push_list(text, desk, line, mem, nodes)?;
     text.push_str("\n")
 }

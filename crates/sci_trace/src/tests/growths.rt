@@ -78,7 +78,7 @@ fn traces(rt: &impl Abort, alloc: Global, script: &Script) -> Result<(), Fail> {
     }
 }
 
-/// Growths: 3 made up for, 1 of read_script, 11 of open, 11 of trace.
+/// Growths: 3 made up for, 1 of read_script, 11 of open, 10 of trace.
 #[test]
 fn refused_growths(rt: HostRuntime) -> Result<(), Fail> {
     let Ok(script) = read_script(rt.alloc(), SCRIPT.as_bytes()) else {
