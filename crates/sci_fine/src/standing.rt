@@ -74,6 +74,7 @@ impl<K: Keeps> Standing<K> {
     }
 
     // The exchange that an allowed event asks for, but for lines.
+    #[inline(always)]
     pub(crate) fn outline(&self, event: &Event) -> Outline
         ensures value { result ≡ outline_of (row_of self.now.node self.now.pending event.now) }
         ensures standing { IsStanding self.now.terms.nodes (K.fits self.now.terms.keep self.now.terms.number) self.now.node self.now.pending }
@@ -91,6 +92,7 @@ impl<K: Keeps> Standing<K> {
     }
 
     // The node's next step, after the exchange of an allowed event, and the line that it answers.
+    #[inline(always)]
     pub(crate) fn go_on(&mut self, event: &Event, outline: &Outline, taken: &Line) -> Option<Line>
         requires allowed { has_row self.old.terms.nodes self.old.node self.old.pending event.now ≡ true }
         requires outline { outline.now ≡ outline_of (row_of self.old.node self.old.pending event.now) }
@@ -109,6 +111,7 @@ impl<K: Keeps> Standing<K> {
     }
 
     // The node looked at its own tag.
+    #[inline(always)]
     pub(crate) fn look(&mut self, own: &Tag)
         requires { IsStanding self.old.terms.nodes (K.fits self.old.terms.keep self.old.terms.number) self.old.node (look_of self.old.pending own.now) }
         ensures same { (self.new.terms ≡ self.old.terms) × (self.new.node ≡ self.old.node) }
