@@ -33,6 +33,15 @@ impl<K: Keeps> Model for Standing<K> {
     ghost invariant = { λ s. IsStanding s.terms.nodes (K.fits s.terms.keep s.terms.number) s.node (pending_of s.stage s.line) };
 }
 
+// Writes over a slot, if it holds another line: a write disturbs who reads the slots beside it.
+fn write_over(slot: &mut Line, line: &Line)
+    ensures { slot.new ≡ line.now }
+{
+    if *slot != *line {
+        *slot = *line;
+    }
+}
+
 impl<K: Keeps> Standing<K> {
     // That of a node in no step.
     pub(crate) fn idle(terms: Terms<K>, node: NodeId) -> Standing<K>
@@ -87,8 +96,9 @@ impl<K: Keeps> Standing<K> {
         requires { has_row self.now.terms.nodes self.now.node self.now.pending event.now ≡ true }
         ensures { GivesLine (row_of self.now.node self.now.pending event.now).carry slot.new }
     {
-        *slot = self.line;
-        slot.give_back(event);
+        let mut given = self.line;
+        given.give_back(event);
+        write_over(slot, &given);
     }
 
     // The node's next step, after the exchange of an allowed event, and the line that it answers.
