@@ -16,6 +16,7 @@ use sci_core::{Event, Keeps, Line, Motion, Outline};
 
 impl<K: Keeps> FineLine<K> {
     // Writes the node's line into the slot that it gives back in an allowed event.
+    #[inline(always)]
     pub(crate) fn lay(
         &self,
         token: &mut Token<K>,
@@ -38,6 +39,7 @@ impl<K: Keeps> FineLine<K> {
     }
 
     // The node's next step, with the line of the slot that was taken, and the line that the event answers.
+    #[inline(always)]
     pub(crate) fn pick_up(
         &self,
         token: &mut Token<K>,
@@ -100,6 +102,7 @@ impl<K: Keeps> FineLine<K> {
     }
 
     // The node's own tag word, which its step records.
+    #[inline(always)]
     pub(crate) fn look<N: Notes>(&self, token: &mut Token<K>, number: usize) -> u64
         requires of { (token.old.table_id ≡ self.now.table.shared.table_id) × (token.old.me.0.of ≡ Some self.now.terms) }
         requires own { (number ≡ token.old.me.0.node + 1) × (token.old.me.0.node < self.now.terms.nodes) }

@@ -67,6 +67,7 @@ impl<K: Keeps> Port for FinePort<'_, K> {
         self.seat.standing.stage()
     }
 
+    #[inline(always)]
     fn own(&mut self) -> Option<Tag> {
         Some(self.seat.own(self.line))
     }
@@ -79,6 +80,7 @@ impl<K: Keeps> Port for FinePort<'_, K> {
         Some(self.seat.tag(self.line, node))
     }
 
+    #[inline(always)]
     fn step(&mut self, event: Event) -> Outcome {
         self.seat.step(self.line, &event)
     }

@@ -33,6 +33,15 @@ impl<K: Keeps> Model for Standing<K> {
     ghost invariant = { λ s. IsStanding s.terms.nodes (K.fits s.terms.keep s.terms.number) s.node (pending_of s.stage s.line) };
 }
 
+// Writes over a slot, if it holds another line: a write disturbs who reads the slots beside it.
+fn write_over(slot: &mut Line, line: &Line)
+    ensures { slot.new ≡ line.now }
+{
+    if *slot != *line {
+        *slot = *line;
+    }
+}
+
 impl<K: Keeps> Standing<K> {
     // That of a node in no step.
     pub(crate) fn idle(terms: Terms<K>, node: NodeId) -> Standing<K>
@@ -74,6 +83,7 @@ impl<K: Keeps> Standing<K> {
     }
 
     // The exchange that an allowed event asks for, but for lines.
+    #[inline(always)]
     pub(crate) fn outline(&self, event: &Event) -> Outline
         ensures value { result ≡ outline_of (row_of self.now.node self.now.pending event.now) }
         ensures standing { IsStanding self.now.terms.nodes (K.fits self.now.terms.keep self.now.terms.number) self.now.node self.now.pending }
@@ -86,11 +96,13 @@ impl<K: Keeps> Standing<K> {
         requires { has_row self.now.terms.nodes self.now.node self.now.pending event.now ≡ true }
         ensures { GivesLine (row_of self.now.node self.now.pending event.now).carry slot.new }
     {
-        *slot = self.line;
-        slot.give_back(event);
+        let mut given = self.line;
+        given.give_back(event);
+        write_over(slot, &given);
     }
 
     // The node's next step, after the exchange of an allowed event, and the line that it answers.
+    #[inline(always)]
     pub(crate) fn go_on(&mut self, event: &Event, outline: &Outline, taken: &Line) -> Option<Line>
         requires allowed { has_row self.old.terms.nodes self.old.node self.old.pending event.now ≡ true }
         requires outline { outline.now ≡ outline_of (row_of self.old.node self.old.pending event.now) }
@@ -109,6 +121,7 @@ impl<K: Keeps> Standing<K> {
     }
 
     // The node looked at its own tag.
+    #[inline(always)]
     pub(crate) fn look(&mut self, own: &Tag)
         requires { IsStanding self.old.terms.nodes (K.fits self.old.terms.keep self.old.terms.number) self.old.node (look_of self.old.pending own.now) }
         ensures same { (self.new.terms ≡ self.old.terms) × (self.new.node ≡ self.old.node) }

@@ -41,6 +41,7 @@ impl<K: Keeps> Seat<K> {
     }
 
     // The node's own tag, looked at: by a load or by a step.
+    #[inline(always)]
     fn look<N: Notes>(&mut self, line: &FineLine<K>) -> Tag
         requires of { IsSeatOf line.now self.old }
         requires note { IsLook N.call }
@@ -57,6 +58,7 @@ impl<K: Keeps> Seat<K> {
     }
 
     // The node's own tag.
+    #[inline(always)]
     pub(crate) fn own(&mut self, line: &FineLine<K>) -> Tag
         requires of { IsSeatOf line.now self.old }
         ensures made { HasMade K.fits self.old (Own (Some result)) self.new }
@@ -65,6 +67,7 @@ impl<K: Keeps> Seat<K> {
     }
 
     // The exchange that the event asks for.
+    #[inline(always)]
     fn exchange(&mut self, line: &FineLine<K>, event: &Event) -> Outcome
         requires of { IsSeatOf line.now self.old }
         requires allowed { has_row self.old.standing.terms.nodes self.old.standing.node self.old.standing.pending event.now ≡ true }
@@ -82,6 +85,7 @@ impl<K: Keeps> Seat<K> {
     }
 
     // An event of the node that its pending step allows.
+    #[inline(always)]
     pub(crate) fn step(&mut self, line: &FineLine<K>, event: &Event) -> Outcome
         requires of { IsSeatOf line.now self.old }
         requires allowed { is_allowed self.old.standing.terms.nodes self.old.standing.node self.old.standing.pending event.now ≡ true }

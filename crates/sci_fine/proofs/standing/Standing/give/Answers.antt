@@ -1,4 +1,4 @@
-use Rattle.std.proofs.Common.{◌≡◌, true, sym, subst}
+use Rattle.std.proofs.Common.{◌≡◌, true, sym, subst, ◌∙◌}
 use Rattle.sci_core.specs.declared.lines.Line.{Line}
 use Rattle.sci_core.specs.Stage.{pending_of}
 use Rattle.sci_core.specs.Table.{has_row, row_of}
@@ -17,5 +17,5 @@ give_back-requires g c =
 pub returns : goal.returns
 returns g c =
     let e = c.args.event.now in
-    subst (λ (s : StandingOn g.row.K.Denot). GivesLine (row_of s.node s.pending e).carry c.give_back.new.self) c.self.view_is
-    (subst (λ (l : Line). GivesLine (row_of c.self.inside.node (pending_of c.self.inside.stage c.self.inside.line) e).carry l) (sym c.give_back.ensures) (row_gives c.self.inside.node c.self.inside.stage c.self.inside.line e))
+    subst (λ (s : StandingOn g.row.K.Denot). GivesLine (row_of s.node s.pending e).carry c.write_over.new.slot) c.self.view_is
+    (subst (λ (l : Line). GivesLine (row_of c.self.inside.node (pending_of c.self.inside.stage c.self.inside.line) e).carry l) (sym (c.write_over.ensures ∙ c.give_back.ensures)) (row_gives c.self.inside.node c.self.inside.stage c.self.inside.line e))
