@@ -16,6 +16,8 @@ use sci_core::{AnyWords, Closed, Line, Pending};
 use sci_ops::{Op, Turn};
 use sci_words::{Kind, Mem, MemState, Tag};
 use std::alloc::Global;
+use std::fmt::Debug;
+use std::process::Abort;
 use std::sync::Wait;
 use std::test::Fail;
 use std::thread;
@@ -40,6 +42,11 @@ const INVALID: Tag = Tag {
 };
 
 const ADDS: u64 = 1_000;
+
+/// Both are the same. Each `assert_eq!` is proved by itself; this one is proved once.
+fn same<T: Debug + PartialEq>(rt: &impl Abort, left: &T, right: &T) {
+    assert_eq!(rt; left, right);
+}
 
 fn is_idle(seat: &Seat<AnyWords>) -> bool
     ensures { IsTrue result → seat.now.standing.pending ≡ Idle }

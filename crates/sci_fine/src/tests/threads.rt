@@ -3,7 +3,7 @@ ghost use Rattle.std.specs.Prelude.{◌≡◌, All, IfSome};
 ghost use Rattle.sci_fine.specs.Seats.{IsSeatOf};
 
 use super::replays::{closed, opened};
-use super::turn;
+use super::{same, turn};
 use crate::{FineLine, Seat};
 use crossbeam_utils::Backoff;
 use sci_core::{AnyWords, Closed, Line};
@@ -130,7 +130,7 @@ fn three_threads_load(rt: HostRuntime) -> Result<(), Fail> {
     let (zero, (one, two)) = three_load(&rt, &line, zero, one, two);
     let seats = vec![in rt.alloc(); zero, one, two]?;
     let left = closed(rt.alloc(), line, seats).ok_or("the nodes are not done")?;
-    assert_eq!(rt; sharers(&left), 3);
+    same(&rt, &sharers(&left), &3);
     Ok(())
 }
 
@@ -290,6 +290,32 @@ fn last_team(line: &FineLine<AnyWords>, seats: &mut Vec<Seat<AnyWords>>) -> Opti
     })
 }
 
+// The last four seats, as two teams.
+fn last_teams(line: &FineLine<AnyWords>, seats: &mut Vec<Seat<AnyWords>>) -> Option<Teams>
+    requires { All (λ s. IsSeatOf line.now s) seats.old.items }
+    ensures seats { All (λ s. IsSeatOf line.now s) seats.new.items }
+    ensures teams { IfSome result (λ r. IsSeatOf line.now r.0.first × IsSeatOf line.now r.0.second × IsSeatOf line.now r.1.first × IsSeatOf line.now r.1.second) }
+{
+    let two = last_team(line, seats)?;
+    let one = last_team(line, seats)?;
+    Some((one, two))
+}
+
+// Eight seats work, as four teams.
+fn all_work<R: Threads + Wait + Sync>(
+    rt: &R,
+    line: &FineLine<AnyWords>,
+    seats: &mut Vec<Seat<AnyWords>>,
+) -> Option<(Teams, Teams)>
+    requires { All (λ s. IsSeatOf line.now s) seats.old.items }
+    ensures one { IfSome result (λ r. IsSeatOf line.now r.0.0.first × IsSeatOf line.now r.0.0.second × IsSeatOf line.now r.0.1.first × IsSeatOf line.now r.0.1.second) }
+    ensures two { IfSome result (λ r. IsSeatOf line.now r.1.0.first × IsSeatOf line.now r.1.0.second × IsSeatOf line.now r.1.1.first × IsSeatOf line.now r.1.1.second) }
+{
+    let last = last_teams(line, seats)?;
+    let first = last_teams(line, seats)?;
+    Some(four_teams(rt, line, first, last))
+}
+
 // What an exact line holds.
 fn value_of(closed: &Closed) -> Option<&Line> {
     match closed.mem.forw {
@@ -325,19 +351,20 @@ fn closed_by<R: Abort>(
     Ok(closed(alloc, line, seats).ok_or("the nodes are not done")?)
 }
 
+// The line holds what the teams wrote: a mark, all that was added, and as many stamps as there were writes.
+fn adds_up<R: Abort>(rt: &R, closed: &Closed) -> Result<(), Fail> {
+    let value = value_of(closed).ok_or("no value")?;
+    let (stores, adds) = (count(Task::Store), count(Task::Add));
+    assert!(rt; is_mark(value.words[0]));
+    same(rt, &value.words[1], &adds);
+    same(rt, &value.stamp, &stores.wrapping_add(adds));
+    Ok(())
+}
+
 #[test]
 fn four_threads_work(rt: HostRuntime) -> Result<(), Fail> {
     let (line, mut seats) = opened(rt.alloc(), 8, Line::ZERO).ok_or("no line")?;
-    let four = last_team(&line, &mut seats).ok_or("no seats")?;
-    let three = last_team(&line, &mut seats).ok_or("no seats")?;
-    let two = last_team(&line, &mut seats).ok_or("no seats")?;
-    let one = last_team(&line, &mut seats).ok_or("no seats")?;
-    let teams = four_teams(&rt, &line, (one, two), (three, four));
+    let teams = all_work(&rt, &line, &mut seats).ok_or("no seats")?;
     let left = closed_by(&rt, rt.alloc(), line, teams)?;
-    let value = value_of(&left).ok_or("no value")?;
-    let (stores, adds) = (count(Task::Store), count(Task::Add));
-    assert!(rt; is_mark(value.words[0]));
-    assert_eq!(rt; value.words[1], adds);
-    assert_eq!(rt; value.stamp, stores.wrapping_add(adds));
-    Ok(())
+    adds_up(&rt, &left)
 }
