@@ -11,7 +11,9 @@ use sci_core::{AnyWords, Line, OpenRefusal, Whole};
 use sci_port::Solo;
 use sci_words::NodeId;
 use std::alloc::Global;
+use std::fmt::Debug;
 use std::marker::Brand;
+use std::process::Abort;
 use std::sync::ledger::{Blank, Ledger};
 use std::test::Fail;
 
@@ -19,6 +21,11 @@ const SEEN: Answer = Answer::Seen {
     words: [0; 8],
     stamp: 0,
 };
+
+/// Both are the same. Each `assert_eq!` is proved by itself; this one is proved once.
+fn same<T: Debug + PartialEq>(rt: &impl Abort, left: &T, right: &T) {
+    assert_eq!(rt; left, right);
+}
 
 // One turn, if there is that node.
 #[tactic(auto, using(crate::proofs::Storing::any_store_fits))]
@@ -55,18 +62,19 @@ fn writes_a_line_and_adds(rt: HostRuntime) -> Result<(), Fail> {
     let words = [1, 2, 3, 4, 5, 6, 7, 8];
     let wrote = take(&mut whole, 0, Ok(Op::write_line(words)), 8);
     let before = [0; 8];
-    assert_eq!(rt; wrote, Some(Answer::Wrote { before, stamp: 1 }));
+    same(&rt, &wrote, &Some(Answer::Wrote { before, stamp: 1 }));
     let added = take(&mut whole, 0, Op::add(7, u64::MAX), 2);
-    assert_eq!(rt;
-        added,
-        Some(Answer::Wrote {
+    same(
+        &rt,
+        &added,
+        &Some(Answer::Wrote {
             before: words,
-            stamp: 2
-        })
+            stamp: 2,
+        }),
     );
     let seen = take(&mut whole, 0, Ok(Op::load()), 2);
     let words = [1, 2, 3, 4, 5, 6, 7, 7];
-    assert_eq!(rt; seen, Some(Answer::Seen { words, stamp: 2 }));
+    same(&rt, &seen, &Some(Answer::Seen { words, stamp: 2 }));
     Ok(())
 }
 
@@ -82,13 +90,25 @@ fn writes_from_the_tail_in_18_turns(rt: HostRuntime) -> Result<(), Fail> {
     }
     let before = [0; 8];
     let wrote = take(&mut whole, 0, Op::store(0, 5), 18);
-    assert_eq!(rt; wrote, Some(Answer::Wrote { before, stamp: 1 }));
+    same(&rt, &wrote, &Some(Answer::Wrote { before, stamp: 1 }));
     let words = [5, 0, 0, 0, 0, 0, 0, 0];
     let seen = take(&mut whole, 1, Ok(Op::load()), 5);
-    assert_eq!(rt; seen, Some(Answer::Seen { words, stamp: 1 }));
-    assert_eq!(rt; take(&mut whole, 0, Ok(Op::evict()), 3), Some(Answer::Out));
-    assert_eq!(rt; take(&mut whole, 1, Ok(Op::evict()), 4), Some(Answer::Out));
-    assert_eq!(rt; take(&mut whole, 1, Ok(Op::evict()), 1), Some(Answer::Out));
+    same(&rt, &seen, &Some(Answer::Seen { words, stamp: 1 }));
+    same(
+        &rt,
+        &take(&mut whole, 0, Ok(Op::evict()), 3),
+        &Some(Answer::Out),
+    );
+    same(
+        &rt,
+        &take(&mut whole, 1, Ok(Op::evict()), 4),
+        &Some(Answer::Out),
+    );
+    same(
+        &rt,
+        &take(&mut whole, 1, Ok(Op::evict()), 1),
+        &Some(Answer::Out),
+    );
     Ok(())
 }
 
@@ -104,7 +124,7 @@ fn writes_from_the_head_in_10_turns(rt: HostRuntime) -> Result<(), Fail> {
     }
     let before = [0; 8];
     let wrote = take(&mut whole, 2, Op::store(0, 5), 10);
-    assert_eq!(rt; wrote, Some(Answer::Wrote { before, stamp: 1 }));
+    same(&rt, &wrote, &Some(Answer::Wrote { before, stamp: 1 }));
     Ok(())
 }
 
@@ -170,7 +190,7 @@ fn ends_alone(rt: HostRuntime) -> Result<(), Fail> {
     let out = Answer::Out;
     let wanted = [SEEN, SEEN, SEEN, wrote, read, out, out];
     for (answer, wanted) in answers.iter().zip(wanted.iter()) {
-        assert_eq!(rt; *answer, Some(*wanted));
+        same(&rt, answer, &Some(*wanted));
     }
     Ok(())
 }
@@ -182,22 +202,23 @@ fn spends_the_last_stamp(rt: HostRuntime) -> Result<(), Fail> {
         stamp: u64::MAX,
     };
     let mut whole = Whole::open(rt.alloc(), 1, 0, last, AnyWords)?;
-    assert_eq!(rt;
-        take(&mut whole, 0, Op::store(0, 5), 8),
-        Some(Answer::Spent)
+    same(
+        &rt,
+        &take(&mut whole, 0, Op::store(0, 5), 8),
+        &Some(Answer::Spent),
     );
     let words = [0; 8];
     let stamp = u64::MAX;
     let seen = take(&mut whole, 0, Ok(Op::load()), 2);
-    assert_eq!(rt; seen, Some(Answer::Seen { words, stamp }));
+    same(&rt, &seen, &Some(Answer::Seen { words, stamp }));
     Ok(())
 }
 
 #[test]
 fn refuses_words_above_7(rt: HostRuntime) {
-    assert_eq!(rt; Op::store(8, 0), Err(BadWord));
-    assert_eq!(rt; Op::add(8, 0), Err(BadWord));
+    same(&rt, &Op::store(8, 0), &Err(BadWord));
+    same(&rt, &Op::add(8, 0), &Err(BadWord));
     assert!(rt; Op::store(7, 0).is_ok());
     assert!(rt; Op::add(7, 0).is_ok());
-    assert_eq!(rt; BadWord.number(), 10);
+    same(&rt, &BadWord.number(), &10);
 }

@@ -1,6 +1,7 @@
 //! A run of several nodes, whose recorded events are done once more on another line.
 use crate::answers::{Answer, Turn};
 use crate::ops::Op;
+use crate::tests::same;
 use sci_core::{AnyWords, Event, Line, Whole};
 use sci_port::Solo;
 use sci_port::recording::{Recorder, Trace};
@@ -82,6 +83,6 @@ fn replays_what_a_recorder_kept(rt: HostRuntime) -> Result<(), Fail> {
     for _ in 0..5 {
         assert!(rt; turn(&mut again, &mut trace, 2, &mut op) != Some(Turn::Waiting));
     }
-    assert_eq!(rt; turn(&mut again, &mut trace, 2, &mut op), Some(seen));
+    same(&rt, &turn(&mut again, &mut trace, 2, &mut op), &Some(seen));
     Ok(())
 }
