@@ -15,6 +15,8 @@ use sci_core::{AnyWords, Closed, Line, Pending};
 use sci_ops::{Op, Turn};
 use sci_words::{Kind, Mem, MemState, Tag};
 use std::alloc::Global;
+use std::fmt::Debug;
+use std::process::Abort;
 use std::sync::Wait;
 use std::test::Fail;
 use std::thread;
@@ -39,6 +41,11 @@ const INVALID: Tag = Tag {
 };
 
 const ADDS: u64 = 1_000;
+
+/// Both are the same. Each `assert_eq!` is proved by itself; this one is proved once.
+fn same<T: Debug + PartialEq>(rt: &impl Abort, left: &T, right: &T) {
+    assert_eq!(rt; left, right);
+}
 
 fn is_idle(seat: &Seat<AnyWords>) -> bool
     ensures { IsTrue result → seat.now.standing.pending ≡ Idle }
@@ -122,10 +129,10 @@ fn finishes_with_seats_in_order(rt: HostRuntime) -> Result<(), Fail> {
     let Ok(closed) = closed(rt.alloc(), line, zero, one) else {
         panic!(rt; "it was refused")
     };
-    assert_eq!(rt; closed.mem, HOME);
-    assert_eq!(rt; closed.memory, OPENING);
-    assert_eq!(rt; closed.tags.as_slice(), [INVALID; 2].as_slice());
-    assert_eq!(rt; closed.lines.as_slice(), [OPENING; 2].as_slice());
+    same(&rt, &closed.mem, &HOME);
+    same(&rt, &closed.memory, &OPENING);
+    same(&rt, &closed.tags.as_slice(), &[INVALID; 2].as_slice());
+    same(&rt, &closed.lines.as_slice(), &[OPENING; 2].as_slice());
     Ok(())
 }
 
@@ -199,7 +206,7 @@ fn two_threads_add(rt: HostRuntime) -> Result<(), Fail> {
     };
     let head = closed.mem.forw.ok_or("no list")?;
     let line = closed.lines.get(usize::from(head.get())).ok_or("no line")?;
-    assert_eq!(rt; line.words[0], 2 * ADDS);
-    assert_eq!(rt; line.stamp, 2 * ADDS);
+    same(&rt, &line.words[0], &(2 * ADDS));
+    same(&rt, &line.stamp, &(2 * ADDS));
     Ok(())
 }

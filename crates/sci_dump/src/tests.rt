@@ -8,6 +8,8 @@ use super::*;
 use sci_core::{AnyWords, Closed, Event, Line, Pending, Whole};
 use sci_words::{Kind, NodeId, Tag};
 use std::alloc::{AllocError, Global};
+use std::fmt::Debug;
+use std::process::Abort;
 use std::test::Fail;
 
 /// The dump of one line that nodes 0, 1 and 2 have loaded, in this order.
@@ -79,6 +81,11 @@ const CHANGED: [(&str, &str, Verdict); 8] = [
     ),
 ];
 
+/// Both are the same. Each `assert_eq!` is proved by itself; this one is proved once.
+fn same<T: Debug + PartialEq>(rt: &impl Abort, left: &T, right: &T) {
+    assert_eq!(rt; left, right);
+}
+
 // The text of a dump.
 fn text_of(alloc: Global, lines: &Dump) -> Result<String, AllocError> {
     dump(alloc, &lines.lines)
@@ -107,7 +114,7 @@ fn verdicts(rt: HostRuntime) -> Result<(), Fail> {
         let text = SHARED.replacen(rt.alloc(), old, new, 1)?;
         let read = read_dump(rt.alloc(), text.as_bytes())?;
         assert_eq!(rt; check(&read), *verdict, "with {new}");
-        assert_eq!(rt; text_of(rt.alloc(), &read)?, text);
+        same(&rt, &text_of(rt.alloc(), &read)?, &text);
     }
     Ok(())
 }
@@ -122,19 +129,19 @@ const TWO_LINES: &str = "scidump 1 2 2\n\
 #[test]
 fn the_first_line_that_breaks_a_rule(rt: HostRuntime) -> Result<(), Fail> {
     let read = read_dump(rt.alloc(), TWO_LINES.as_bytes())?;
-    assert_eq!(rt; check(&read), Verdict::Lawful);
-    assert_eq!(rt; read.nodes, 2);
+    same(&rt, &check(&read), &Verdict::Lawful);
+    same(&rt, &read.nodes, &2);
     assert!(rt; text_of(rt.alloc(), &read)?.as_str() == TWO_LINES);
     let (old, new) = ("0000000000000102", "000000000000ff02");
     let text = TWO_LINES.replacen(rt.alloc(), old, new, 1)?;
-    assert_eq!(rt; fault_of(rt.alloc(), text.as_bytes()), Some(3));
+    same(&rt, &fault_of(rt.alloc(), text.as_bytes()), &Some(3));
     let text = TWO_LINES.replacen(rt.alloc(), old, "0000000000000101", 1)?;
     let read = read_dump(rt.alloc(), text.as_bytes())?;
     let unlawful = Verdict::Unlawful {
         line: 1,
         rule: Rule::Suited,
     };
-    assert_eq!(rt; check(&read), unlawful);
+    same(&rt, &check(&read), &unlawful);
     Ok(())
 }
 
@@ -289,18 +296,18 @@ fn shared(alloc: Global) -> Result<Closed, Fail> {
 #[test]
 fn a_closed_line_is_dumped_and_read_back(rt: HostRuntime) -> Result<(), Fail> {
     let closed = shared(rt.alloc())?;
-    assert_eq!(rt; closed.tags.len(), 3);
+    same(&rt, &closed.tags.len(), &3);
     let lines = vec![in rt.alloc(); closed]?;
     let text = dump(rt.alloc(), &lines)?;
     assert!(rt; text.as_str() == SHARED);
     let read = read_dump(rt.alloc(), text.as_bytes())?;
-    assert_eq!(rt; read.nodes, 3);
-    assert_eq!(rt; read.lines.len(), 1);
+    same(&rt, &read.nodes, &3);
+    same(&rt, &read.lines.len(), &1);
     for (line, back) in lines.iter().zip(read.lines.iter()) {
-        assert_eq!(rt; line.mem, back.mem);
-        assert_eq!(rt; line.memory, back.memory);
-        assert_eq!(rt; line.tags.as_slice(), back.tags.as_slice());
-        assert_eq!(rt; line.lines.as_slice(), back.lines.as_slice());
+        same(&rt, &line.mem, &back.mem);
+        same(&rt, &line.memory, &back.memory);
+        same(&rt, &line.tags.as_slice(), &back.tags.as_slice());
+        same(&rt, &line.lines.as_slice(), &back.lines.as_slice());
     }
     Ok(())
 }
@@ -335,7 +342,7 @@ fn dumps_of_64_nodes(rt: HostRuntime) -> Result<(), Fail> {
     for lines in [1, 340, 1024] {
         let text = shared_by_all(rt.alloc(), lines)?;
         let read = read_dump(rt.alloc(), text.as_bytes())?;
-        assert_eq!(rt; check(&read), Verdict::Lawful);
+        same(&rt, &check(&read), &Verdict::Lawful);
         let again = text_of(rt.alloc(), &read)?;
         assert!(rt; again.as_str() == text.as_str(), "of {lines} lines");
     }
@@ -344,6 +351,6 @@ fn dumps_of_64_nodes(rt: HostRuntime) -> Result<(), Fail> {
 
 #[test]
 fn numbers_of_refusals(rt: HostRuntime) {
-    assert_eq!(rt; DumpRefusal::OutOfMemory.number(), 7);
-    assert_eq!(rt; DumpRefusal::DumpFault(1).number(), 21);
+    same(&rt, &DumpRefusal::OutOfMemory.number(), &7);
+    same(&rt, &DumpRefusal::DumpFault(1).number(), &21);
 }

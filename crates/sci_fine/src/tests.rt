@@ -127,10 +127,10 @@ fn finishes_with_seats_in_order(rt: HostRuntime) -> Result<(), Fail> {
     let Ok(closed) = closed(rt.alloc(), line, zero, one) else {
         panic!(rt; "it was refused")
     };
-    assert_eq!(rt; closed.mem, HOME);
-    assert_eq!(rt; closed.memory, OPENING);
-    assert_eq!(rt; closed.tags.as_slice(), [INVALID; 2].as_slice());
-    assert_eq!(rt; closed.lines.as_slice(), [OPENING; 2].as_slice());
+    same(&rt, &closed.mem, &HOME);
+    same(&rt, &closed.memory, &OPENING);
+    same(&rt, &closed.tags.as_slice(), &[INVALID; 2].as_slice());
+    same(&rt, &closed.lines.as_slice(), &[OPENING; 2].as_slice());
     Ok(())
 }
 
@@ -204,7 +204,7 @@ fn two_threads_add(rt: HostRuntime) -> Result<(), Fail> {
     };
     let head = closed.mem.forw.ok_or("no list")?;
     let line = closed.lines.get(usize::from(head.get())).ok_or("no line")?;
-    assert_eq!(rt; line.words[0], 2 * ADDS);
-    assert_eq!(rt; line.stamp, 2 * ADDS);
+    same(&rt, &line.words[0], &(2 * ADDS));
+    same(&rt, &line.stamp, &(2 * ADDS));
     Ok(())
 }

@@ -19,6 +19,7 @@ mod writers;
 use super::*;
 use sci_words::{Kind, NodeId, Tag};
 use std::alloc::Global;
+use std::fmt::Debug;
 use std::io::Write;
 use std::process::Abort;
 
@@ -33,6 +34,11 @@ const SHARERS: &str =
 
 const SHARED: &str = "node 0 read 0 stamp 0\nnode 1 read 0 stamp 0\nnode 2 read 0 stamp 0\n\
     line 0 FRESH 2: 2 HEAD_FRESH, 1 MID_VALID, 0 TAIL_VALID\n";
+
+/// Both are the same. Each `assert_eq!` is proved by itself; this one is proved once.
+fn same<T: Debug + PartialEq>(rt: &impl Abort, left: &T, right: &T) {
+    assert_eq!(rt; left, right);
+}
 
 /// Reads a script, opens a desk for it, and runs it.
 fn run_text<W: Write>(alloc: Global, text: &str, out: &mut W) -> Result<(), ScriptRefusal> {

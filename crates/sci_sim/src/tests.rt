@@ -14,10 +14,16 @@ use crate::serve::{Form, serve, serve_buffered, serve_script};
 use sci_script::ScriptRefusal;
 use sci_work::WorkRefusal;
 use std::alloc::{AllocError, Global};
+use std::fmt::Debug;
 use std::io;
 use std::io::{BufWriter, ErrorKind, Read, Write};
 use std::process::Abort;
 use std::test::*;
+
+/// Both are the same. Each `assert_eq!` is proved by itself; this one is proved once.
+fn same<T: Debug + PartialEq>(rt: &impl Abort, left: &T, right: &T) {
+    assert_eq!(rt; left, right);
+}
 
 /// Gives one byte a read. Where it is shy, each other read is interrupted.
 #[derive(Drop)]
@@ -177,7 +183,7 @@ fn readers_and_writers_that_fail(rt: HostRuntime) {
     for form in [Form::Script, Form::Trace] {
         let mut out = Vec::new(rt.alloc());
         let end = serve(rt.alloc(), form, &mut Broken, &mut out);
-        assert_eq!(rt; end, Err(SimFault::CannotRead));
+        same(&rt, &end, &Err(SimFault::CannotRead));
         assert!(rt; out.is_empty());
     }
     let mut writer = Narrow {
@@ -186,7 +192,7 @@ fn readers_and_writers_that_fail(rt: HostRuntime) {
         interrupted: false,
     };
     let end = serve_script(rt.alloc(), &mut SHARERS.as_bytes(), &mut writer);
-    assert_eq!(rt; end, Err(SimFault::CannotWrite));
+    same(&rt, &end, &Err(SimFault::CannotWrite));
     assert!(rt; writer.held.as_slice() == &SHARED.as_bytes()[..29]);
 }
 
@@ -271,7 +277,7 @@ fn long_inputs(rt: HostRuntime) -> Result<(), Fail> {
         for form in [Form::Script, Form::Trace] {
             let mut out = Vec::new(rt.alloc());
             let end = serve(rt.alloc(), form, &mut input.as_slice(), &mut out);
-            assert_eq!(rt; end.err(), fault);
+            same(&rt, &end.err(), &fault);
             assert!(rt; out.is_empty());
         }
     }
@@ -300,7 +306,7 @@ fn long_inputs_byte_by_byte(rt: HostRuntime) -> Result<(), Fail> {
         (1_048_576, refused(ScriptRefusal::BadCommand(2))),
         (1_048_577, Some(SimFault::InputTooLong)),
     ] {
-        assert_eq!(rt; fault_by_bytes(rt.alloc(), length, false)?, fault);
+        same(&rt, &fault_by_bytes(rt.alloc(), length, false)?, &fault);
     }
     Ok(())
 }
@@ -312,7 +318,7 @@ fn inputs_of_2_097_152_reads(rt: HostRuntime) -> Result<(), Fail> {
         (1_048_575, refused(ScriptRefusal::BadCommand(2))),
         (1_048_576, Some(SimFault::CannotRead)),
     ] {
-        assert_eq!(rt; fault_by_bytes(rt.alloc(), length, true)?, fault);
+        same(&rt, &fault_by_bytes(rt.alloc(), length, true)?, &fault);
     }
     for (interruptions, fault) in [
         (2_097_151, refused(ScriptRefusal::BadCommand(1))),
@@ -356,6 +362,6 @@ fn texts_and_statuses_of_faults(rt: HostRuntime) -> Result<(), Fail> {
         assert!(rt; shown.as_str() == text, "of {text}");
         assert_eq!(rt; fault.status(), 1, "of {text}");
     }
-    assert_eq!(rt; SimFault::Unlawful.status(), 3);
+    same(&rt, &SimFault::Unlawful.status(), &3);
     Ok(())
 }

@@ -1,5 +1,12 @@
 //! Words worked out by hand from the table of layout 1.
 use super::*;
+use std::fmt::Debug;
+use std::process::Abort;
+
+/// Both are the same. Each `assert_eq!` is proved by itself; this one is proved once.
+fn same<T: Debug + PartialEq>(rt: &impl Abort, left: &T, right: &T) {
+    assert_eq!(rt; left, right);
+}
 
 fn tag(kind: Kind, held: bool, forw: Option<NodeId>, back: Option<NodeId>) -> Tag {
     Tag {
@@ -31,8 +38,8 @@ fn reads_and_writes_tags(rt: HostRuntime) {
     ] {
         assert_eq!(rt; read_tag(word), Ok(want), "at {word:x}");
         assert!(rt; want.well_formed(), "at {word:x}");
-        assert_eq!(rt; write_tag(want), word);
-        assert_eq!(rt; name(want), text);
+        same(&rt, &write_tag(want), &word);
+        same(&rt, &name(want), &text);
     }
 }
 
@@ -46,7 +53,7 @@ fn refuses_tags(rt: HostRuntime) {
         (0xffff11, WordRefusal::HeldNotValid, 5),
     ] {
         assert_eq!(rt; read_tag(word), Err(refusal), "at {word:x}");
-        assert_eq!(rt; refusal.number(), number);
+        same(&rt, &refusal.number(), &number);
     }
 }
 
@@ -61,8 +68,8 @@ fn reads_and_writes_memory_words(rt: HostRuntime) {
     ] {
         assert_eq!(rt; read_mem(word), Ok(want), "at {word:x}");
         assert!(rt; want.well_formed(), "at {word:x}");
-        assert_eq!(rt; write_mem(want), word);
-        assert_eq!(rt; mem_name(want), text);
+        same(&rt, &write_mem(want), &word);
+        same(&rt, &mem_name(want), &text);
     }
 }
 
@@ -74,12 +81,12 @@ fn refuses_memory_words(rt: HostRuntime) {
         (3, WordRefusal::UnknownKind, 1),
     ] {
         assert_eq!(rt; read_mem(word), Err(refusal), "at {word:x}");
-        assert_eq!(rt; refusal.number(), number);
+        same(&rt, &refusal.number(), &number);
     }
 }
 
 #[test]
 fn numbers_nodes(rt: HostRuntime) {
-    assert_eq!(rt; NodeId::new(254).map(NodeId::get), Some(254));
-    assert_eq!(rt; NodeId::new(255), None);
+    same(&rt, &NodeId::new(254).map(NodeId::get), &Some(254));
+    same(&rt, &NodeId::new(255), &None);
 }

@@ -3,6 +3,7 @@ ghost use Rattle.std.specs.Prelude.{◌≡◌, IfSome};
 ghost use Rattle.sci_coarse.specs.Banks.{IsLine};
 ghost use Rattle.sci_coarse.specs.Seats.{IsSeatOf};
 
+use crate::tests::same;
 use crate::{CoarseBank, CoarseLine, Seat};
 use sci_cache::Node;
 use sci_core::{AnyWords, Line};
@@ -38,7 +39,7 @@ fn a_node_works_over_a_bank(rt: HostRuntime) -> Result<(), Fail> {
     let Ok(mut bank) = CoarseBank::new(lines.as_slice(), seats) else {
         panic!(rt; "it was refused")
     };
-    assert_eq!(rt; (bank.node().get(), bank.lines()), (0, 2));
+    same(&rt, &(bank.node().get(), bank.lines()), &(0, 2));
     if bank.lines() != 2 {
         return Ok(());
     }
@@ -48,25 +49,29 @@ fn a_node_works_over_a_bank(rt: HostRuntime) -> Result<(), Fail> {
         words: zeros,
         stamp: 0,
     };
-    assert_eq!(rt; node.load(&rt, &mut bank, 0), Ok(seen));
-    assert_eq!(rt; node.load(&rt, &mut bank, 1), Ok(seen));
-    assert_eq!(rt; node.resident(rt.alloc())?.as_slice(), [1].as_slice());
-    assert_eq!(rt; bank.mem(0).map(|mem| mem.state), Some(MemState::Home));
-    assert_eq!(rt; bank.own(0).map(|tag| tag.kind), Some(Kind::Invalid));
-    assert_eq!(rt; bank.own(1).map(|tag| tag.kind), Some(Kind::Fresh));
+    same(&rt, &node.load(&rt, &mut bank, 0), &Ok(seen));
+    same(&rt, &node.load(&rt, &mut bank, 1), &Ok(seen));
+    same(&rt, &node.resident(rt.alloc())?.as_slice(), &[1].as_slice());
+    same(
+        &rt,
+        &bank.mem(0).map(|mem| mem.state),
+        &Some(MemState::Home),
+    );
+    same(&rt, &bank.own(0).map(|tag| tag.kind), &Some(Kind::Invalid));
+    same(&rt, &bank.own(1).map(|tag| tag.kind), &Some(Kind::Fresh));
     let wrote = Answer::Wrote {
         before: zeros,
         stamp: 1,
     };
-    assert_eq!(rt; node.store(&rt, &mut bank, 1, 0, 7), Ok(wrote));
-    assert_eq!(rt; node.evict(&rt, &mut bank, 1), Ok(Answer::Out));
+    same(&rt, &node.store(&rt, &mut bank, 1, 0, 7), &Ok(wrote));
+    same(&rt, &node.evict(&rt, &mut bank, 1), &Ok(Answer::Out));
     let words = [7, 0, 0, 0, 0, 0, 0, 0];
     let seen = Answer::Seen { words, stamp: 1 };
-    assert_eq!(rt; node.load(&rt, &mut bank, 1), Ok(seen));
+    same(&rt, &node.load(&rt, &mut bank, 1), &Ok(seen));
     let seats = bank.into_seats();
-    assert_eq!(rt; seats.len(), 2);
+    same(&rt, &seats.len(), &2);
     for (place, seat) in seats.iter().enumerate() {
-        assert_eq!(rt; usize::from(seat.number()), place);
+        same(&rt, &usize::from(seat.number()), &place);
     }
     Ok(())
 }
@@ -81,10 +86,10 @@ fn seats_in_another_order_make_no_bank(rt: HostRuntime) -> Result<(), Fail> {
     let Err(refused) = CoarseBank::new(lines.as_slice(), seats) else {
         panic!(rt; "it is no bank")
     };
-    assert_eq!(rt; refused.number(), 9);
-    assert_eq!(rt; refused.seats.len(), 2);
+    same(&rt, &refused.number(), &9);
+    same(&rt, &refused.seats.len(), &2);
     for (number, seat) in [1, 0].iter().zip(refused.seats.iter()) {
-        assert_eq!(rt; seat.number(), *number);
+        same(&rt, &seat.number(), &*number);
     }
     Ok(())
 }
@@ -98,7 +103,7 @@ fn no_seats_make_no_bank(rt: HostRuntime) -> Result<(), Fail> {
     let Err(refused) = CoarseBank::new(lines.as_slice(), seats) else {
         panic!(rt; "it is no bank")
     };
-    assert_eq!(rt; refused.number(), 9);
-    assert_eq!(rt; refused.seats.len(), 0);
+    same(&rt, &refused.number(), &9);
+    same(&rt, &refused.seats.len(), &0);
     Ok(())
 }

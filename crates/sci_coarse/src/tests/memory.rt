@@ -5,7 +5,7 @@ ghost use Rattle.sci_coarse.specs.Seats.{IsSeatOf};
 
 use super::banks::line_of;
 use super::replays::opened;
-use super::turn;
+use super::{same, turn};
 use crate::{CoarseBank, CoarseLine, CoarsePort, Seat};
 use sci_core::{AnyWords, Event, Line, Outcome};
 use sci_ops::{Op, Turn};
@@ -129,7 +129,11 @@ fn calls_on_a_taken_line_take_no_memory(rt: HostRuntime) {
         standing: _,
     } = zero;
     assert!(rt; line.take(&mut token));
-    assert_eq!(rt; calls_of_a_taken(&line, &mut one), (true, Outcome::Busy));
+    same(
+        &rt,
+        &calls_of_a_taken(&line, &mut one),
+        &(true, Outcome::Busy),
+    );
     let last = Vec::<u8>::with_capacity(rt.alloc(), 1);
     assert!(rt; last.is_ok(), "allocation 8 is refused");
 }
@@ -184,7 +188,7 @@ fn banks_take_no_memory(rt: HostRuntime) -> Result<(), Fail> {
         panic!(rt; "it was refused")
     };
     assert!(rt; matches!(turns_in(&mut bank), Some(1_000..)));
-    assert_eq!(rt; bank.into_seats().len(), 2);
+    same(&rt, &bank.into_seats().len(), &2);
     let last = Vec::<u8>::with_capacity(rt.alloc(), 1);
     assert!(rt; last.is_ok(), "allocation 16 is refused");
     Ok(())

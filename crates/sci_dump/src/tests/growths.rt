@@ -1,7 +1,7 @@
 //! Each growth may be refused: its call then answers 7 or an `AllocError`, and a second try has the memory. With ample memory
 //! this test passes. tools/allocations runs it once for each growth of its table, with that one refused, and the test ends by
 //! saying which call answered it.
-use super::SHARED;
+use super::{SHARED, same};
 use crate::{Dump, DumpRefusal, Verdict, check, dump, read_dump};
 use std::alloc::Global;
 use std::process::Abort;
@@ -11,8 +11,8 @@ fn reads(rt: &impl Abort, alloc: Global) -> Result<Dump, Fail> {
     match read_dump(alloc, SHARED.as_bytes()) {
         Ok(read) => Ok(read),
         Err(refusal) => {
-            assert_eq!(rt; refusal, DumpRefusal::OutOfMemory);
-            assert_eq!(rt; refusal.number(), 7);
+            same(rt, &refusal, &DumpRefusal::OutOfMemory);
+            same(rt, &refusal.number(), &7);
             read_dump(alloc, SHARED.as_bytes())?;
             Err(Fail::new("read_dump answered 7"))
         }
@@ -32,6 +32,6 @@ fn writes(rt: &impl Abort, alloc: Global, read: &Dump) -> Result<(), Fail> {
 #[test]
 fn refused_growths(rt: HostRuntime) -> Result<(), Fail> {
     let read = reads(&rt, rt.alloc())?;
-    assert_eq!(rt; check(&read), Verdict::Lawful);
+    same(&rt, &check(&read), &Verdict::Lawful);
     writes(&rt, rt.alloc(), &read)
 }

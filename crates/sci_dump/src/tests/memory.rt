@@ -1,6 +1,6 @@
 //! `check` takes no memory. tools/allocations runs this test with the allocation of its last line refused, and wants it to
 //! fail there, and there alone.
-use super::SHARED;
+use super::{SHARED, same};
 use crate::{Verdict, check, read_dump};
 
 #[test]
@@ -10,7 +10,7 @@ fn checks_take_no_memory(rt: HostRuntime) {
         panic!(rt; "`read_dump` takes more than three allocations")
     };
     // A lawful dump is looked at by every rule.
-    assert_eq!(rt; check(&read), Verdict::Lawful);
+    same(&rt, &check(&read), &Verdict::Lawful);
     let last = Vec::<u8>::with_capacity(rt.alloc(), 1);
     assert!(rt; last.is_ok(), "allocation 4 is refused");
 }

@@ -3,6 +3,7 @@ ghost use Rattle.std.specs.Prelude.{◌≡◌, IfSome};
 ghost use Rattle.sci_fine.specs.Banks.{IsLine};
 ghost use Rattle.sci_fine.specs.Seats.{IsSeatOf};
 
+use crate::tests::same;
 use crate::{FineBank, FineLine, Seat};
 use sci_core::{AnyWords, Line};
 use sci_words::LineNo;
@@ -36,10 +37,14 @@ fn seats_of_two_nodes_make_no_bank(rt: HostRuntime) -> Result<(), Fail> {
     let Err(refused) = FineBank::new(lines.as_slice(), seats) else {
         panic!(rt; "it is no bank")
     };
-    assert_eq!(rt; refused.number(), 9);
-    assert_eq!(rt; refused.seats.len(), 2);
+    same(&rt, &refused.number(), &9);
+    same(&rt, &refused.seats.len(), &2);
     for (number, seat) in [0, 1].iter().zip(refused.seats.iter()) {
-        assert_eq!(rt; (seat.number(), seat.node().get()), (*number, *number));
+        same(
+            &rt,
+            &(seat.number(), seat.node().get()),
+            &(*number, *number),
+        );
     }
     Ok(())
 }
@@ -54,10 +59,10 @@ fn seats_in_another_order_make_no_bank(rt: HostRuntime) -> Result<(), Fail> {
     let Err(refused) = FineBank::new(lines.as_slice(), seats) else {
         panic!(rt; "it is no bank")
     };
-    assert_eq!(rt; refused.number(), 9);
-    assert_eq!(rt; refused.seats.len(), 2);
+    same(&rt, &refused.number(), &9);
+    same(&rt, &refused.seats.len(), &2);
     for (number, seat) in [1, 0].iter().zip(refused.seats.iter()) {
-        assert_eq!(rt; (seat.number(), seat.node().get()), (*number, 0));
+        same(&rt, &(seat.number(), seat.node().get()), &(*number, 0));
     }
     Ok(())
 }
@@ -71,7 +76,7 @@ fn no_seats_make_no_bank(rt: HostRuntime) -> Result<(), Fail> {
     let Err(refused) = FineBank::new(lines.as_slice(), seats) else {
         panic!(rt; "it is no bank")
     };
-    assert_eq!(rt; refused.number(), 9);
-    assert_eq!(rt; refused.seats.len(), 0);
+    same(&rt, &refused.number(), &9);
+    same(&rt, &refused.seats.len(), &0);
     Ok(())
 }

@@ -1,7 +1,7 @@
 //! Each growth may be refused: its call then answers 7, all is as before, and a second try has the memory. With ample memory
 //! this test passes. tools/allocations runs it once for each growth of its table, with that one refused, and the test ends by
 //! saying which call answered it.
-use super::{HOME, OPENING, is_idle};
+use super::{HOME, OPENING, is_idle, same};
 use crate::{FineLine, FinishRefusal, Seat};
 use sci_core::{AnyWords, Closed, OpenRefusal};
 use std::alloc::Global;
@@ -9,24 +9,24 @@ use std::process::Abort;
 use std::test::Fail;
 
 fn is_unused(rt: &impl Abort, closed: &Closed) {
-    assert_eq!(rt; closed.mem, HOME);
-    assert_eq!(rt; closed.memory, OPENING);
-    assert_eq!(rt; closed.lines.as_slice(), [OPENING; 2].as_slice());
+    same(rt, &closed.mem, &HOME);
+    same(rt, &closed.memory, &OPENING);
+    same(rt, &closed.lines.as_slice(), &[OPENING; 2].as_slice());
 }
 
 fn are_as_before(rt: &impl Abort, seats: &[Seat<AnyWords>]) {
-    assert_eq!(rt; seats.len(), 2);
+    same(rt, &seats.len(), &2);
     for (place, seat) in seats.iter().enumerate() {
-        assert_eq!(rt; usize::from(seat.node().get()), place);
-        assert_eq!(rt; seat.number(), 7);
+        same(rt, &usize::from(seat.node().get()), &place);
+        same(rt, &seat.number(), &7);
         assert!(rt; is_idle(seat));
     }
 }
 
 // A second try to open has the memory.
 fn opens_again(rt: &impl Abort, alloc: Global, refusal: OpenRefusal) -> Result<(), Fail> {
-    assert_eq!(rt; refusal, OpenRefusal::OutOfMemory);
-    assert_eq!(rt; refusal.number(), 7);
+    same(rt, &refusal, &OpenRefusal::OutOfMemory);
+    same(rt, &refusal.number(), &7);
     let (_, seats) = FineLine::new(alloc, 2, 7, OPENING, AnyWords)?;
     are_as_before(rt, &seats);
     Err(Fail::new("new answered 7"))
@@ -46,7 +46,7 @@ fn refuses(rt: &impl Abort, alloc: Global) -> Result<(), Fail> {
                 refusal,
             },
         ) => {
-            assert_eq!(rt; refusal, 7);
+            same(rt, &refusal, &7);
             are_as_before(rt, &seats);
             let Ok(closed) = line.finish(alloc, seats) else {
                 panic!(rt; "it was refused again")

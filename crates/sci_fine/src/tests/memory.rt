@@ -5,7 +5,7 @@ ghost use Rattle.sci_fine.specs.Seats.{IsSeatOf};
 
 use super::banks::pair_of;
 use super::replays::opened;
-use super::turn;
+use super::{same, turn};
 use crate::{FineBank, FineLine, FinePort, Seat};
 use sci_core::{AnyWords, Event, Line, Outcome};
 use sci_ops::{Op, Turn};
@@ -157,7 +157,7 @@ fn banks_take_no_memory(rt: HostRuntime) -> Result<(), Fail> {
         panic!(rt; "it was refused")
     };
     assert!(rt; matches!(turns_in(&mut bank), Some(1_000..)));
-    assert_eq!(rt; bank.into_seats().len(), 2);
+    same(&rt, &bank.into_seats().len(), &2);
     let last = Vec::<u8>::with_capacity(rt.alloc(), 1);
     assert!(rt; last.is_ok(), "allocation 12 is refused");
     Ok(())

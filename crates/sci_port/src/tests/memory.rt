@@ -4,7 +4,7 @@ ghost use Rattle.std.specs.Prelude.{IsTrue};
 ghost use Rattle.sci_core.specs.declared.keeps.AnyWords.{AnyWords};
 ghost use Rattle.sci_port.specs.Banks.{AreLinesOf};
 
-use super::{LINE, fresh};
+use super::{LINE, fresh, same};
 use crate::recording::{Recorder, Trace};
 use crate::{AnyWords, At, Bank, Port, SoloBank};
 use sci_core::{Event, Outcome, Whole};
@@ -123,10 +123,10 @@ fn ports_and_banks_take_no_memory(rt: HostRuntime) {
     }
     let mut bank = SoloBank::new(wholes, me);
     let mut trace = Trace::new(room);
-    assert_eq!(rt; rounds(&mut bank, &mut trace), Some(ROUNDS));
-    assert_eq!(rt; trace.events(), None);
+    same(&rt, &rounds(&mut bank, &mut trace), &Some(ROUNDS));
+    same(&rt, &trace.events(), &None);
     bank.seat(me);
-    assert_eq!(rt; bank.into_wholes().len(), 2);
+    same(&rt, &bank.into_wholes().len(), &2);
     let last = Vec::<u8>::with_capacity(rt.alloc(), 1);
     assert!(rt; last.is_ok(), "allocation 9 is refused");
 }

@@ -2,6 +2,7 @@
 ghost use Rattle.std.specs.Prelude.{◌≡◌};
 
 use crate::commands::Size;
+use crate::tests::same;
 use crate::{Desk, ScriptRefusal, read_script};
 use sci_cache::Request;
 use sci_ops::{Answer, Turn};
@@ -85,7 +86,7 @@ fn what_is_not_to_be_had(rt: HostRuntime) -> Result<(), Fail> {
         };
         let mut out = Vec::new(rt.alloc());
         let end = script.run(rt.alloc(), &mut odd, &mut out);
-        assert_eq!(rt; end, Err(ScriptRefusal::NotDone(line)));
+        same(&rt, &end, &Err(ScriptRefusal::NotDone(line)));
         assert!(rt; out.is_empty());
     }
     Ok(())

@@ -1,5 +1,5 @@
 //! Scripts of 1,048,576 bytes, of as many commands, openings, lines, words, blanks or digits as have room in them.
-use super::run_text;
+use super::{run_text, same};
 use crate::ScriptRefusal;
 use std::alloc::{AllocError, Global};
 use std::test::Fail;
@@ -80,7 +80,7 @@ fn filled(
 fn the_largest_scripts_of_each_kind(rt: HostRuntime) -> Result<(), Fail> {
     for case in &CASES {
         let script = filled(rt.alloc(), case.front, case.piece, case.end)?;
-        assert_eq!(rt; script.len(), BYTES);
+        same(&rt, &script.len(), &BYTES);
         let text = filled(rt.alloc(), "", case.printed, "")?;
         let mut out = Vec::new(rt.alloc());
         let end = run_text(rt.alloc(), &script, &mut out);

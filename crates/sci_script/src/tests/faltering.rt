@@ -1,7 +1,7 @@
 //! Writers that falter once and would then go on: the fault is told at once, and nothing is written behind it.
 ghost use Rattle.std.specs.Prelude.{Some};
 
-use super::{SHARED, SHARERS, run_text};
+use super::{SHARED, SHARERS, run_text, same};
 use crate::{ScriptRefusal, put};
 use std::io;
 use std::io::{ErrorKind, Write};
@@ -101,6 +101,6 @@ fn writes_of_2_097_152_tries(rt: HostRuntime) {
         };
         let end = put(&mut writer, b"list");
         assert_eq!(rt; end.is_ok(), is_written, "behind {interruptions}");
-        assert_eq!(rt; writer.held.len(), if is_written { 4 } else { 0 });
+        same(&rt, &writer.held.len(), &if is_written { 4 } else { 0 });
     }
 }

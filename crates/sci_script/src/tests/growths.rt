@@ -6,7 +6,7 @@ ghost use Rattle.std.specs.Prelude.{None};
 
 use super::banks::are_banks;
 use super::unheard::unheard_bank;
-use super::{node, tag};
+use super::{node, same, tag};
 use crate::{BankDesk, Script, ScriptRefusal, WholeDesk, list_text, read_script, tag_text};
 use sci_words::{Kind, Mem, MemState};
 use std::alloc::{AllocError, Global};
@@ -60,8 +60,8 @@ fn reads(rt: &impl Abort, alloc: Global) -> Result<Script, Fail> {
     match read_script(alloc, SCRIPT.as_bytes()) {
         Ok(script) => Ok(script),
         Err(refusal) => {
-            assert_eq!(rt; refusal, ScriptRefusal::OutOfMemory);
-            assert_eq!(rt; refusal.number(), 7);
+            same(rt, &refusal, &ScriptRefusal::OutOfMemory);
+            same(rt, &refusal.number(), &7);
             read_script(alloc, SCRIPT.as_bytes())?;
             Err(Fail::new("read_script answered 7"))
         }
@@ -83,7 +83,7 @@ fn runs(rt: &impl Abort, alloc: Global, script: &Script) -> Result<(), Fail> {
             Ok(())
         }
         Err(refusal) => {
-            assert_eq!(rt; refusal, ScriptRefusal::OutOfMemory);
+            same(rt, &refusal, &ScriptRefusal::OutOfMemory);
             assert!(rt; out.length < TEXT.len());
             assert!(rt; is_front(out.text(), TEXT.as_bytes()));
             Err(Fail::new("run answered 7"))
@@ -144,7 +144,7 @@ fn seats(rt: &impl Abort, alloc: Global, script: &Script) -> Result<(), Fail> {
             Ok(())
         }
         Err(none) => {
-            assert_eq!(rt; none.number(), 7);
+            same(rt, &none.number(), &7);
             assert!(rt; are_banks(script, &none.banks));
             if let Ok(desk) = BankDesk::new(alloc, script, none.banks) {
                 assert!(rt; are_banks(script, &desk.into_banks()));
@@ -160,8 +160,8 @@ fn seats(rt: &impl Abort, alloc: Global, script: &Script) -> Result<(), Fail> {
 fn refused_growths(rt: HostRuntime) -> Result<(), Fail> {
     let alloc = rt.alloc();
     let script = reads(&rt, alloc)?;
-    assert_eq!(rt; (script.nodes(), script.lines()), (1, 1));
-    assert_eq!(rt; script.capacity(), 1024);
+    same(&rt, &(script.nodes(), script.lines()), &(1, 1));
+    same(&rt, &script.capacity(), &1024);
     runs(&rt, alloc, &script)?;
     lists(&rt, alloc)?;
     shows(&rt, alloc)?;

@@ -1,7 +1,7 @@
 //! Texts of more than 2,000 bytes, through writers that take little at a time or are interrupted: what arrives is the whole text.
 ghost use Rattle.std.specs.Prelude.{Some};
 
-use super::{NODES, run_text};
+use super::{NODES, run_text, same};
 use crate::put;
 use std::alloc::{AllocError, Global};
 use std::io;
@@ -103,7 +103,7 @@ fn a_long_text_arrives(rt: HostRuntime) -> Result<(), Fail> {
     assert!(rt; text.len() > 2_000);
     for pace in PACES {
         let mut writer = writer_of(rt.alloc(), pace);
-        assert_eq!(rt; run_text(rt.alloc(), &script, &mut writer), Ok(()));
+        same(&rt, &run_text(rt.alloc(), &script, &mut writer), &Ok(()));
         assert!(rt; writer.held.as_slice() == text.as_bytes());
     }
     Ok(())

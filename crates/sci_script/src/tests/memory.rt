@@ -4,6 +4,7 @@ ghost use Rattle.std.specs.Prelude.{◌≡◌, ◌<◌, false, None};
 ghost use Rattle.sci_cache.specs.Requests.{line_of, has_bad_word};
 
 use crate::running::is_end;
+use crate::tests::same;
 use crate::{Desk, Script, WholeDesk, put, read_script};
 use sci_cache::Request;
 use sci_words::{LineNo, NodeId};
@@ -121,7 +122,7 @@ fn readers_and_turns_take_no_memory(rt: HostRuntime) {
     let Ok(mut desk) = WholeDesk::open(rt.alloc(), &script) else {
         panic!(rt; "no desk")
     };
-    assert_eq!(rt; reads(&script), (NODES, 2, [9, 4, 0]));
+    same(&rt, &reads(&script), &(NODES, 2, [9, 4, 0]));
     assert!(rt; enter(&script, &mut desk) == Some(()));
     assert!(rt; matches!(turns(&script, &mut desk, 100_000), Some(1_000..)));
     let mut out = Counter {
@@ -129,7 +130,7 @@ fn readers_and_turns_take_no_memory(rt: HostRuntime) {
         interrupted: false,
     };
     assert!(rt; put(&mut out, SCRIPT).is_ok());
-    assert_eq!(rt; out.bytes, SCRIPT.len());
+    same(&rt, &out.bytes, &SCRIPT.len());
     let last = Vec::<u8>::with_capacity(rt.alloc(), 1);
     assert!(rt; last.is_ok(), "allocation 468 is refused");
 }

@@ -1,5 +1,5 @@
 //! The largest script: 1,048,576 bytes, 64 nodes, 1,024 lines, and an opening for each of them.
-use super::{NODES, run_text};
+use super::{NODES, run_text, same};
 use std::alloc::{AllocError, Global};
 use std::test::Fail;
 
@@ -48,9 +48,9 @@ fn largest(alloc: Global) -> Result<(String, String), AllocError> {
 #[test]
 fn the_largest_script(rt: HostRuntime) -> Result<(), Fail> {
     let (script, text) = largest(rt.alloc())?;
-    assert_eq!(rt; script.len(), BYTES);
+    same(&rt, &script.len(), &BYTES);
     let mut out = Vec::new(rt.alloc());
-    assert_eq!(rt; run_text(rt.alloc(), &script, &mut out), Ok(()));
+    same(&rt, &run_text(rt.alloc(), &script, &mut out), &Ok(()));
     assert!(rt; out.as_slice() == text.as_bytes());
     Ok(())
 }

@@ -1,7 +1,7 @@
 //! Writers that fail, and the lines that are printed.
 ghost use Rattle.std.specs.Prelude.{Some};
 
-use super::{SHARED, SHARERS, node, run_text, tag};
+use super::{SHARED, SHARERS, node, run_text, same, tag};
 use crate::{ScriptRefusal, WholeDesk, list_text, read_script, tag_text};
 use sci_core::Line;
 use sci_words::{Kind, Mem, MemState};
@@ -41,8 +41,8 @@ fn a_failing_writer_has_a_front_of_the_text(rt: HostRuntime) {
         let held = Vec::new(rt.alloc());
         let mut writer = Narrow { held, room };
         let end = run_text(rt.alloc(), SHARERS, &mut writer);
-        assert_eq!(rt; end, Err(ScriptRefusal::WriteFailed));
-        assert_eq!(rt; ScriptRefusal::WriteFailed.number(), 24);
+        same(&rt, &end, &Err(ScriptRefusal::WriteFailed));
+        same(&rt, &ScriptRefusal::WriteFailed.number(), &24);
         assert!(rt; writer.held.as_slice() == &text[..room], "of {room} bytes");
     }
 }
@@ -79,13 +79,13 @@ fn with_ample_memory(rt: HostRuntime) -> Result<(), Fail> {
         rt.alloc(),
         b"memory 2 3\nopen 1 4 1 2 3 4 5 6 7 8\nlist 1\n",
     )?;
-    assert_eq!(rt; (script.nodes(), script.lines()), (2, 3));
+    same(&rt, &(script.nodes(), script.lines()), &(2, 3));
     let words = [1, 2, 3, 4, 5, 6, 7, 8];
-    assert_eq!(rt; script.opening(1), Line { words, stamp: 4 });
-    assert_eq!(rt; script.opening(2), Line::ZERO);
+    same(&rt, &script.opening(1), &Line { words, stamp: 4 });
+    same(&rt, &script.opening(2), &Line::ZERO);
     let mut desk = WholeDesk::open(rt.alloc(), &script)?;
     let mut out = Vec::new(rt.alloc());
-    assert_eq!(rt; script.run(rt.alloc(), &mut desk, &mut out), Ok(()));
+    same(&rt, &script.run(rt.alloc(), &mut desk, &mut out), &Ok(()));
     assert!(rt; out.as_slice() == b"line 1 HOME\n".as_slice());
     Ok(())
 }

@@ -1,6 +1,6 @@
 //! Dumps that `scisim check` reads, and what it writes.
 
-use super::{Broken, Narrow, OneByte};
+use super::{Broken, Narrow, OneByte, same};
 use crate::checking::serve_check;
 use crate::faults::SimFault;
 use std::alloc::Global;
@@ -113,7 +113,7 @@ const THREE_LISTS: &str = "line 0 HOME\n\
 #[test]
 fn several_lines(rt: HostRuntime) -> Result<(), Fail> {
     let (end, out) = checked(rt.alloc(), THREE_LINES.as_bytes());
-    assert_eq!(rt; end, None);
+    same(&rt, &end, &None);
     assert!(rt; out.as_slice() == THREE_LISTS.as_bytes());
     let broken = THREE_LINES.replacen(
         rt.alloc(),
@@ -122,11 +122,11 @@ fn several_lines(rt: HostRuntime) -> Result<(), Fail> {
         1,
     )?;
     let (end, out) = checked(rt.alloc(), broken.as_bytes());
-    assert_eq!(rt; end, Some(SimFault::Unlawful));
+    same(&rt, &end, &Some(SimFault::Unlawful));
     assert!(rt; out.as_slice() == "line 2 breaks C6\n".as_bytes());
     let broken = broken.replacen(rt.alloc(), "0000000000000102", "0000000000000112", 1)?;
     let (end, out) = checked(rt.alloc(), broken.as_bytes());
-    assert_eq!(rt; end, Some(SimFault::Unlawful));
+    same(&rt, &end, &Some(SimFault::Unlawful));
     assert!(rt; out.as_slice() == "line 1 breaks C1\n".as_bytes());
     Ok(())
 }
@@ -146,7 +146,7 @@ fn dumps_that_are_cut(rt: HostRuntime) -> Result<(), Fail> {
         }
     }
     let (end, _) = checked(rt.alloc(), &cut);
-    assert_eq!(rt; end, None);
+    same(&rt, &end, &None);
     Ok(())
 }
 
@@ -163,7 +163,7 @@ fn checks_of_one_byte_at_a_time(rt: HostRuntime) {
     assert!(rt; out.as_slice() == LAWFUL.as_bytes());
     let mut out = Vec::new(rt.alloc());
     let end = serve_check(rt.alloc(), &mut Broken, &mut out);
-    assert_eq!(rt; end, Err(SimFault::CannotRead));
+    same(&rt, &end, &Err(SimFault::CannotRead));
     assert!(rt; out.is_empty());
 }
 
@@ -208,7 +208,7 @@ fn long_dumps(rt: HostRuntime) -> Result<(), Fail> {
         let mut dump = Vec::from_slice(rt.alloc(), SHARED.as_bytes())?;
         dump.resize(length, b' ')?;
         let (end, out) = checked(rt.alloc(), &dump);
-        assert_eq!(rt; end, Some(fault));
+        same(&rt, &end, &Some(fault));
         assert!(rt; out.is_empty());
     }
     Ok(())

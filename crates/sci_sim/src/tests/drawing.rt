@@ -1,6 +1,6 @@
 //! The command `draw`: its page has what `trace` writes, and its faults are those of `script`.
 
-use super::SHARERS;
+use super::{SHARERS, same};
 use crate::serve::{serve_draw, serve_script, serve_trace};
 use std::test::Fail;
 
@@ -26,15 +26,17 @@ fn has_text(page: &[u8], empty: &[u8], front: usize, text: &[u8]) -> bool {
 #[test]
 fn a_page_has_the_trace(rt: HostRuntime) -> Result<(), Fail> {
     let mut empty = Vec::new(rt.alloc());
-    assert_eq!(rt;
-        serve_draw(rt.alloc(), &mut "memory 1 1\n".as_bytes(), &mut empty),
-        Ok(())
+    same(
+        &rt,
+        &serve_draw(rt.alloc(), &mut "memory 1 1\n".as_bytes(), &mut empty),
+        &Ok(()),
     );
     let mut listed = Vec::new(rt.alloc());
     let list = "memory 1 1\nlist 0\n";
-    assert_eq!(rt;
-        serve_draw(rt.alloc(), &mut list.as_bytes(), &mut listed),
-        Ok(())
+    same(
+        &rt,
+        &serve_draw(rt.alloc(), &mut list.as_bytes(), &mut listed),
+        &Ok(()),
     );
     let front = empty
         .iter()

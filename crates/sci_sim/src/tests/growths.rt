@@ -12,6 +12,7 @@ use crate::faults::SimFault;
 use crate::running::serve_run;
 use crate::serve::serve_trace;
 use crate::settings::{Settings, SettingsRefusal, read_settings};
+use crate::tests::same;
 use sci_script::ScriptRefusal;
 use sci_work::WorkRefusal;
 use std::alloc::Global;
@@ -75,10 +76,14 @@ fn checks(rt: &impl Abort, alloc: Global) -> Result<(), Fail> {
         assert!(rt; out.text() == LAWFUL.as_bytes());
         return Ok(());
     }
-    assert_eq!(rt; end, Some(SimFault::Refused(ScriptRefusal::OutOfMemory)));
-    assert_eq!(rt; out.length, 0);
+    same(
+        rt,
+        &end,
+        &Some(SimFault::Refused(ScriptRefusal::OutOfMemory)),
+    );
+    same(rt, &out.length, &0);
     let (end, out) = checked(alloc);
-    assert_eq!(rt; end, None);
+    same(rt, &end, &None);
     assert!(rt; out.text() == LAWFUL.as_bytes());
     Err(Fail::new("serve_check answered 7"))
 }
@@ -103,8 +108,8 @@ fn reads(rt: &impl Abort, alloc: Global) -> Result<(), Fail> {
     if read == Ok(true) {
         return Ok(());
     }
-    assert_eq!(rt; read, Err(SettingsRefusal::OutOfMemory));
-    assert_eq!(rt; are_read(alloc), Ok(true));
+    same(rt, &read, &Err(SettingsRefusal::OutOfMemory));
+    same(rt, &are_read(alloc), &Ok(true));
     Err(Fail::new("read_settings answered 7"))
 }
 
@@ -132,11 +137,15 @@ fn traces(rt: &impl Abort, alloc: Global) -> Result<(), Fail> {
         assert!(rt; out.text() == TOLD.as_bytes());
         return Ok(());
     }
-    assert_eq!(rt; end, Some(SimFault::Refused(ScriptRefusal::OutOfMemory)));
+    same(
+        rt,
+        &end,
+        &Some(SimFault::Refused(ScriptRefusal::OutOfMemory)),
+    );
     assert!(rt; out.length < TOLD.len());
     assert!(rt; is_front(out.text(), TOLD.as_bytes()));
     let (end, out) = traced(alloc);
-    assert_eq!(rt; end, None);
+    same(rt, &end, &None);
     assert!(rt; out.text() == TOLD.as_bytes());
     Err(Fail::new("serve_trace answered 7"))
 }
@@ -154,14 +163,18 @@ fn runs<T: Abort + Threads + Wait + Sync>(rt: &T, alloc: Global) -> Result<(), F
         assert!(rt; out.text() == ALONE_COUNTED.as_bytes());
         return Ok(());
     }
-    assert_eq!(rt; out.length, 0);
+    same(rt, &out.length, &0);
     let (again, out) = ran(rt, alloc);
-    assert_eq!(rt; again, None);
+    same(rt, &again, &None);
     assert!(rt; out.text() == ALONE_COUNTED.as_bytes());
     if end == Some(SimFault::NoRun(WorkRefusal::NoThread)) {
         return Err(Fail::new("serve_run answered 26"));
     }
-    assert_eq!(rt; end, Some(SimFault::Refused(ScriptRefusal::OutOfMemory)));
+    same(
+        rt,
+        &end,
+        &Some(SimFault::Refused(ScriptRefusal::OutOfMemory)),
+    );
     Err(Fail::new("serve_run answered 7"))
 }
 

@@ -1,6 +1,6 @@
 //! Settings that `scisim run` runs, and what it writes.
 
-use super::{Broken, Narrow, OneByte};
+use super::{Broken, Narrow, OneByte, same};
 use crate::checking::serve_check;
 use crate::faults::SimFault;
 use crate::running::serve_run;
@@ -148,7 +148,7 @@ fn items_come_out_in_order(rt: HostRuntime) -> Result<(), Fail> {
     let taken = threes(rt.alloc(), 100, " ", "")?;
     let text = format!(in rt.alloc(); "items{taken}\n")?;
     let (end, out) = ran(&rt, rt.alloc(), settings.as_bytes());
-    assert_eq!(rt; end, None);
+    same(&rt, &end, &None);
     assert!(rt; out.as_slice() == text.as_bytes());
     Ok(())
 }
@@ -206,7 +206,7 @@ fn settings_that_are_22(rt: HostRuntime) -> Result<(), Fail> {
         assert!(rt; out.is_empty());
     }
     let (end, _) = ran(&rt, rt.alloc(), b"work = \"count\xff\"");
-    assert_eq!(rt; end, Some(SimFault::NoRun(WorkRefusal::BadSettings)));
+    same(&rt, &end, &Some(SimFault::NoRun(WorkRefusal::BadSettings)));
     Ok(())
 }
 
@@ -220,7 +220,7 @@ fn long_settings(rt: HostRuntime) -> Result<(), Fail> {
         let mut settings = Vec::from_slice(rt.alloc(), COUNT.as_bytes())?;
         settings.resize(length, b'\n')?;
         let (end, out) = ran(&rt, rt.alloc(), &settings);
-        assert_eq!(rt; end, fault);
+        same(&rt, &end, &fault);
         assert!(rt; out.as_slice() == text.as_bytes());
     }
     Ok(())
@@ -239,7 +239,7 @@ fn runs_of_one_byte_at_a_time(rt: HostRuntime) {
     assert!(rt; out.as_slice() == ALONE_COUNTED.as_bytes());
     let mut out = Vec::new(rt.alloc());
     let end = serve_run(&rt, rt.alloc(), &mut Broken, &mut out);
-    assert_eq!(rt; end, Err(SimFault::CannotRead));
+    same(&rt, &end, &Err(SimFault::CannotRead));
     assert!(rt; out.is_empty());
 }
 

@@ -1,6 +1,7 @@
 //! Settings that are read, and settings that are refused.
 
 use crate::settings::{Settings, SettingsRefusal, read_settings};
+use crate::tests::same;
 use std::alloc::{AllocError, Global};
 use std::process::Abort;
 use std::test::Fail;
@@ -75,7 +76,7 @@ fn has_key(entries: &[Entry], place: usize, wanted: &str) -> bool {
 
 fn assert_refused(rt: &impl Abort, alloc: Global, text: &[u8]) {
     let refusal = read_settings(alloc, text).err();
-    assert_eq!(rt; refusal, Some(SettingsRefusal::BadSettings));
+    same(rt, &refusal, &Some(SettingsRefusal::BadSettings));
 }
 
 /// Without the key `dump`, no dump is wanted. Without any other there are no settings.

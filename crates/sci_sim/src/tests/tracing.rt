@@ -1,6 +1,6 @@
 //! The command `trace`: what it says of a script's turns, and that it does else what `script` does.
 
-use super::SHARERS;
+use super::{SHARERS, same};
 use crate::faults::SimFault;
 use crate::serve::{serve_script, serve_trace};
 use std::alloc::{AllocError, Global};
@@ -61,7 +61,7 @@ fn traced(alloc: Global, script: &[u8]) -> Result<(Option<SimFault>, Vec<u8>), A
 fn a_walk_is_told(rt: HostRuntime) {
     let mut out = Vec::new(rt.alloc());
     let end = serve_trace(rt.alloc(), &mut LEAVER.as_bytes(), &mut out);
-    assert_eq!(rt; end, Ok(()));
+    same(&rt, &end, &Ok(()));
     assert!(rt; out.as_slice() == LEAVER_TOLD.as_bytes());
 }
 

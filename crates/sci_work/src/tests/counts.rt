@@ -1,5 +1,6 @@
 //! Nodes that count.
 use crate::tests::meeting::MeetingGate;
+use crate::tests::same;
 use crate::{Gate, OpenGate, WorkRefusal, count};
 use std::test::Fail;
 
@@ -7,9 +8,9 @@ use std::test::Fail;
 fn nodes_count(rt: HostRuntime) -> Result<(), Fail> {
     for (nodes, adds, word) in [(4, 1000, 4000), (64, 10, 640), (1, 3, 3), (2, 0, 0)] {
         let (found, closed) = count(&rt, rt.alloc(), nodes, adds, 1, &OpenGate)?;
-        assert_eq!(rt; found, word);
-        assert_eq!(rt; closed.len(), 1);
-        assert_eq!(rt; closed[0].tags.len(), usize::from(nodes));
+        same(&rt, &found, &word);
+        same(&rt, &closed.len(), &1);
+        same(&rt, &closed[0].tags.len(), &usize::from(nodes));
     }
     Ok(())
 }
@@ -18,7 +19,7 @@ fn nodes_count(rt: HostRuntime) -> Result<(), Fail> {
 fn nodes_in_threads_of_their_own_meet(rt: HostRuntime) -> Result<(), Fail> {
     let gate = MeetingGate::new(1_000_000);
     let (word, _) = count(&rt, rt.alloc(), 2, 1, 1, &gate)?;
-    assert_eq!(rt; word, 2);
+    same(&rt, &word, &2);
     assert!(rt; gate.has_met());
     Ok(())
 }

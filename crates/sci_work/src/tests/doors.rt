@@ -3,6 +3,7 @@ ghost use Rattle.std.specs.Prelude.{◌<◌, ◌≤◌};
 ghost use Rattle.sci_work.specs.Ring.{FitsRing};
 
 use crate::tests::rings::opened;
+use crate::tests::same;
 use crate::{Gate, RingFact, WorkRefusal, consume, produce};
 use sci_cache::Node;
 use sci_ops::Answer;
@@ -139,9 +140,9 @@ fn a_call_is_asked_for_and_ends(rt: HostRuntime) -> Result<(), Fail> {
         let found = worked(&rt, rt.alloc(), &[7], produces, item, 0, &gate, &stop).ok_or(
             "no bank",
         )?;
-        assert_eq!(rt; found.refusal, None);
-        assert_eq!(rt; (found.first, found.count), (1, count));
-        assert_eq!(rt; gate.heard(), Some((calls, calls)));
+        same(&rt, &found.refusal, &None);
+        same(&rt, &(found.first, found.count), &(1, count));
+        same(&rt, &gate.heard(), &Some((calls, calls)));
     }
     assert!(rt; !stop.load(Ordering::SeqCst));
     Ok(())
@@ -166,8 +167,8 @@ fn no_call_begins_at_a_shut_gate(rt: HostRuntime) -> Result<(), Fail> {
             first,
             count: 0,
         };
-        assert_eq!(rt; found, want);
-        assert_eq!(rt; gate.heard(), Some((from + 3, from)));
+        same(&rt, &found, &want);
+        same(&rt, &gate.heard(), &Some((from + 3, from)));
         assert!(rt; stop.load(Ordering::SeqCst));
     }
     Ok(())
@@ -189,8 +190,8 @@ fn no_call_begins_at_a_raised_mark(rt: HostRuntime) -> Result<(), Fail> {
         let found = worked(&rt, rt.alloc(), &[7], produces, None, 0, &gate, &stop).ok_or(
             "no bank",
         )?;
-        assert_eq!(rt; found, STOPPED);
-        assert_eq!(rt; gate.heard(), Some((0, 0)));
+        same(&rt, &found, &STOPPED);
+        same(&rt, &gate.heard(), &Some((0, 0)));
     }
     Ok(())
 }
@@ -228,8 +229,8 @@ fn no_call_begins_at_a_mark_raised_meanwhile(rt: HostRuntime) -> Result<(), Fail
         let found = worked(&rt, rt.alloc(), &[7], produces, None, 0, &gate, &stop).ok_or(
             "no bank",
         )?;
-        assert_eq!(rt; found, STOPPED);
-        assert_eq!(rt; gate.hears.ended.load(Ordering::SeqCst), 0);
+        same(&rt, &found, &STOPPED);
+        same(&rt, &gate.hears.ended.load(Ordering::SeqCst), &0);
     }
     Ok(())
 }
@@ -249,8 +250,8 @@ fn a_worker_waits_for_the_other(rt: HostRuntime) -> Result<(), Fail> {
             first,
             count: 0,
         };
-        assert_eq!(rt; found, want);
-        assert_eq!(rt; gate.heard(), Some((12, 9)));
+        same(&rt, &found, &want);
+        same(&rt, &gate.heard(), &Some((12, 9)));
     }
     Ok(())
 }
@@ -278,9 +279,9 @@ fn who_refuses_has_raised_the_mark(rt: HostRuntime) -> Result<(), Fail> {
         let found = worked(&rt, rt.alloc(), items, produces, item, stamp, &gate, &stop).ok_or(
             "no bank",
         )?;
-        assert_eq!(rt; found.refusal, Some(refusal));
-        assert_eq!(rt; found.count, 0);
-        assert_eq!(rt; gate.heard(), Some((calls, calls)));
+        same(&rt, &found.refusal, &Some(refusal));
+        same(&rt, &found.count, &0);
+        same(&rt, &gate.heard(), &Some((calls, calls)));
         assert!(rt; stop.load(Ordering::SeqCst));
     }
     Ok(())

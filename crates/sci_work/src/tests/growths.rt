@@ -2,6 +2,7 @@
 //! node's thread: the answer is 26. With ample memory this test passes. tools/allocations runs it once for each growth of its table,
 //! with that one refused, and the test ends by saying which call answered it.
 use crate::tests::rings::opened;
+use crate::tests::same;
 use crate::{OpenGate, RingFact, WorkRefusal, consume, count, produce, ring, stencil};
 use sci_cache::Node;
 use sci_words::NodeId;
@@ -22,28 +23,28 @@ fn told<R: Abort>(
     if refusal == WorkRefusal::NoThread {
         return Fail::new(no_thread);
     }
-    assert_eq!(rt; refusal, WorkRefusal::OutOfMemory);
+    same(rt, &refusal, &WorkRefusal::OutOfMemory);
     Fail::new(no_memory)
 }
 
 fn counts<R: Abort + Threads + Wait + Sync>(rt: &R, alloc: Global) -> Result<(), WorkRefusal> {
     let (word, closed) = count(rt, alloc, 1, 2, 1, &OpenGate)?;
-    assert_eq!(rt; word, 2);
-    assert_eq!(rt; closed.len(), 1);
+    same(rt, &word, &2);
+    same(rt, &closed.len(), &1);
     Ok(())
 }
 
 fn takes_in<R: Abort + Threads + Wait + Sync>(rt: &R, alloc: Global) -> Result<(), WorkRefusal> {
     let (cells, closed) = stencil(rt, alloc, &[1; 7], 1, 1, 1, &OpenGate)?;
-    assert_eq!(rt; cells.as_slice(), [2, 3, 3, 3, 3, 3, 2].as_slice());
-    assert_eq!(rt; closed.len(), 2);
+    same(rt, &cells.as_slice(), &[2, 3, 3, 3, 3, 3, 2].as_slice());
+    same(rt, &closed.len(), &2);
     Ok(())
 }
 
 fn passes<R: Abort + Threads + Wait + Sync>(rt: &R, alloc: Global) -> Result<(), WorkRefusal> {
     let (items, closed) = ring(rt, alloc, &[7, 8], 1, 2, &OpenGate)?;
-    assert_eq!(rt; items.as_slice(), [7, 8].as_slice());
-    assert_eq!(rt; closed.len(), 2);
+    same(rt, &items.as_slice(), &[7, 8].as_slice());
+    same(rt, &closed.len(), &2);
     Ok(())
 }
 
@@ -60,19 +61,19 @@ fn works<R: Abort + Wait>(rt: &R, alloc: Global) -> Result<(), Fail> {
         return Err(Fail::new("new answered 7"));
     };
     if let Err(refusal) = produce(rt, &mut node, &mut bank, &items, 1, &OpenGate, &stop) {
-        assert_eq!(rt; refusal, WorkRefusal::OutOfMemory);
+        same(rt, &refusal, &WorkRefusal::OutOfMemory);
         produce(rt, &mut node, &mut bank, &items, 1, &OpenGate, &again)?;
         return Err(Fail::new("produce answered 7"));
     }
     match consume(rt, alloc, &mut node, &mut bank, 1, 1, &OpenGate, &stop) {
         Ok(consumed) => {
-            assert_eq!(rt; consumed.as_slice(), items.as_slice());
+            same(rt, &consumed.as_slice(), &items.as_slice());
             Ok(())
         }
         Err(refusal) => {
-            assert_eq!(rt; refusal, WorkRefusal::OutOfMemory);
+            same(rt, &refusal, &WorkRefusal::OutOfMemory);
             let consumed = consume(rt, alloc, &mut node, &mut bank, 1, 1, &OpenGate, &again)?;
-            assert_eq!(rt; consumed.as_slice(), items.as_slice());
+            same(rt, &consumed.as_slice(), &items.as_slice());
             Err(Fail::new("consume answered 7"))
         }
     }

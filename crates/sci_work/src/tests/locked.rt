@@ -9,6 +9,7 @@ use crate::doors::Door;
 use crate::programs::Program;
 use crate::starting::share_of;
 use crate::stencils::Work;
+use crate::tests::same;
 use crate::{OpenGate, RingFact, StencilFact, WorkRefusal};
 use sci_cache::Node;
 use sci_coarse::{CoarseBank, CoarseLine, Seat};
@@ -124,7 +125,7 @@ fn nodes_count(rt: HostRuntime) -> Result<(), Fail> {
     let program = Program::Count { adds: 1000 };
     let (zero, one, word) = worked(&rt, rt.alloc(), program, 1, AnyWords).ok_or("no lines")?;
     let (zero, one) = (zero?, one?);
-    assert_eq!(rt; (zero.len(), one.len(), word), (0, 0, 2000));
+    same(&rt, &(zero.len(), one.len(), word), &(0, 0, 2000));
     Ok(())
 }
 
@@ -138,9 +139,9 @@ fn items_pass_in_order(rt: HostRuntime) -> Result<(), Fail> {
     let fact = RingFact::new(&items, 2);
     let (zero, one, word) = worked(&rt, rt.alloc(), program, 3, fact).ok_or("no lines")?;
     let (zero, one) = (zero?, one?);
-    assert_eq!(rt; zero.len(), 0);
-    assert_eq!(rt; one.as_slice(), items.as_slice());
-    assert_eq!(rt; word, 8);
+    same(&rt, &zero.len(), &0);
+    same(&rt, &one.as_slice(), &items.as_slice());
+    same(&rt, &word, &8);
     Ok(())
 }
 
@@ -158,11 +159,16 @@ fn cells_take_in_their_neighbours(rt: HostRuntime) -> Result<(), Fail> {
     let (zero, one, word) = worked(&rt, rt.alloc(), program, 6, fact).ok_or("no lines")?;
     let (zero, one) = (zero?, one?);
     // node 0 has the first tile and the last
-    assert_eq!(rt;
-        zero.as_slice(),
-        [0, 0, 0, 0, 0, 1, 5, 5, 1, 0, 0, 0, 0, 0].as_slice()
+    same(
+        &rt,
+        &zero.as_slice(),
+        &[0, 0, 0, 0, 0, 1, 5, 5, 1, 0, 0, 0, 0, 0].as_slice(),
     );
-    assert_eq!(rt; one.as_slice(), [15, 30, 45, 51, 45, 30, 15].as_slice());
-    assert_eq!(rt; word, 6);
+    same(
+        &rt,
+        &one.as_slice(),
+        &[15, 30, 45, 51, 45, 30, 15].as_slice(),
+    );
+    same(&rt, &word, &6);
     Ok(())
 }

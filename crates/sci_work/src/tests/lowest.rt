@@ -2,6 +2,7 @@
 use crate::programs::Program;
 use crate::seating::dealt;
 use crate::starting::run_all;
+use crate::tests::same;
 use crate::{Gate, WorkRefusal};
 use crossbeam_utils::Backoff;
 use sci_core::{AnyWords, Line};
@@ -76,6 +77,6 @@ fn refused<R: Threads + Wait + Sync>(rt: &R, alloc: Global, node: u16) -> Result
 #[test]
 fn the_lower_nodes_refusal_is_the_answer(rt: HostRuntime) {
     for (node, refusal) in [(0, WorkRefusal::Stalled), (1, WorkRefusal::StampsSpent)] {
-        assert_eq!(rt; refused(&rt, rt.alloc(), node), Err(refusal));
+        same(&rt, &refused(&rt, rt.alloc(), node), &Err(refusal));
     }
 }

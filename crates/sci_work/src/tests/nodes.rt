@@ -3,6 +3,7 @@ ghost use Rattle.std.specs.Prelude.{◌≡◌, IfSome};
 ghost use Rattle.sci_fine.specs.Banks.{IsLine};
 ghost use Rattle.sci_fine.specs.Seats.{IsSeatOf};
 
+use super::same;
 use sci_cache::{Node, NodeRefusal};
 use sci_core::{AnyWords, Line};
 use sci_fine::{FineBank, FineLine, Seat};
@@ -62,7 +63,7 @@ fn a_node_works_over_separate_words(rt: HostRuntime) -> Result<(), Fail> {
     let Ok(mut bank) = FineBank::new(lines.as_slice(), seats) else {
         panic!(rt; "it was refused")
     };
-    assert_eq!(rt; (bank.node().get(), bank.lines()), (0, 1));
+    same(&rt, &(bank.node().get(), bank.lines()), &(0, 1));
     let mut node = Node::new(rt.alloc(), bank.node(), bank.lines(), 1)?;
     let words = [7, 0, 0, 0, 0, 0, 0, 0];
     let want = [
@@ -74,8 +75,8 @@ fn a_node_works_over_separate_words(rt: HostRuntime) -> Result<(), Fail> {
     ];
     let answers = five_calls(&rt, &mut node, &mut bank);
     for (answer, want) in answers.iter().zip(want.iter()) {
-        assert_eq!(rt; answer, want);
+        same(&rt, &answer, &want);
     }
-    assert_eq!(rt; node.resident(rt.alloc())?.as_slice(), [].as_slice());
+    same(&rt, &node.resident(rt.alloc())?.as_slice(), &[].as_slice());
     Ok(())
 }

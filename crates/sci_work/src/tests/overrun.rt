@@ -5,6 +5,7 @@ use crate::lines::opened;
 use crate::programs::Program;
 use crate::starting::run_all;
 use crate::stencils::Work;
+use crate::tests::same;
 use crate::tests::threads::Holds;
 use crate::{OpenGate, StencilFact, WorkRefusal};
 use std::alloc::Global;
@@ -37,6 +38,10 @@ fn a_tile_at_a_later_phase_is_19(rt: HostRuntime) -> Result<(), Fail> {
         tiles: 2,
         nodes: 2,
     };
-    assert_eq!(rt; again(&rt, rt.alloc(), work), Err(WorkRefusal::Overrun));
+    same(
+        &rt,
+        &again(&rt, rt.alloc(), work),
+        &Err(WorkRefusal::Overrun),
+    );
     Ok(())
 }

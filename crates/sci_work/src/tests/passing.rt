@@ -1,5 +1,6 @@
 //! A ring with its two nodes in threads of their own.
 use crate::tests::meeting::MeetingGate;
+use crate::tests::same;
 use crate::values::value_of;
 use crate::{Gate, OpenGate, WorkRefusal, ring};
 use std::test::Fail;
@@ -11,12 +12,12 @@ fn items_pass_in_order(rt: HostRuntime) -> Result<(), Fail> {
         source.push(3 * i)?;
     }
     let (items, closed) = ring(&rt, rt.alloc(), &source, 2, 1, &OpenGate)?;
-    assert_eq!(rt; items, source);
-    assert_eq!(rt; closed.len(), 3);
+    same(&rt, &items, &source);
+    same(&rt, &closed.len(), &3);
     let want = [[99, 294], [100, 297], [100, 0]];
     for line in 0..3 {
         let words = value_of(&closed[line]).words;
-        assert_eq!(rt; [words[0], words[1]], want[line]);
+        same(&rt, &[words[0], words[1]], &want[line]);
     }
     Ok(())
 }
@@ -24,8 +25,8 @@ fn items_pass_in_order(rt: HostRuntime) -> Result<(), Fail> {
 #[test]
 fn a_ring_of_no_items_is_empty(rt: HostRuntime) -> Result<(), Fail> {
     let (items, closed) = ring(&rt, rt.alloc(), &[], 2, 1, &OpenGate)?;
-    assert_eq!(rt; items.as_slice(), [].as_slice());
-    assert_eq!(rt; closed.len(), 3);
+    same(&rt, &items.as_slice(), &[].as_slice());
+    same(&rt, &closed.len(), &3);
     Ok(())
 }
 
@@ -33,7 +34,7 @@ fn a_ring_of_no_items_is_empty(rt: HostRuntime) -> Result<(), Fail> {
 fn nodes_in_threads_of_their_own_meet(rt: HostRuntime) -> Result<(), Fail> {
     let gate = MeetingGate::new(1_000_000);
     let (items, _) = ring(&rt, rt.alloc(), &[7], 1, 2, &gate)?;
-    assert_eq!(rt; items.as_slice(), [7].as_slice());
+    same(&rt, &items.as_slice(), &[7].as_slice());
     assert!(rt; gate.has_met());
     Ok(())
 }

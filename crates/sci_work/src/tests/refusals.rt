@@ -1,5 +1,6 @@
 //! The numbers of the refusals.
 use crate::WorkRefusal;
+use crate::tests::same;
 
 #[test]
 fn refusals_have_their_numbers(rt: HostRuntime) {
@@ -13,6 +14,6 @@ fn refusals_have_their_numbers(rt: HostRuntime) {
         (WorkRefusal::NoThread, 26),
     ];
     for (refusal, number) in table {
-        assert_eq!(rt; refusal.number(), number);
+        same(&rt, &refusal.number(), &number);
     }
 }

@@ -3,6 +3,7 @@ ghost use Rattle.std.specs.Prelude.{◌≡◌, ◌<◌, ◌≤◌, length, IfSom
 ghost use Rattle.sci_work.specs.Ring.{FitsRing};
 
 use crate::tests::meeting::MeetingGate;
+use crate::tests::same;
 use crate::{Gate, OpenGate, RingFact, WorkRefusal, consume, produce};
 use sci_cache::Node;
 use sci_core::{Line, Whole};
@@ -121,9 +122,9 @@ fn items_come_in_order(rt: HostRuntime) -> Result<(), Fail> {
     let all: [&[u64]; 4] = [&[], &[7], &[0, u64::MAX], &[3, 0, 5, 3]];
     for items in all {
         let ended = passed(&rt, rt.alloc(), items, 4, &OpenGate, &stop).ok_or("no bank")?;
-        assert_eq!(rt; ended.0, Ok(()));
+        same(&rt, &ended.0, &Ok(()));
         let consumed = ended.1?;
-        assert_eq!(rt; consumed.as_slice(), items);
+        same(&rt, &consumed.as_slice(), &items);
     }
     assert!(rt; !stop.load(Ordering::SeqCst));
     Ok(())
@@ -134,8 +135,8 @@ fn rings_beyond_the_limits_are_refused(rt: HostRuntime) -> Result<(), Fail> {
     let stop = AtomicBool::new(false);
     let many = vec![in rt.alloc(); 0; 100_001]?;
     let ended = passed(&rt, rt.alloc(), &many, 1, &OpenGate, &stop).ok_or("no bank")?;
-    assert_eq!(rt; ended.0, Err(WorkRefusal::BadSettings));
-    assert_eq!(rt; ended.1.err(), Some(WorkRefusal::BadSettings));
+    same(&rt, &ended.0, &Err(WorkRefusal::BadSettings));
+    same(&rt, &ended.1.err(), &Some(WorkRefusal::BadSettings));
     assert!(rt; stop.load(Ordering::SeqCst));
     Ok(())
 }
@@ -144,8 +145,8 @@ fn rings_beyond_the_limits_are_refused(rt: HostRuntime) -> Result<(), Fail> {
 fn a_raised_stop_mark_is_25(rt: HostRuntime) -> Result<(), Fail> {
     let stop = AtomicBool::new(true);
     let ended = passed(&rt, rt.alloc(), &[7], 1, &OpenGate, &stop).ok_or("no bank")?;
-    assert_eq!(rt; ended.0, Err(WorkRefusal::Stopped));
-    assert_eq!(rt; ended.1.err(), Some(WorkRefusal::Stopped));
+    same(&rt, &ended.0, &Err(WorkRefusal::Stopped));
+    same(&rt, &ended.1.err(), &Some(WorkRefusal::Stopped));
     Ok(())
 }
 
@@ -174,8 +175,8 @@ fn a_gate_that_stays_shut_is_20(rt: HostRuntime) -> Result<(), Fail> {
         let ended = passed(&rt, rt.alloc(), &[7, 8, 9], 4, &Shuts { from }, &stop).ok_or(
             "no bank",
         )?;
-        assert_eq!(rt; ended.0, Err(WorkRefusal::Stalled));
-        assert_eq!(rt; ended.1.err(), Some(WorkRefusal::Stopped));
+        same(&rt, &ended.0, &Err(WorkRefusal::Stalled));
+        same(&rt, &ended.1.err(), &Some(WorkRefusal::Stopped));
         assert!(rt; stop.load(Ordering::SeqCst));
     }
     Ok(())
@@ -185,9 +186,9 @@ fn a_gate_that_stays_shut_is_20(rt: HostRuntime) -> Result<(), Fail> {
 fn workers_in_one_thread_never_meet(rt: HostRuntime) -> Result<(), Fail> {
     let gate = MeetingGate::new(10);
     let produced = produced(&rt, rt.alloc(), &[7], 1, 0, &gate).ok_or("no bank")?;
-    assert_eq!(rt; produced, Err(WorkRefusal::Stalled));
+    same(&rt, &produced, &Err(WorkRefusal::Stalled));
     let consumed = consumed(&rt, rt.alloc(), &[7], 1, [0; 8], 0, &gate).ok_or("no bank")?;
-    assert_eq!(rt; consumed.err(), Some(WorkRefusal::Stalled));
+    same(&rt, &consumed.err(), &Some(WorkRefusal::Stalled));
     assert!(rt; !gate.has_met());
     Ok(())
 }
@@ -196,9 +197,9 @@ fn workers_in_one_thread_never_meet(rt: HostRuntime) -> Result<(), Fail> {
 fn lines_of_the_last_stamp_are_11(rt: HostRuntime) -> Result<(), Fail> {
     let (stamp, item) = (u64::MAX, [1, 7, 0, 0, 0, 0, 0, 0]);
     let produced = produced(&rt, rt.alloc(), &[7], 1, stamp, &OpenGate).ok_or("no bank")?;
-    assert_eq!(rt; produced, Err(WorkRefusal::StampsSpent));
+    same(&rt, &produced, &Err(WorkRefusal::StampsSpent));
     let consumed = consumed(&rt, rt.alloc(), &[7], 1, item, stamp, &OpenGate).ok_or("no bank")?;
-    assert_eq!(rt; consumed.err(), Some(WorkRefusal::StampsSpent));
+    same(&rt, &consumed.err(), &Some(WorkRefusal::StampsSpent));
     Ok(())
 }
 
@@ -208,6 +209,6 @@ fn a_line_with_a_later_item_is_19(rt: HostRuntime) -> Result<(), Fail> {
     let consumed = consumed(&rt, rt.alloc(), &[0, 3, 6, 9], 2, third, 0, &OpenGate).ok_or(
         "no bank",
     )?;
-    assert_eq!(rt; consumed.err(), Some(WorkRefusal::Overrun));
+    same(&rt, &consumed.err(), &Some(WorkRefusal::Overrun));
     Ok(())
 }

@@ -3,6 +3,7 @@ ghost use Rattle.std.specs.Prelude.{All};
 ghost use Rattle.sci_core.specs.Closed.{IsExactClosed};
 
 use crate::tests::meeting::MeetingGate;
+use crate::tests::same;
 use crate::values::value_of;
 use crate::{Gate, OpenGate, WorkRefusal, stencil};
 use sci_core::Closed;
@@ -32,10 +33,11 @@ fn cells_take_in_their_neighbours(rt: HostRuntime) -> Result<(), Fail> {
         (64, 1, 5, ends, [5, 6, 5, 6, 5, 6]),
     ] {
         let (found, closed) = stencil(&rt, rt.alloc(), &cells, phases, nodes, capacity, &OpenGate)?;
-        assert_eq!(rt; found.as_slice(), wanted.as_slice());
-        assert_eq!(rt;
-            first_words(rt.alloc(), &closed)?.as_slice(),
-            words.as_slice()
+        same(&rt, &found.as_slice(), &wanted.as_slice());
+        same(
+            &rt,
+            &first_words(rt.alloc(), &closed)?.as_slice(),
+            &words.as_slice(),
         );
     }
     Ok(())
@@ -45,8 +47,8 @@ fn cells_take_in_their_neighbours(rt: HostRuntime) -> Result<(), Fail> {
 fn the_most_cells_are_taken_in(rt: HostRuntime) -> Result<(), Fail> {
     let cells = vec![in rt.alloc(); 1; 3584]?;
     let (found, closed) = stencil(&rt, rt.alloc(), &cells, 0, 64, 1024, &OpenGate)?;
-    assert_eq!(rt; found, cells);
-    assert_eq!(rt; closed.len(), 1024);
+    same(&rt, &found, &cells);
+    same(&rt, &closed.len(), &1024);
     Ok(())
 }
 
@@ -54,7 +56,7 @@ fn the_most_cells_are_taken_in(rt: HostRuntime) -> Result<(), Fail> {
 fn nodes_in_threads_of_their_own_meet(rt: HostRuntime) -> Result<(), Fail> {
     let gate = MeetingGate::new(1_000_000);
     let (cells, _) = stencil(&rt, rt.alloc(), &[0; 14], 1, 2, 2, &gate)?;
-    assert_eq!(rt; cells.as_slice(), [0; 14].as_slice());
+    same(&rt, &cells.as_slice(), &[0; 14].as_slice());
     assert!(rt; gate.has_met());
     Ok(())
 }

@@ -1,4 +1,5 @@
 //! Nodes whose calls take turns by a gate: a call is told to have ended once it has, and not before.
+use crate::tests::same;
 use crate::{Gate, count, ring};
 use crossbeam_utils::Backoff;
 use sci_words::Kind;
@@ -60,8 +61,8 @@ fn a_read_or_a_write_has_ended_when_it_is_told(rt: HostRuntime) -> Result<(), Fa
     for order in orders {
         let gate = InOrder::new(order);
         let (items, _) = ring(&rt, rt.alloc(), &[7], 1, 2, &gate)?;
-        assert_eq!(rt; items.as_slice(), [7].as_slice());
-        assert_eq!(rt; gate.calls(), order.len());
+        same(&rt, &items.as_slice(), &[7].as_slice());
+        same(&rt, &gate.calls(), &order.len());
     }
     Ok(())
 }
@@ -72,11 +73,11 @@ fn an_addition_has_ended_when_it_is_told(rt: HostRuntime) -> Result<(), Fail> {
     for order in [[0, 1], [1, 0]] {
         let gate = InOrder::new(&order);
         let (word, closed) = count(&rt, rt.alloc(), 2, 1, 1, &gate)?;
-        assert_eq!(rt; (word, gate.calls()), (2, 2));
-        assert_eq!(rt; closed[0].tags.len(), 2);
+        same(&rt, &(word, gate.calls()), &(2, 2));
+        same(&rt, &closed[0].tags.len(), &2);
         for node in 0..2 {
             let is_last = usize::from(order[1]) == node;
-            assert_eq!(rt; closed[0].tags[node].kind == Kind::Dirty, is_last);
+            same(&rt, &(closed[0].tags[node].kind == Kind::Dirty), &is_last);
         }
     }
     Ok(())
