@@ -12,6 +12,7 @@ use sci_core::{Event, Keeps, NotInTurn, Outcome, Whole};
 use sci_words::{Mem, NodeId, Tag};
 
 // The node's pending step as it stands.
+#[inline(always)]
 fn standing_in<K: Keeps>(whole: &Whole<K>, terms: Terms<K>, node: NodeId) -> Standing<K>
     requires on { IsOn terms whole.now }
     requires node { node < nodes_of whole.now }
@@ -25,6 +26,7 @@ fn standing_in<K: Keeps>(whole: &Whole<K>, terms: Terms<K>, node: NodeId) -> Sta
 }
 
 // An event that the node's pending step allows.
+#[inline(always)]
 pub(crate) fn step_whole<K: Keeps>(
     whole: &mut Whole<K>,
     terms: Terms<K>,
@@ -46,6 +48,7 @@ pub(crate) fn step_whole<K: Keeps>(
 }
 
 // The node looks at its own tag.
+#[inline(always)]
 pub(crate) fn look_whole<K: Keeps>(
     whole: &mut Whole<K>,
     terms: Terms<K>,

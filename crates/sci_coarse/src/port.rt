@@ -67,6 +67,7 @@ impl<K: Keeps> Port for CoarsePort<'_, K> {
         self.seat.standing.pending().stage()
     }
 
+    #[inline(always)]
     fn own(&mut self) -> Option<Tag> {
         self.seat.own(self.line)
     }
@@ -79,6 +80,7 @@ impl<K: Keeps> Port for CoarsePort<'_, K> {
         self.seat.tag(self.line, node)
     }
 
+    #[inline(always)]
     fn step(&mut self, event: Event) -> Outcome {
         self.seat.step(self.line, event)
     }

@@ -23,6 +23,7 @@ const TAKEN: u64 = 1;
 
 impl<K: Keeps> CoarseLine<K> {
     // Takes the lock word, or finds it taken.
+    #[inline(always)]
     pub(crate) fn take(&self, token: &mut Token<K>) -> bool
         requires of { (token.old.table_id ≡ self.now.table.shared.table_id) × (token.old.me.0.of ≡ Some self.now.terms) }
         requires free { (token.old.me.0.holds ≡ false) × (token.old.me.1 ≡ []) }
@@ -36,6 +37,7 @@ impl<K: Keeps> CoarseLine<K> {
     }
 
     // Gives the lock word back, and with it the line in hand, on which this call was made.
+    #[inline(always)]
     pub(crate) fn give<J: Tells>(&self, token: &mut Token<K>, call: &Call)
         requires of { (token.old.table_id ≡ self.now.table.shared.table_id) × (token.old.me.0.of ≡ Some self.now.terms) }
         requires held { token.old.me.0.holds ≡ true }
@@ -49,6 +51,7 @@ impl<K: Keeps> CoarseLine<K> {
     }
 
     // A node's step of the line in hand, and its pending step after.
+    #[inline(always)]
     pub(crate) fn step_in_hand(
         &self,
         token: &mut Token<K>,
@@ -68,6 +71,7 @@ impl<K: Keeps> CoarseLine<K> {
     }
 
     // A node's look at its own tag in the line in hand, and its pending step after.
+    #[inline(always)]
     pub(crate) fn own_in_hand(&self, token: &mut Token<K>, node: NodeId) -> (Tag, Standing<K>)
         requires of { token.old.table_id ≡ self.now.table.shared.table_id }
         requires hand { (w : wholes.WholeLine _) × (token.old.me.1 ≡ (0, w) ∷ []) × IsOn self.now.terms w × (node < nodes_of w) }

@@ -13,6 +13,7 @@ use std::marker::Brand;
 
 impl<K: Keeps> Seat<K> {
     // An event of the node that its pending step allows.
+    #[inline(always)]
     pub(crate) fn step(&mut self, line: &CoarseLine<K>, event: Event) -> Outcome
         requires of { IsSeatOf line.now self.old }
         requires allowed { is_allowed self.old.standing.terms.nodes self.old.node self.old.standing.pending event ≡ true }
@@ -31,6 +32,7 @@ impl<K: Keeps> Seat<K> {
     }
 
     // The node's own tag, looked at.
+    #[inline(always)]
     pub(crate) fn own(&mut self, line: &CoarseLine<K>) -> Option<Tag>
         requires of { IsSeatOf line.now self.old }
         ensures made { HasMade K.fits self.old (Own result) self.new }

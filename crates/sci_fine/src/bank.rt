@@ -150,6 +150,7 @@ impl<K: Keeps> Bank for FineBank<'_, K> {
         seats[usize::from(line)].standing.stage()
     }
 
+    #[inline(always)]
     fn own(&mut self, line: LineNo) -> Option<Tag> {
         let at = &self.lines[usize::from(line)];
         let seats = self.seats.as_mut_slice();
@@ -168,6 +169,7 @@ impl<K: Keeps> Bank for FineBank<'_, K> {
         Some(seats[usize::from(line)].tag(at, node))
     }
 
+    #[inline(always)]
     fn step(&mut self, line: LineNo, event: Event) -> Outcome {
         let at = &self.lines[usize::from(line)];
         let seats = self.seats.as_mut_slice();
