@@ -127,6 +127,7 @@ impl<B: Bank> Bank for Watched<'_, '_, B> {
         self.bank.stage(line)
     }
 
+    #[inline(always)]
     fn own(&mut self, line: LineNo) -> Option<Tag> {
         let own = self.bank.own(line);
         let answer = own;
@@ -134,6 +135,7 @@ impl<B: Bank> Bank for Watched<'_, '_, B> {
         own
     }
 
+    #[inline(always)]
     fn mem(&mut self, line: LineNo) -> Option<Mem> {
         let mem = self.bank.mem(line);
         let answer = mem;
@@ -141,6 +143,7 @@ impl<B: Bank> Bank for Watched<'_, '_, B> {
         mem
     }
 
+    #[inline(always)]
     fn tag(&mut self, line: LineNo, node: NodeId) -> Option<Tag> {
         let tag = self.bank.tag(line, node);
         let answer = tag;
@@ -148,6 +151,7 @@ impl<B: Bank> Bank for Watched<'_, '_, B> {
         tag
     }
 
+    #[inline(always)]
     fn step(&mut self, line: LineNo, event: Event) -> Outcome {
         let passing = event;
         let outcome = self.bank.step(line, event);
@@ -160,6 +164,7 @@ impl<B: Bank> Bank for Watched<'_, '_, B> {
 
 /// One turn of the node's call, over the bank that it is seated at, and what passed.
 #[tactic(auto, using(sci_ops::proofs::Storing::any_store_fits))]
+#[inline(always)]
 fn watched_turn_on(bank: &mut SoloBank<AnyWords>, node: &mut Node, passed: &mut Passed) -> Turn
     requires seat { bank.old.node ≡ node.old.id }
     requires lines { length bank.old.wholes.items ≡ node.old.lines }
@@ -184,6 +189,7 @@ impl WholeDesk {
     ghost use Rattle.sci_script.specs.Wholes.{shared_of};
 
     /// One turn of the node's open call, as `turn`, and what passed in it.
+    #[inline(always)]
     pub fn watched_turn(&mut self, node: NodeId, passed: &mut Passed) -> Turn
         requires node { node < self.old.size.nodes }
         requires open { shared_is_open (shared_of self.old) node ≡ true }
