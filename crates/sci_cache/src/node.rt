@@ -132,24 +132,22 @@ impl Node {
         ensures same_fact { B.keep bank.new ≡ B.keep bank.old }
         ensures others { IfSome self.old.call (λ c. (m : ℕ) → m ≢ line_by c.victim c.line → B.at_step bank.new m ≡ B.at_step bank.old m) }
     {
-        let Some(call) = self.call else {
+        let Some(call) = &self.call else {
             return Err(NodeRefusal::NoCall);
         };
+        let line = call.line;
+        let mut op = call.op;
         if let Some(victim) = call.victim {
             let mut evict = Op::evict();
             let turn = turn_at(bank, victim, &mut evict);
             let Turn::Done(_) = turn else {
                 return Ok(turn);
             };
-            self.call = Some(OpenCall {
-                line: call.line,
-                op: call.op,
-                victim: None,
-            });
+            let victim = None;
+            self.call = Some(OpenCall { line, op, victim });
             return Ok(Turn::Moved);
         }
-        let mut op = call.op;
-        let turn = turn_at(bank, call.line, &mut op);
+        let turn = turn_at(bank, line, &mut op);
         let Turn::Done(_) = turn else {
             return Ok(turn);
         };
@@ -157,7 +155,7 @@ impl Node {
         let Goal::Evict = op.goal() else {
             return Ok(turn);
         };
-        take_out(&mut self.table, call.line);
+        take_out(&mut self.table, line);
         Ok(turn)
     }
 
