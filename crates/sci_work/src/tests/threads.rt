@@ -120,13 +120,13 @@ fn a_node_keeps_as_many_lines_as_it_may(rt: HostRuntime) -> Result<(), Fail> {
     for (capacity, keeps) in [(1, false), (2, true)] {
         // node 1 reads line 0 and then writes the line behind it
         let (_, closed) = ring(&rt, rt.alloc(), &[7], 1, capacity, &OpenGate)?;
-        same(&rt, &closed.len(), &2);
-        same(&rt, &closed[0].tags.len(), &2);
+        assert_eq!(rt; closed.len(), 2);
+        assert_eq!(rt; closed[0].tags.len(), 2);
         same(&rt, &(closed[0].tags[1].kind != Kind::Invalid), &keeps);
         // a node alone takes its tile from line 0 to line 1
         let (_, closed) = stencil(&rt, rt.alloc(), &[1; 7], 1, 1, capacity, &OpenGate)?;
-        same(&rt, &closed.len(), &2);
-        same(&rt, &closed[0].tags.len(), &1);
+        assert_eq!(rt; closed.len(), 2);
+        assert_eq!(rt; closed[0].tags.len(), 1);
         same(&rt, &(closed[0].tags[0].kind != Kind::Invalid), &keeps);
     }
     Ok(())
