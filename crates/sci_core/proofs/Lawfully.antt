@@ -159,6 +159,16 @@ missed_keeps n fits s t me e w o h = still_keeps n fits s t me e (Ok (Outcome.Mi
 pub refused_keeps : (n : ℕ) (fits : List ℕ → Type 0) (s t : State) (me : ℕ) (e : Event) (x : NotInTurn) → IsLawfulLine n fits s → t ≡ s → KeepsLawful n fits s me e (Err x) t
 refused_keeps n fits s t me e x o h = still_keeps n fits s t me e (Err x) o h (λ v. (refused_same s me e x v, tt))
 
+-- an allowed event that is no look has a row of the table
+pub has_row_of : (n me : ℕ) (p : Pending) (e : Event) → is_look e ≡ false → is_allowed n me p e ≡ true → has_row n me p e ≡ true
+has_row_of n me p Event.Look h a = absurd (cc)
+has_row_of n me p _ h a = a
+
+-- a look is what it says it is
+pub looks : (e : Event) → is_look e ≡ true → e ≡ Event.Look
+looks Event.Look h = refl
+looks _ h = absurd (cc)
+
 -- what an exchange comes to is what the step answers
 pub exchange_answers : (n : ℕ) (s t : State) (me : ℕ) (e : Event) (o : Outcome) → is_look e ≡ false → Exchanges n s me e o t → Answers n s me e (Ok o) t
 exchange_answers n s t me Event.Look o h x = absurd (cc)

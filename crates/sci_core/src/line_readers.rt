@@ -16,6 +16,7 @@ use crate::pending::Pending;
 use crate::stages::Stage;
 use crate::whole::Whole;
 use sci_words::{Mem, NodeId, Tag};
+use std::fmt;
 
 impl Pending {
     // The line that the step keeps, where it keeps one.
@@ -35,6 +36,17 @@ impl Pending {
             | Pending::WritingBack { line } => Some(*line),
             Pending::InQueue { copy, .. } => *copy,
             _ => None,
+        }
+    }
+}
+
+/// Its stage, and the line that it keeps, where it keeps one.
+impl fmt::Debug for Pending {
+    fn fmt<W: fmt::Write>(&self, f: &mut fmt::Formatter<W>) -> fmt::Result {
+        fmt::Debug::fmt(&self.stage(), f)?;
+        match self.kept_line() {
+            Some(line) => write!(f, " with {line:?}"),
+            None => Ok(()),
         }
     }
 }

@@ -3,7 +3,7 @@ use crate::lines::Line;
 use sci_words::{NodeId, Tag};
 
 /// What a node is doing on a line, between two of its exchanges, and what it keeps in mind meanwhile.
-#[derive(Clone, Copy, Debug, PartialEq, Eq)]
+#[derive(Clone, Copy, PartialEq, Eq)]
 pub enum Pending {
     /// Nothing.
     Idle,
