@@ -7,7 +7,6 @@ use Rattle.atomic_table.specs.Table.{Act, opening, stepped}
 use Rattle.atomic_table.proofs.Lists.{at_set}
 use Rattle.sci_core.specs.Whole.{WholeLine}
 use Rattle.sci_port.specs.declared.calls.Call.{Call}
-use Rattle.sci_coarse.specs.declared.views.Entry.{Entry}
 use Rattle.sci_coarse.specs.declared.views.Entry.TheVariants.{Took, Missed, Gave}
 use Rattle.sci_coarse.specs.declared.views.Terms.{Terms}
 use Rattle.sci_coarse.specs.declared.views.View.{View}

@@ -1,5 +1,5 @@
 -- A node's seats at lines of a memory, and a call on one of them.
-use Rattle.std.proofs.Common.{◌≡◌, ◌≢◌, ◌⊎◌, ⊎_elim, ℕ, ◌<◌, List, map, length, get_or, set, true, refl, sym, ap, subst, ◌∙◌}
+use Rattle.std.proofs.Common.{◌≡◌, ◌≢◌, ⊎_elim, ℕ, ◌<◌, List, map, length, get_or, set, true, sym, ap, subst, ◌∙◌}
 use Rattle.std.proofs.lemmas.List.{get_or_default, length-set, length-map}
 use mathlib.Core.Option.{some}
 use lib.ListN.{get_elem?}
@@ -10,7 +10,7 @@ use Rattle.sci_core.specs.Answers.{is_allowed}
 use Rattle.sci_core.specs.declared.pending.Pending.{Pending}
 use Rattle.sci_port.specs.declared.calls.Call.{Call}
 use Rattle.sci_port.specs.Owes.{Owes}
-use Rattle.sci_port.specs.Seated.{Seated, CallsOn}
+use Rattle.sci_port.specs.Seated.{CallsOn}
 use Rattle.sci_port.proofs.Seated.{at_place, read_at, calls_on}
 use Rattle.sci_coarse.specs.declared.line.CoarseLine.{CoarseLine}
 use Rattle.sci_coarse.specs.declared.seats.Seat.{Seat}

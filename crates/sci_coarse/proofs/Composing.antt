@@ -45,6 +45,10 @@ module _ {K : Type 0} (fits : K → ℕ → List ℕ → Type 0) (t : Terms K) (
   pub hand : (v : WholeLine K) × (m1.1 ≡ (0, v) ∷ []) × IsOn t v × (node < nodes_of v)
   hand = (w, in_hand.0, in_hand.1, in_hand.2)
 
+  -- and the step that the seat keeps is the node's on it
+  pub hand_in : (p : Pending) → m.0.pending ≡ p → (v : WholeLine K) × (m1.1 ≡ (0, v) ∷ []) × IsOn t v × (node < nodes_of v) × (p ≡ (state_of v).steps node)
+  hand_in p is = (w, in_hand.0, in_hand.1, in_hand.2, sym is ∙ in_hand.3)
+
   pub hand_of : (other : ℕ) → other < t.nodes → (v : WholeLine K) × (m1.1 ≡ (0, v) ∷ []) × (other < nodes_of v)
   hand_of other near = let f = take.4 t of in let nodes : nodes_of w ≡ t.nodes = f.0.nodes in (w, take.3, omega arith)
 

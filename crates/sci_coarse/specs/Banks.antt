@@ -4,7 +4,7 @@ use mathlib.Core.Option.{some}
 use lib.ListN.{get_elem?}
 use Rattle.sci_core.specs.declared.keeps.Keeps as keeps
 use Rattle.sci_port.specs.declared.calls.Call.{Call}
-use Rattle.sci_port.specs.Seated.{Seated, CallsOn}
+use Rattle.sci_port.specs.Seated.{Seated}
 use Rattle.sci_coarse.specs.declared.line.CoarseLine.{CoarseLine}
 use Rattle.sci_coarse.specs.declared.seats.Seat.{Seat}
 use Rattle.sci_coarse.specs.Seats.{IsSeatOf, HasMade}

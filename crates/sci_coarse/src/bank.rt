@@ -140,14 +140,16 @@ impl<K: Keeps> Bank for CoarseBank<'_, K> {
         lines[usize::from(line)].terms.number
     }
 
+    #[inline(always)]
     fn pending(&self, line: LineNo) -> Pending {
         let seats = &self.seats;
-        *seats[usize::from(line)].standing.pending()
+        seats[usize::from(line)].standing.pending()
     }
 
+    #[inline(always)]
     fn stage(&self, line: LineNo) -> Stage {
         let seats = &self.seats;
-        seats[usize::from(line)].standing.pending().stage()
+        seats[usize::from(line)].standing.stage()
     }
 
     #[inline(always)]

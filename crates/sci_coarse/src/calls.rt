@@ -7,62 +7,54 @@ ghost use Rattle.sci_coarse.specs.Rule.{IsOn};
 ghost use Rattle.sci_coarse.specs.Runs.{Calls};
 
 use crate::standing::Standing;
-use crate::views::Terms;
 use sci_core::{Event, Keeps, NotInTurn, Outcome, Whole};
 use sci_words::{Mem, NodeId, Tag};
 
-// The node's pending step as it stands.
-#[inline(always)]
-fn standing_in<K: Keeps>(whole: &Whole<K>, terms: Terms<K>, node: NodeId) -> Standing<K>
-    requires on { IsOn terms whole.now }
-    requires node { node < nodes_of whole.now }
-    ensures terms { result.terms ≡ terms }
-    ensures pending { result.pending ≡ (state_of whole.now).steps node }
-{
-    // The node's own tag is well formed, and the line lawful.
-    let _ = whole.tag(node);
-    let _ = whole.nodes();
-    Standing::new(terms, whole.pending(node))
-}
-
-// An event that the node's pending step allows.
+// An event that the node's pending step allows, which it goes on from.
 #[inline(always)]
 pub(crate) fn step_whole<K: Keeps>(
     whole: &mut Whole<K>,
-    terms: Terms<K>,
+    standing: &mut Standing<K>,
     node: NodeId,
     event: Event,
-) -> (Outcome, Standing<K>)
-    requires on { IsOn terms whole.old }
+) -> Outcome
+    requires on { IsOn standing.old.terms whole.old }
     requires node { node < nodes_of whole.old }
     requires allowed { is_allowed (nodes_of whole.old) node ((state_of whole.old).steps node) event ≡ true }
-    requires fits { FitsEvent (K.fits terms.keep terms.number) event }
-    ensures calls { Calls K.fits node (Stepped event result.0) whole.old whole.new }
-    ensures terms { result.1.terms ≡ terms }
-    ensures pending { result.1.pending ≡ (state_of whole.new).steps node }
+    requires fits { FitsEvent (K.fits standing.old.terms.keep standing.old.terms.number) event }
+    ensures calls { Calls K.fits node (Stepped event result) whole.old whole.new }
+    ensures terms { standing.new.terms ≡ standing.old.terms }
+    ensures pending { standing.new.pending ≡ (state_of whole.new).steps node }
 {
     match whole.step(node, event) {
-        Ok(outcome) => (outcome, standing_in(whole, terms, node)),
+        Ok(outcome) => {
+            standing.follow(whole, node, &outcome);
+            outcome
+        }
         Err(NotInTurn) => unreachable!(),
     }
 }
 
-// The node looks at its own tag.
+// The node, in this pending step, looks at its own tag.
 #[inline(always)]
 pub(crate) fn look_whole<K: Keeps>(
     whole: &mut Whole<K>,
-    terms: Terms<K>,
+    standing: &mut Standing<K>,
     node: NodeId,
-) -> (Tag, Standing<K>)
-    requires on { IsOn terms whole.old }
+) -> Tag
+    requires on { IsOn standing.old.terms whole.old }
     requires node { node < nodes_of whole.old }
-    ensures calls { Calls K.fits node (Own (Some result.0)) whole.old whole.new }
-    ensures terms { result.1.terms ≡ terms }
-    ensures pending { result.1.pending ≡ (state_of whole.new).steps node }
+    requires pending { standing.old.pending ≡ (state_of whole.old).steps node }
+    ensures calls { Calls K.fits node (Own (Some result)) whole.old whole.new }
+    ensures terms { standing.new.terms ≡ standing.old.terms }
+    ensures pending { standing.new.pending ≡ (state_of whole.new).steps node }
 {
     let _ = whole.step(node, Event::Look);
+    // The line stays lawful.
+    let _ = whole.nodes();
     let tag = whole.tag(node);
-    (tag, standing_in(whole, terms, node))
+    standing.look(&tag);
+    tag
 }
 
 // The memory word as it stands.

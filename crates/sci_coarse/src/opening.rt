@@ -9,7 +9,7 @@ use crate::seats::{Seat, Token};
 use crate::standing::Standing;
 use crate::views::{Apart, Terms};
 use atomic_table::Table;
-use sci_core::{Keeps, Line, OpenRefusal, Pending, Whole};
+use sci_core::{Keeps, Line, OpenRefusal, Whole};
 use sci_words::{LineNo, NodeId};
 use std::alloc::Global;
 
@@ -26,7 +26,7 @@ fn idle_seat<K: Keeps>(token: Token<K>, node: NodeId, terms: Terms<K>) -> Seat<K
     Seat {
         token,
         node,
-        standing: Standing::new(terms, Pending::Idle),
+        standing: Standing::idle(terms),
     }
 }
 

@@ -59,12 +59,14 @@ impl<K: Keeps> Port for CoarsePort<'_, K> {
         self.seat.number()
     }
 
+    #[inline(always)]
     fn pending(&self) -> Pending {
-        *self.seat.standing.pending()
+        self.seat.standing.pending()
     }
 
+    #[inline(always)]
     fn stage(&self) -> Stage {
-        self.seat.standing.pending().stage()
+        self.seat.standing.stage()
     }
 
     #[inline(always)]

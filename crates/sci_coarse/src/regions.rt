@@ -50,38 +50,44 @@ impl<K: Keeps> CoarseLine<K> {
         self.table.shared.store::<Gives<J, K>>(token, 0, FREE)
     }
 
-    // A node's step of the line in hand, and its pending step after.
+    // A node's step of the line in hand, from which its pending step goes on.
     #[inline(always)]
     pub(crate) fn step_in_hand(
         &self,
         token: &mut Token<K>,
+        standing: &mut Standing<K>,
         node: NodeId,
         event: Event,
-    ) -> (Outcome, Standing<K>)
+    ) -> Outcome
         requires of { token.old.table_id ≡ self.now.table.shared.table_id }
-        requires hand { (w : wholes.WholeLine _) × (token.old.me.1 ≡ (0, w) ∷ []) × IsOn self.now.terms w × (node < nodes_of w) × (is_allowed (nodes_of w) node ((state_of w).steps node) event ≡ true) }
-        requires fits { FitsEvent (K.fits self.now.terms.keep self.now.terms.number) event }
+        requires hand { (w : wholes.WholeLine _) × (token.old.me.1 ≡ (0, w) ∷ []) × IsOn standing.old.terms w × (node < nodes_of w) × (is_allowed (nodes_of w) node ((state_of w).steps node) event ≡ true) }
+        requires fits { FitsEvent (K.fits standing.old.terms.keep standing.old.terms.number) event }
         ensures same { (token.new.table_id ≡ token.old.table_id) × (token.new.id ≡ token.old.id) }
-        ensures called { HasCalled K.fits node (Stepped event result.0) token.old.me token.new.me }
-        ensures terms { result.1.terms ≡ self.now.terms }
-        ensures pending { (x : wholes.WholeLine _) → token.new.me.1 ≡ (0, x) ∷ [] → result.1.pending ≡ (state_of x).steps node }
+        ensures called { HasCalled K.fits node (Stepped event result) token.old.me token.new.me }
+        ensures terms { standing.new.terms ≡ standing.old.terms }
+        ensures pending { (x : wholes.WholeLine _) → token.new.me.1 ≡ (0, x) ∷ [] → standing.new.pending ≡ (state_of x).steps node }
     {
         let whole = token.slot_mut(&self.table.shared, 0);
-        step_whole(whole, self.terms, node, event)
+        step_whole(whole, standing, node, event)
     }
 
-    // A node's look at its own tag in the line in hand, and its pending step after.
+    // A node's look at its own tag in the line in hand, in this pending step.
     #[inline(always)]
-    pub(crate) fn own_in_hand(&self, token: &mut Token<K>, node: NodeId) -> (Tag, Standing<K>)
+    pub(crate) fn own_in_hand(
+        &self,
+        token: &mut Token<K>,
+        standing: &mut Standing<K>,
+        node: NodeId,
+    ) -> Tag
         requires of { token.old.table_id ≡ self.now.table.shared.table_id }
-        requires hand { (w : wholes.WholeLine _) × (token.old.me.1 ≡ (0, w) ∷ []) × IsOn self.now.terms w × (node < nodes_of w) }
+        requires hand { (w : wholes.WholeLine _) × (token.old.me.1 ≡ (0, w) ∷ []) × IsOn standing.old.terms w × (node < nodes_of w) × (standing.old.pending ≡ (state_of w).steps node) }
         ensures same { (token.new.table_id ≡ token.old.table_id) × (token.new.id ≡ token.old.id) }
-        ensures called { HasCalled K.fits node (Own (Some result.0)) token.old.me token.new.me }
-        ensures terms { result.1.terms ≡ self.now.terms }
-        ensures pending { (x : wholes.WholeLine _) → token.new.me.1 ≡ (0, x) ∷ [] → result.1.pending ≡ (state_of x).steps node }
+        ensures called { HasCalled K.fits node (Own (Some result)) token.old.me token.new.me }
+        ensures terms { standing.new.terms ≡ standing.old.terms }
+        ensures pending { (x : wholes.WholeLine _) → token.new.me.1 ≡ (0, x) ∷ [] → standing.new.pending ≡ (state_of x).steps node }
     {
         let whole = token.slot_mut(&self.table.shared, 0);
-        look_whole(whole, self.terms, node)
+        look_whole(whole, standing, node)
     }
 
     // The memory word of the line in hand.

@@ -39,6 +39,6 @@ impl<K: Keeps> Seat<K> {
     pub fn pending(&self) -> Pending
         ensures { result ≡ self.now.standing.pending }
     {
-        *self.standing.pending()
+        self.standing.pending()
     }
 }

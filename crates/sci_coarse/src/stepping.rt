@@ -24,10 +24,9 @@ impl<K: Keeps> Seat<K> {
             return Outcome::Busy;
         }
         let asked = event;
-        let (outcome, standing) = line.step_in_hand(&mut self.token, self.node, event);
+        let outcome = line.step_in_hand(&mut self.token, &mut self.standing, self.node, event);
         let answer = outcome;
         line.give::<Brand>(&mut self.token, &Call::Stepped(asked, answer));
-        self.standing = standing;
         outcome
     }
 
@@ -40,10 +39,9 @@ impl<K: Keeps> Seat<K> {
         if !line.take(&mut self.token) {
             return None;
         }
-        let (tag, standing) = line.own_in_hand(&mut self.token, self.node);
+        let tag = line.own_in_hand(&mut self.token, &mut self.standing, self.node);
         let seen = tag;
         line.give::<Brand>(&mut self.token, &Call::Own(Some(seen)));
-        self.standing = standing;
         Some(tag)
     }
 

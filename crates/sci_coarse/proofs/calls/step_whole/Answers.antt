@@ -1,12 +1,22 @@
+use Rattle.std.proofs.Common.{subst}
+use Rattle.sci_core.specs.declared.outcomes.Outcome.{Outcome}
+use Rattle.sci_core.specs.Whole.{state_of}
 use Rattle.sci_port.proofs.Lent.{step_gives}
-use Rattle.sci_coarse.proofs.Calling.{fits_in}
+use Rattle.sci_port.specs.Owes.{TakesRow}
+use Rattle.sci_coarse.proofs.Calling.{answer_kept, fits_in}
 use Rattle.sci_coarse.proofs.calls.step_whole.Goals as goal
 
 pub step-requires-clause-fits : goal.step-requires-clause-fits
-step-requires-clause-fits g c = fits_in g.K.Keeps.fits c.args.terms c.args.whole.now c.args.event c.requires.on c.requires.fits
+step-requires-clause-fits g c = fits_in g.K.Keeps.fits c.args.standing.now.terms c.args.whole.now c.args.event c.requires.on c.requires.fits
 
 pub returns-clause-calls : goal.returns-clause-calls
 returns-clause-calls g c =
     let e = c.in-Ok.ensures in
     let d = step_gives g.K.Keeps.fits c.args.whole.now c.step.new.self c.args.node e.same c.args.whole.ghost_name c.args.event c.in-Ok.outcome c.requires.allowed e.answers e.lawful in
     record { same = e.same; gives = d.2; owes = d.3 }
+
+pub follow-requires-clause-answered : goal.follow-requires-clause-answered
+follow-requires-clause-answered g c =
+    let e = c.in-Ok.ensures in let w = c.args.whole.now in let v = c.step.new.self in let me = c.args.node in
+    let d = step_gives g.K.Keeps.fits w v me e.same c.args.whole.ghost_name c.args.event c.in-Ok.outcome c.requires.allowed e.answers e.lawful in
+    λ line is. answer_kept me ((state_of w).steps me) c.args.event line ((state_of v).steps me) (subst (λ (o : Outcome). TakesRow me ((state_of w).steps me) c.args.event o ((state_of v).steps me)) is d.3.1)

@@ -1,5 +1,5 @@
 use Rattle.sci_coarse.proofs.Seating.{idle_is_sound}
 use Rattle.sci_coarse.proofs.opening.idle_seat.Goals as goal
 
-pub new-requires : goal.new-requires
-new-requires g c = idle_is_sound _ _
+pub idle-requires : goal.idle-requires
+idle-requires g c = idle_is_sound _ _

@@ -1,4 +1,4 @@
-use Rattle.std.proofs.Common.{rules, subst, ◌∙◌}
+use Rattle.std.proofs.Common.{rules, subst}
 use Rattle.sci_core.specs.declared.pending.Pending.{Pending}
 use Rattle.sci_port.specs.Owes.{IsSoundStep}
 use Rattle.sci_port.specs.Seated.{Seated, nodes_on}
@@ -10,5 +10,5 @@ pub returns-clause-sound : goal.returns-clause-sound
 returns-clause-sound g c =
     let b : Seated _ = seated c.args.self.now.keep c.args.self.now.node c.args.self.now.lines.now c.args.self.now.seats.items in
     let step = step_here g.K.Keeps.fits c.args.self.now.keep c.args.self.now.node c.args.self.now.lines.now c.args.self.now.seats.items c.args.self.now.of c.args.line c.requires c.from.result c.index.result.now c.index.result.now (search rules) c.index.ensures in
-    let sound = here g.K.Keeps.fits c.args.self.now.keep c.args.self.now.node c.args.self.now.lines.now c.args.self.now.seats.items c.args.self.now.of c.args.line c.requires c.from.result c.index.result.now c.index.result.now (search rules) c.index.ensures (λ n k m me. IsSoundStep n (g.K.Keeps.fits k m) c.pending.result.now) c.pending.ensures.sound in
-    subst (λ (p : Pending). IsSoundStep (nodes_on b c.args.line) (g.K.Keeps.fits b.keep c.args.line) p) (c.pending.ensures.value ∙ step) sound
+    let sound = here g.K.Keeps.fits c.args.self.now.keep c.args.self.now.node c.args.self.now.lines.now c.args.self.now.seats.items c.args.self.now.of c.args.line c.requires c.from.result c.index.result.now c.index.result.now (search rules) c.index.ensures (λ n k m me. IsSoundStep n (g.K.Keeps.fits k m) c.index.result.now.standing.pending) c.stage.ensures.sound in
+    subst (λ (p : Pending). IsSoundStep (nodes_on b c.args.line) (g.K.Keeps.fits b.keep c.args.line) p) step sound

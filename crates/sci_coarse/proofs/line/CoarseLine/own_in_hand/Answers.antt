@@ -1,4 +1,4 @@
-use Rattle.std.proofs.Common.{◌<◌, Some, ◌∙◌, ap, subst}
+use Rattle.std.proofs.Common.{◌≡◌, ◌<◌, Some, ◌∙◌, ap, subst}
 use Rattle.sci_core.specs.Whole.{WholeLine, nodes_of, state_of}
 use Rattle.sci_port.specs.declared.calls.Call.TheVariants.{Own}
 use Rattle.sci_coarse.specs.Rule.{IsOn}
@@ -9,13 +9,16 @@ pub slot_mut-whole-requires : goal.slot_mut-whole-requires
 slot_mut-whole-requires g c = let h = c.requires.hand in (c.requires.of, (h.0, whole_hand c.args.token.now.me.1 h.0 h.1))
 
 pub returns-clause-called : goal.returns-clause-called
-returns-clause-called g c = let h = c.requires.hand in lent g.K.Keeps.fits c.args.node (Own (Some c.look_whole.result.0)) c.args.token.now.me h.0 c.slot_mut-whole.result.now c.look_whole.new.whole h.1 c.slot_mut-whole.ensures.value c.look_whole.ensures.calls
+returns-clause-called g c = let h = c.requires.hand in lent g.K.Keeps.fits c.args.node (Own (Some c.look_whole.result)) c.args.token.now.me h.0 c.slot_mut-whole.result.now c.look_whole.new.whole h.1 c.slot_mut-whole.ensures.value c.look_whole.ensures.calls
 
 pub returns-clause-pending : goal.returns-clause-pending
 returns-clause-pending g c = let h = c.requires.hand in λ x e. c.look_whole.ensures.pending ∙ ap (λ (v : WholeLine g.row.K.Denot). (state_of v).steps c.args.node) (same_given c.args.token.now.me.1 h.0 c.look_whole.new.whole x h.1 e)
 
 pub look_whole-requires-clause-on : goal.look_whole-requires-clause-on
-look_whole-requires-clause-on g c = let h = c.requires.hand in subst (λ (v : WholeLine g.row.K.Denot). IsOn c.args.self.now.terms v) (same_hand c.args.token.now.me.1 h.0 c.slot_mut-whole.result.now h.1 c.slot_mut-whole.ensures.value) h.2
+look_whole-requires-clause-on g c = let h = c.requires.hand in subst (λ (v : WholeLine g.row.K.Denot). IsOn c.args.standing.now.terms v) (same_hand c.args.token.now.me.1 h.0 c.slot_mut-whole.result.now h.1 c.slot_mut-whole.ensures.value) h.2
 
 pub look_whole-requires-clause-node : goal.look_whole-requires-clause-node
 look_whole-requires-clause-node g c = let h = c.requires.hand in subst (λ (v : WholeLine g.row.K.Denot). c.args.node < nodes_of v) (same_hand c.args.token.now.me.1 h.0 c.slot_mut-whole.result.now h.1 c.slot_mut-whole.ensures.value) h.3
+
+pub look_whole-requires-clause-pending : goal.look_whole-requires-clause-pending
+look_whole-requires-clause-pending g c = let h = c.requires.hand in subst (λ (v : WholeLine g.row.K.Denot). c.args.standing.now.pending ≡ (state_of v).steps c.args.node) (same_hand c.args.token.now.me.1 h.0 c.slot_mut-whole.result.now h.1 c.slot_mut-whole.ensures.value) h.4
