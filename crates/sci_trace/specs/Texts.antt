@@ -50,11 +50,11 @@ act_text node passed stage turn = elim passed.step [
   | Some step ↦ event_text passed.load step.0 step.1
 ]
 
--- `# node N line L`
-abbrev pub place_text : ℕ → ℕ → List ℕ
-place_text node line = codes "# node " ++ decimal node ++ codes " line " ++ decimal line
+-- `# node N line L OPERATION: `
+abbrev pub place_text : ℕ → Option Request → ℕ → List ℕ
+place_text node asked line = codes "# node " ++ decimal node ++ codes " line " ++ decimal line ++ operation_name asked line
 
 -- `# node N line L OPERATION: WHAT; STEP; LIST`
 abbrev pub note_line : ℕ → Option Request → Passed → Stage → Turn → Mem → List (ℕ × Tag) → List ℕ
 note_line node asked passed stage turn mem entries =
-    place_text node passed.line ++ operation_name asked passed.line ++ act_text node passed stage turn ++ step_text stage ++ list_text mem entries ++ codes "\n"
+    place_text node asked passed.line ++ act_text node passed stage turn ++ step_text stage ++ list_text mem entries ++ codes "\n"

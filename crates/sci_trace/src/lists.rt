@@ -1,10 +1,11 @@
 //! A sharing list with what listings don't show: what is lent and what is held.
 
 ghost use Rattle.std.specs.Prelude.{◌≡◌, ◌<◌, ◌++◌, Some, OnOk, IfOk, IfSome, string_bytes, codes};
+ghost use Rattle.sci_words.specs.Mem.{mem_name_of};
 ghost use Rattle.sci_script.specs.Wholes.{shared_of};
-ghost use Rattle.sci_trace.specs.Lists.{entry_text, entries_text, head_text, list_text, walked};
+ghost use Rattle.sci_trace.specs.Lists.{entry_text, entries_text, lent_text, list_text, walked};
 
-use crate::words::{push_blank, push_held, push_name, push_node};
+use crate::words::{push_held, push_name, push_node};
 use sci_script::{Desk, WholeDesk};
 use sci_words::{LineNo, Mem, MemState, NodeId, Tag};
 use std::alloc::AllocError;
@@ -62,48 +63,18 @@ fn push_entries(
     Ok(())
 }
 
-/// ` F` and the entries, where there is a head.
-fn push_head(
-    text: &mut String,
-    desk: &mut WholeDesk,
-    line: LineNo,
-    head: Option<NodeId>,
-    nodes: u16,
-) -> Result<(), AllocError>
-    requires line { line < desk.old.size.lines }
-    requires head { IfSome head (λ n. n < desk.old.size.nodes) }
-    requires nodes { nodes ≡ desk.old.size.nodes }
-    ensures pushed { OnOk result (string_bytes text.new ≡ string_bytes text.old ++ head_text head (walked ((shared_of desk.old).lines line).tags nodes head)) }
-    ensures same { shared_of desk.new ≡ shared_of desk.old }
-    ensures size { desk.new.size ≡ desk.old.size }
+/// The state of the memory word, and ` lent`.
+fn push_state(text: &mut String, mem: Mem) -> Result<(), AllocError>
+    ensures { OnOk result (string_bytes text.new ≡ string_bytes text.old ++ mem_name_of mem ++ lent_text mem.lent) }
 {
-    if let Some(head) = head {
-        push_blank(text)?;
-        push_node(text, head)?;
-        push_entries(text, desk, line, head, nodes)?;
+    match (mem.state, mem.lent) {
+        (MemState::Home, false) => text.push_str("HOME"),
+        (MemState::Home, true) => text.push_str("HOME lent"),
+        (MemState::Fresh, false) => text.push_str("FRESH"),
+        (MemState::Fresh, true) => text.push_str("FRESH lent"),
+        (MemState::Gone, false) => text.push_str("GONE"),
+        (MemState::Gone, true) => text.push_str("GONE lent"),
     }
-    Ok(())
-}
-
-/// A state, with ` lent` where it is, and the list behind it. As a text that is known where it is pushed, the state takes no call.
-#[inline(always)]
-fn push_headed(
-    text: &mut String,
-    state: &str,
-    desk: &mut WholeDesk,
-    line: LineNo,
-    head: Option<NodeId>,
-    nodes: u16,
-) -> Result<(), AllocError>
-    requires line { line < desk.old.size.lines }
-    requires head { IfSome head (λ n. n < desk.old.size.nodes) }
-    requires nodes { nodes ≡ desk.old.size.nodes }
-    ensures pushed { OnOk result (string_bytes text.new ≡ string_bytes text.old ++ (state.now ++ head_text head (walked ((shared_of desk.old).lines line).tags nodes head))) }
-    ensures same { shared_of desk.new ≡ shared_of desk.old }
-    ensures size { desk.new.size ≡ desk.old.size }
-{
-    text.push_str(state)?;
-    push_head(text, desk, line, head, nodes)
 }
 
 /// This memory word of the line and the entries as they stand: `HOME`, `FRESH F: N NAME, N NAME ..`, with ` lent` behind the state
@@ -123,12 +94,11 @@ pub(crate) fn push_list(
     ensures size { desk.new.size ≡ desk.old.size }
 {
     let head = mem.forw;
-    match (mem.state, mem.lent) {
-        (MemState::Home, false) => push_headed(text, "HOME", desk, line, head, nodes),
-        (MemState::Home, true) => push_headed(text, "HOME lent", desk, line, head, nodes),
-        (MemState::Fresh, false) => push_headed(text, "FRESH", desk, line, head, nodes),
-        (MemState::Fresh, true) => push_headed(text, "FRESH lent", desk, line, head, nodes),
-        (MemState::Gone, false) => push_headed(text, "GONE", desk, line, head, nodes),
-        (MemState::Gone, true) => push_headed(text, "GONE lent", desk, line, head, nodes),
+    push_state(text, mem)?;
+    if let Some(head) = head {
+        text.push_str(" ")?;
+        push_node(text, head)?;
+        push_entries(text, desk, line, head, nodes)?;
     }
+    Ok(())
 }

@@ -4,22 +4,13 @@ ghost use Rattle.std.specs.Prelude.{◌≡◌, ◌++◌, OnOk, string_bytes, cod
 ghost use Rattle.sci_trace.specs.Words.{link_word};
 ghost use Rattle.sci_trace.specs.Steps.{step_text};
 
-use crate::words::{push_blank, push_link};
+use crate::words::push_link;
 use sci_core::Stage;
 use sci_words::NodeId;
 use std::alloc::AllocError;
 
-/// A step that keeps no node, with its mark, and a blank. Here and below the blank stands alone: texts that are known where they are
-/// pushed take no call unless an arm of a match ends with one.
-#[inline(always)]
-fn push_plain(text: &mut String, step: &str) -> Result<(), AllocError>
-    ensures { OnOk result (string_bytes text.new ≡ string_bytes text.old ++ (step.now ++ codes " ")) }
-{
-    text.push_str(step)?;
-    push_blank(text)
-}
-
-/// A step that keeps a node or none: its name with the bracket, the node, what closes it, and a blank.
+/// A step that keeps a node or none: its name with the bracket, the node, and what closes it. As texts that are known where they are
+/// pushed, name and mark take no call.
 #[inline(always)]
 fn push_kept(
     text: &mut String,
@@ -27,12 +18,11 @@ fn push_kept(
     kept: Option<NodeId>,
     mark: &str,
 ) -> Result<(), AllocError>
-    ensures { OnOk result (string_bytes text.new ≡ string_bytes text.old ++ (name.now ++ link_word kept ++ mark.now ++ codes " ")) }
+    ensures { OnOk result (string_bytes text.new ≡ string_bytes text.old ++ (name.now ++ link_word kept ++ mark.now)) }
 {
     text.push_str(name)?;
     push_link(text, kept)?;
-    text.push_str(mark)?;
-    push_blank(text)
+    text.push_str(mark)
 }
 
 /// The same of a step that keeps something else in mind: it has this mark where that is so.
@@ -44,12 +34,12 @@ fn push_marked(
     is_marked: bool,
     mark: &str,
 ) -> Result<(), AllocError>
-    ensures { OnOk result (string_bytes text.new ≡ string_bytes text.old ++ (name.now ++ link_word kept ++ (if is_marked then mark.now ++ codes " " else codes "); "))) }
+    ensures { OnOk result (string_bytes text.new ≡ string_bytes text.old ++ (name.now ++ link_word kept ++ (if is_marked then mark.now else codes "); "))) }
 {
     if is_marked {
         push_kept(text, name, kept, mark)
     } else {
-        push_kept(text, name, kept, ");")
+        push_kept(text, name, kept, "); ")
     }
 }
 
@@ -58,38 +48,42 @@ pub(crate) fn push_step(text: &mut String, step: &Stage) -> Result<(), AllocErro
     ensures { OnOk result (string_bytes text.new ≡ string_bytes text.old ++ step_text step.now) }
 {
     match *step {
-        Stage::Idle => push_plain(text, "Idle;"),
-        Stage::Holding { .. } => push_plain(text, "Holding;"),
-        Stage::Queueing { forw } => push_kept(text, "Queueing(", forw, ");"),
-        Stage::Fetching { forw, dirty } => push_marked(text, "Fetching(", forw, dirty, ") dirty;"),
+        Stage::Idle => text.push_str("Idle; "),
+        Stage::Holding { .. } => text.push_str("Holding; "),
+        Stage::Queueing { forw } => push_kept(text, "Queueing(", forw, "); "),
+        Stage::Fetching { forw, dirty } => push_marked(text, "Fetching(", forw, dirty, ") dirty; "),
         Stage::InQueue { forw, dirty, .. } => push_marked(
-            text, "InQueue(", forw, dirty, ") dirty;",
+            text,
+            "InQueue(",
+            forw,
+            dirty,
+            ") dirty; ",
         ),
-        Stage::Copying { forw, .. } => push_kept(text, "Copying(", Some(forw), ");"),
-        Stage::Ready { forw, dirty } => push_marked(text, "Ready(", forw, dirty, ") dirty;"),
+        Stage::Copying { forw, .. } => push_kept(text, "Copying(", Some(forw), "); "),
+        Stage::Ready { forw, dirty } => push_marked(text, "Ready(", forw, dirty, ") dirty; "),
         Stage::Converting { forw, turned } => push_marked(
             text,
             "Converting(",
             forw,
             turned,
-            ") turned;",
+            ") turned; ",
         ),
-        Stage::Purging { .. } => push_plain(text, "Purging;"),
-        Stage::Advancing { victim, .. } => push_kept(text, "Advancing(", Some(victim), ");"),
-        Stage::Clearing { victim, .. } => push_kept(text, "Clearing(", Some(victim), ");"),
-        Stage::Leaving { dirty: false, .. } => push_plain(text, "Leaving;"),
-        Stage::Leaving { .. } => push_plain(text, "Leaving dirty;"),
+        Stage::Purging { .. } => text.push_str("Purging; "),
+        Stage::Advancing { victim, .. } => push_kept(text, "Advancing(", Some(victim), "); "),
+        Stage::Clearing { victim, .. } => push_kept(text, "Clearing(", Some(victim), "); "),
+        Stage::Leaving { dirty: false, .. } => text.push_str("Leaving; "),
+        Stage::Leaving { .. } => text.push_str("Leaving dirty; "),
         Stage::Promoted { dirty, succ } => push_marked(
             text,
             "Promoted(",
             Some(succ),
             dirty,
-            ") dirty;",
+            ") dirty; ",
         ),
-        Stage::WritingBack => push_plain(text, "WritingBack;"),
-        Stage::Parted { forw } => push_kept(text, "Parted(", forw, ");"),
-        Stage::Rolling { told: false, .. } => push_plain(text, "Rolling;"),
-        Stage::Rolling { .. } => push_plain(text, "Rolling told;"),
-        Stage::Unlinked { forw, .. } => push_kept(text, "Unlinked(", forw, ");"),
+        Stage::WritingBack => text.push_str("WritingBack; "),
+        Stage::Parted { forw } => push_kept(text, "Parted(", forw, "); "),
+        Stage::Rolling { told: false, .. } => text.push_str("Rolling; "),
+        Stage::Rolling { .. } => text.push_str("Rolling told; "),
+        Stage::Unlinked { forw, .. } => push_kept(text, "Unlinked(", forw, "); "),
     }
 }

@@ -17,6 +17,29 @@ use sci_script::{Load, Passed, WholeDesk};
 use sci_words::{LineNo, Mem, NodeId, Tag};
 use std::alloc::AllocError;
 
+/// The operation at work on a line: the one that was asked for, or, on another line, the victim's eviction.
+fn push_operation(
+    text: &mut String,
+    asked: &Option<Request>,
+    line: LineNo,
+) -> Result<(), AllocError>
+    ensures { OnOk result (string_bytes text.new ≡ string_bytes text.old ++ operation_name asked.now line) }
+{
+    let Some(request) = asked else {
+        return text.push_str(" evict: ");
+    };
+    if request.line() != line {
+        return text.push_str(" evict: ");
+    }
+    match request {
+        Request::Load { .. } => text.push_str(" load: "),
+        Request::Store { .. } => text.push_str(" store: "),
+        Request::Add { .. } => text.push_str(" add: "),
+        Request::WriteLine { .. } => text.push_str(" write line: "),
+        Request::Evict { .. } => text.push_str(" evict: "),
+    }
+}
+
 /// A wait behind a load of the memory word: in Queueing for the lent line, elsewhere for the place of the head.
 fn push_mem_wait(text: &mut String, stage: &Stage, mem: Mem) -> Result<(), AllocError>
     ensures { OnOk result (string_bytes text.new ≡ string_bytes text.old ++ mem_wait stage.now mem) }
@@ -79,56 +102,19 @@ fn push_act(
     }
 }
 
-/// An operation's name, and what the turn did. As a text that is known where it is pushed, the name takes no call.
-#[inline(always)]
-fn push_named(
-    text: &mut String,
-    name: &str,
-    node: NodeId,
-    passed: &Passed,
-    stage: &Stage,
-    turn: &Turn,
-) -> Result<(), AllocError>
-    ensures { OnOk result (string_bytes text.new ≡ string_bytes text.old ++ (name.now ++ act_text node passed.now stage.now turn.now)) }
-{
-    text.push_str(name)?;
-    push_act(text, node, passed, stage, turn)
-}
-
-/// The operation at work on the line: the one that was asked for, or, on another line, the victim's eviction. Behind it stands what
-/// the turn did.
-fn push_operation(
+fn push_place(
     text: &mut String,
     node: NodeId,
     asked: &Option<Request>,
-    passed: &Passed,
-    stage: &Stage,
-    turn: &Turn,
+    line: LineNo,
 ) -> Result<(), AllocError>
-    ensures { OnOk result (string_bytes text.new ≡ string_bytes text.old ++ (operation_name asked.now passed.now.line ++ act_text node passed.now stage.now turn.now)) }
-{
-    let Some(request) = asked else {
-        return push_named(text, " evict: ", node, passed, stage, turn);
-    };
-    if request.line() != passed.line {
-        return push_named(text, " evict: ", node, passed, stage, turn);
-    }
-    match request {
-        Request::Load { .. } => push_named(text, " load: ", node, passed, stage, turn),
-        Request::Store { .. } => push_named(text, " store: ", node, passed, stage, turn),
-        Request::Add { .. } => push_named(text, " add: ", node, passed, stage, turn),
-        Request::WriteLine { .. } => push_named(text, " write line: ", node, passed, stage, turn),
-        Request::Evict { .. } => push_named(text, " evict: ", node, passed, stage, turn),
-    }
-}
-
-fn push_place(text: &mut String, node: NodeId, line: LineNo) -> Result<(), AllocError>
-    ensures { OnOk result (string_bytes text.new ≡ string_bytes text.old ++ place_text node line) }
+    ensures { OnOk result (string_bytes text.new ≡ string_bytes text.old ++ place_text node asked.now line) }
 {
     text.push_str("# node ")?;
     push_node(text, node)?;
     text.push_str(" line ")?;
-    push_number(text, u64::from(line))
+    push_number(text, u64::from(line))?;
+    push_operation(text, asked, line)
 }
 
 /// One turn of a node, which was asked for this: `# node N line L OPERATION: WHAT; STEP; LIST` and a line feed. WHAT is the event
@@ -153,8 +139,8 @@ pub(crate) fn push_note(
     ensures size { desk.new.size ≡ desk.old.size }
 {
     let line = passed.line;
-    push_place(text, node, line)?;
-    push_operation(text, node, asked, passed, stage, turn)?;
+    push_place(text, node, asked, line)?;
+    push_act(text, node, passed, stage, turn)?;
     push_step(text, stage)?;
     push_list(text, desk, line, mem, nodes)?;
     text.push_str("\n")

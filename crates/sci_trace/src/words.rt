@@ -11,14 +11,6 @@ use sci_script::Load;
 use sci_words::{Kind, NodeId, Tag, name};
 use std::alloc::AllocError;
 
-/// A blank.
-#[inline(always)]
-pub(crate) fn push_blank(text: &mut String) -> Result<(), AllocError>
-    ensures { OnOk result (string_bytes text.new ≡ string_bytes text.old ++ codes " ") }
-{
-    text.push(' ')
-}
-
 /// One digit.
 #[tactic(auto, using(std::proofs::lemmas::Fmt::decimal_digit))]
 #[inline(always)]
