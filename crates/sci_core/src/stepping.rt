@@ -123,6 +123,7 @@ fn answer(answers: bool, line: &Line) -> Option<Line>
 
 impl<K: Keeps> Whole<K> {
     // The code of memory's word, where that isn't the word before.
+    #[inline(always)]
     fn other_memory(&self, before: &Mem) -> Option<u64>
         ensures { MatchOption result ((state_of self.now).memory ≡ before.now) (λ w. ((state_of self.now).memory ≢ before.now) × (w ≡ mem_code (state_of self.now).memory)) }
     {
@@ -135,6 +136,7 @@ impl<K: Keeps> Whole<K> {
     }
 
     // The code of a node's tag, where that isn't the word before.
+    #[inline(always)]
     fn other_tag(&self, node: NodeId, before: &Tag) -> Option<u64>
         requires { node < nodes_of self.now }
         ensures { MatchOption result ((state_of self.now).tags node ≡ before.now) (λ w. ((state_of self.now).tags node ≢ before.now) × (w ≡ tag_code ((state_of self.now).tags node))) }
@@ -148,6 +150,7 @@ impl<K: Keeps> Whole<K> {
     }
 
     // The code of the word that stands where the change would be, where that isn't the word before.
+    #[inline(always)]
     fn other_word(&self, change: &Change) -> Option<u64>
         requires { ChangesBelow (nodes_of self.now) change.now }
         ensures { MatchOption result (Finds (state_of self.now) change.now) (λ w. (Finds (state_of self.now) change.now → ⊥) × (w ≡ found_code (state_of self.now) change.now)) }

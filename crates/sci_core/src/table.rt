@@ -108,6 +108,7 @@ impl Stage {
     }
 
     /// The pending step that keeps this line, where it keeps one.
+    #[inline(always)]
     pub fn with(&self, line: &Line) -> Pending
         ensures { result ≡ pending_of self.now line.now }
     {

@@ -4,6 +4,7 @@ ghost use Rattle.sci_core.specs.Whole.{nodes_of};
 
 mod growths;
 mod memory;
+mod texts;
 
 use super::*;
 use sci_words::{Kind, MemState, NodeId, Tag};

@@ -125,6 +125,7 @@ impl<K: Keeps> Whole<K> {
     }
 
     /// A node's pending step as it stands.
+    #[inline(always)]
     pub fn pending(&self, node: NodeId) -> Pending
         requires { node < nodes_of self.now }
         ensures { result ≡ (state_of self.now).steps node }
