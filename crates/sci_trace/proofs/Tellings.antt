@@ -17,7 +17,7 @@ use Rattle.sci_script.specs.Run.{Prints}
 use Rattle.sci_script.specs.Shared.{Shared, shared_does}
 use Rattle.sci_script.proofs.Runs.{words_behind}
 use Rattle.sci_trace.specs.Notes.{Told, line_of_turn}
-use Rattle.sci_trace.specs.Texts.{note_line}
+use Rattle.sci_trace.specs.Texts.{is_waiting, note_line}
 use Rattle.sci_trace.specs.Telling.{Telling, telling, nothing, AddsLine, telling_is_open, tells, TellsAll}
 
 -- what a run does that tells of its turns, the lines and nodes do
@@ -31,7 +31,7 @@ told_does s (SawResidents node lines) t h = h.0
 -- a line that was added tells of this
 pub told_line : (node : ℕ) (asked : Option Request) (passed : Passed) (stage : Stage) (turn : Turn) (mem : Mem) (entries : List (ℕ × Tag)) (before after : List ℕ) (cut still : Bool) (step : Stage) (word : Mem)
     → stage ≡ step → mem ≡ word
-    → (still ≡ true) ⊎ ((still ≡ cut) × (after ≡ before ++ note_line node asked passed stage turn mem entries))
+    → (still ≡ true) ⊎ ((still ≡ cut) × (after ≡ before ++ note_line node asked passed stage (is_waiting turn) mem entries))
     → (still ≡ true) ⊎ ((still ≡ cut) × (told : Told) × (told.node ≡ node) × (told.turn ≡ turn) × (told.passed ≡ passed) × (told.stage ≡ step) × (told.mem ≡ word) × (after ≡ before ++ line_of_turn told))
 told_line node asked passed stage turn mem entries before after cut still step word stands is (inl h) = inl h
 told_line node asked passed stage turn mem entries before after cut still step word stands is (inr (kept, added)) =

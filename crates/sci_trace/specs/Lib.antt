@@ -1,3 +1,4 @@
+pub mod NoteText
 pub mod Words
 pub mod Events
 pub mod Steps

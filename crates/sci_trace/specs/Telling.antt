@@ -1,5 +1,5 @@
 -- A run that tells of its turns, one after the other. This project's profile.
-use Rattle.std.specs.Prelude.{◌≡◌, ◌⊎◌, ℕ, Bool, true, false, List, [], ◌∷◌, ◌++◌, None, string_bytes}
+use Rattle.std.specs.Prelude.{◌≡◌, ◌⊎◌, ℕ, Bool, true, false, List, [], ◌∷◌, ◌++◌, None}
 use Rattle.sci_core.specs.Stage.{stage_of}
 use Rattle.sci_ops.specs.declared.answers.Turn.{Turn}
 use Rattle.sci_script.specs.declared.commands.Step.{Step}
@@ -10,6 +10,7 @@ use Rattle.sci_script.specs.Request.{words_after}
 use Rattle.sci_script.specs.Run.{Prints}
 use Rattle.sci_script.specs.Shared.{Shared, shared_is_open, shared_does}
 use Rattle.sci_script.specs.Wholes.{shared_of}
+use Rattle.sci_trace.specs.NoteText.{note_bytes}
 use Rattle.sci_trace.specs.declared.desk.TraceDesk.{TraceDesk}
 use Rattle.sci_trace.specs.Notes.{Told, line_of_turn}
 
@@ -20,7 +21,7 @@ pub record Telling : Type 0 where
   pub is_cut : Bool
 
 abbrev pub telling_of : TraceDesk → Telling
-telling_of desk = record { shared = shared_of desk.desk; notes = string_bytes desk.notes.text; is_cut = desk.notes.is_cut }
+telling_of desk = record { shared = shared_of desk.desk; notes = note_bytes desk.notes.text; is_cut = desk.notes.is_cut }
 
 -- with these lines, and none refused
 abbrev pub telling : Shared → List ℕ → Telling

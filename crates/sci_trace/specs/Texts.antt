@@ -1,5 +1,5 @@
 -- The line of one turn. This project's profile.
-use Rattle.std.specs.Prelude.{ℕ, List, ◌++◌, Option, Some, None, codes, ◌==◌, if◌then◌else◌}
+use Rattle.std.specs.Prelude.{ℕ, Bool, true, false, List, ◌++◌, Option, Some, None, codes, ◌==◌, if◌then◌else◌}
 use Rattle.std.specs.Fmt.{decimal}
 use Rattle.sci_words.specs.declared.memory.Mem.{Mem}
 use Rattle.sci_words.specs.declared.tags.Tag.{Tag}
@@ -38,15 +38,19 @@ wait_text node (Some (Load.Mem (Some mem))) stage = mem_wait stage mem
 wait_text node (Some (Load.Tag other (Some tag))) stage = tag_text other tag
 wait_text node _ stage = codes "the line is busy"
 
+abbrev pub is_waiting : Turn → Bool
+is_waiting Turn.Waiting = true
+is_waiting _ = false
+
 -- a turn without an exchange: it waited, or it only looked
-abbrev pub look_text : ℕ → Option Load → Stage → Turn → List ℕ
-look_text node load stage Turn.Waiting = codes "waits: " ++ wait_text node load stage ++ codes "; "
-look_text node load stage _ = codes "only looked; "
+abbrev pub look_text : ℕ → Option Load → Stage → Bool → List ℕ
+look_text node load stage true = codes "waits: " ++ wait_text node load stage ++ codes "; "
+look_text node load stage false = codes "only looked; "
 
 -- what a turn did: its event and how the exchange ended, or its wait, or that it only looked
-abbrev pub act_text : ℕ → Passed → Stage → Turn → List ℕ
-act_text node passed stage turn = elim passed.step [
-  | None ↦ look_text node passed.load stage turn
+abbrev pub act_text : ℕ → Passed → Stage → Bool → List ℕ
+act_text node passed stage waits = elim passed.step [
+  | None ↦ look_text node passed.load stage waits
   | Some step ↦ event_text passed.load step.0 step.1
 ]
 
@@ -55,6 +59,6 @@ abbrev pub place_text : ℕ → Option Request → ℕ → List ℕ
 place_text node asked line = codes "# node " ++ decimal node ++ codes " line " ++ decimal line ++ operation_name asked line
 
 -- `# node N line L OPERATION: WHAT; STEP; LIST`
-abbrev pub note_line : ℕ → Option Request → Passed → Stage → Turn → Mem → List (ℕ × Tag) → List ℕ
-note_line node asked passed stage turn mem entries =
-    place_text node asked passed.line ++ act_text node passed stage turn ++ step_text stage ++ list_text mem entries ++ codes "\n"
+abbrev pub note_line : ℕ → Option Request → Passed → Stage → Bool → Mem → List (ℕ × Tag) → List ℕ
+note_line node asked passed stage waits mem entries =
+    place_text node asked passed.line ++ act_text node passed stage waits ++ step_text stage ++ list_text mem entries ++ codes "\n"

@@ -6,6 +6,7 @@ mod desk;
 mod drawing;
 mod events;
 mod lists;
+mod note_text;
 mod notes;
 mod page;
 mod running;

@@ -1,26 +1,29 @@
 //! A sharing list with what listings don't show: what is lent and what is held.
 
-ghost use Rattle.std.specs.Prelude.{◌≡◌, ◌<◌, ◌++◌, Some, OnOk, IfOk, IfSome, string_bytes, codes};
+ghost use Rattle.std.specs.Prelude.{◌≡◌, ◌<◌, ◌++◌, Some, OnOk, IfOk, IfSome, codes};
+ghost use Rattle.sci_trace.specs.NoteText.{note_bytes};
 ghost use Rattle.sci_words.specs.Mem.{mem_name_of};
 ghost use Rattle.sci_script.specs.Wholes.{shared_of};
 ghost use Rattle.sci_trace.specs.Lists.{entry_text, entries_text, lent_text, list_text, walked};
 
+use crate::note_text::NoteText;
 use crate::words::{push_held, push_name, push_node};
 use sci_script::{Desk, WholeDesk};
 use sci_words::{LineNo, Mem, MemState, NodeId, Tag};
 use std::alloc::AllocError;
 
-/// An entry as it stands, `N NAME`, and ` held`. Answers the one behind it.
+/// An entry as it stands behind a piece: `N NAME`, and ` held`. Answers the one behind it.
 #[inline(always)]
-fn push_entry(
-    text: &mut String,
+fn push_entry<const A: usize>(
+    text: &mut NoteText,
+    before: &[u8; A],
     desk: &mut WholeDesk,
     line: LineNo,
     node: NodeId,
 ) -> Result<Option<NodeId>, AllocError>
     requires line { line < desk.old.size.lines }
     requires node { node < desk.old.size.nodes }
-    ensures pushed { OnOk result (string_bytes text.new ≡ string_bytes text.old ++ entry_text (node, ((shared_of desk.old).lines line).tags node)) }
+    ensures pushed { OnOk result (note_bytes text.new ≡ (note_bytes text.old ++ before.now) ++ entry_text (node, ((shared_of desk.old).lines line).tags node)) }
     ensures next { IfOk result (λ next. next ≡ (((shared_of desk.old).lines line).tags node).forw) }
     ensures link { IfOk result (λ next. IfSome next (λ n. n < desk.old.size.nodes)) }
     ensures same { shared_of desk.new ≡ shared_of desk.old }
@@ -30,7 +33,7 @@ fn push_entry(
         unreachable!()
     };
     let Tag { held, forw, .. } = tag;
-    push_node(text, node)?;
+    push_node(text, before, node, b" ")?;
     push_name(text, tag)?;
     push_held(text, held)?;
     Ok(forw)
@@ -38,7 +41,7 @@ fn push_entry(
 
 /// The entries along the links from `head` on, at most as many as there are nodes.
 fn push_entries(
-    text: &mut String,
+    text: &mut NoteText,
     desk: &mut WholeDesk,
     line: LineNo,
     head: NodeId,
@@ -47,40 +50,38 @@ fn push_entries(
     requires line { line < desk.old.size.lines }
     requires head { head < desk.old.size.nodes }
     requires nodes { nodes ≡ desk.old.size.nodes }
-    ensures pushed { OnOk result (string_bytes text.new ≡ string_bytes text.old ++ entries_text (walked ((shared_of desk.old).lines line).tags nodes (Some head))) }
+    ensures pushed { OnOk result (note_bytes text.new ≡ note_bytes text.old ++ entries_text (walked ((shared_of desk.old).lines line).tags nodes (Some head))) }
     ensures same { shared_of desk.new ≡ shared_of desk.old }
     ensures size { desk.new.size ≡ desk.old.size }
 {
-    text.push_str(": ")?;
-    let mut next = push_entry(text, desk, line, head)?;
+    let mut next = push_entry(text, b": ", desk, line, head)?;
     for _ in 1..nodes {
         let Some(node) = next else {
             return Ok(());
         };
-        text.push_str(", ")?;
-        next = push_entry(text, desk, line, node)?;
+        next = push_entry(text, b", ", desk, line, node)?;
     }
     Ok(())
 }
 
 /// The state of the memory word, and ` lent`.
-fn push_state(text: &mut String, mem: Mem) -> Result<(), AllocError>
-    ensures { OnOk result (string_bytes text.new ≡ string_bytes text.old ++ mem_name_of mem ++ lent_text mem.lent) }
+fn push_state(text: &mut NoteText, mem: Mem) -> Result<(), AllocError>
+    ensures { OnOk result (note_bytes text.new ≡ note_bytes text.old ++ mem_name_of mem ++ lent_text mem.lent) }
 {
     match (mem.state, mem.lent) {
-        (MemState::Home, false) => text.push_str("HOME"),
-        (MemState::Home, true) => text.push_str("HOME lent"),
-        (MemState::Fresh, false) => text.push_str("FRESH"),
-        (MemState::Fresh, true) => text.push_str("FRESH lent"),
-        (MemState::Gone, false) => text.push_str("GONE"),
-        (MemState::Gone, true) => text.push_str("GONE lent"),
+        (MemState::Home, false) => text.push(b"HOME"),
+        (MemState::Home, true) => text.push(b"HOME lent"),
+        (MemState::Fresh, false) => text.push(b"FRESH"),
+        (MemState::Fresh, true) => text.push(b"FRESH lent"),
+        (MemState::Gone, false) => text.push(b"GONE"),
+        (MemState::Gone, true) => text.push(b"GONE lent"),
     }
 }
 
 /// This memory word of the line and the entries as they stand: `HOME`, `FRESH F: N NAME, N NAME ..`, with ` lent` behind the state
 /// and ` held` behind a name.
 pub(crate) fn push_list(
-    text: &mut String,
+    text: &mut NoteText,
     desk: &mut WholeDesk,
     line: LineNo,
     mem: Mem,
@@ -89,15 +90,14 @@ pub(crate) fn push_list(
     requires line { line < desk.old.size.lines }
     requires head { IfSome mem.forw (λ n. n < desk.old.size.nodes) }
     requires nodes { nodes ≡ desk.old.size.nodes }
-    ensures pushed { OnOk result (string_bytes text.new ≡ string_bytes text.old ++ list_text mem (walked ((shared_of desk.old).lines line).tags nodes mem.forw)) }
+    ensures pushed { OnOk result (note_bytes text.new ≡ note_bytes text.old ++ list_text mem (walked ((shared_of desk.old).lines line).tags nodes mem.forw)) }
     ensures same { shared_of desk.new ≡ shared_of desk.old }
     ensures size { desk.new.size ≡ desk.old.size }
 {
     let head = mem.forw;
     push_state(text, mem)?;
     if let Some(head) = head {
-        text.push_str(" ")?;
-        push_node(text, head)?;
+        push_node(text, b" ", head, b"")?;
         push_entries(text, desk, line, head, nodes)?;
     }
     Ok(())

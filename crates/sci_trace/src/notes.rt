@@ -1,11 +1,13 @@
 //! The lines of the turns of one command, until they are written.
 
-ghost use Rattle.std.specs.Prelude.{◌≡◌, ◌<◌, IfSome, ◌++◌, ◌⊎◌, [], string_bytes, true, false};
+ghost use Rattle.std.specs.Prelude.{◌≡◌, ◌<◌, IfSome, ◌++◌, ◌⊎◌, [], true, false, take};
+ghost use Rattle.sci_trace.specs.NoteText.{note_bytes};
 ghost use Rattle.sci_script.specs.Wholes.{shared_of};
 ghost use Rattle.sci_trace.specs.Lists.{walked};
 ghost use Rattle.sci_trace.specs.Notes.{AreNotes};
-ghost use Rattle.sci_trace.specs.Texts.{note_line};
+ghost use Rattle.sci_trace.specs.Texts.{is_waiting, note_line};
 
+use crate::note_text::NoteText;
 use crate::texts::push_note;
 use sci_cache::Request;
 use sci_core::Stage;
@@ -17,28 +19,29 @@ use std::alloc::Global;
 /// Whole lines, one for each turn. Where memory was refused for one, there is none, and it says so from then on.
 #[derive(Drop)]
 pub struct Notes {
-    text: String,
+    text: NoteText,
     is_cut: bool,
-    ghost lines: { AreNotes (string_bytes text) },
+    ghost lines: { AreNotes (note_bytes text) },
+}
+
+/// The turn waited.
+#[inline(always)]
+fn is_waiting(turn: &Turn) -> bool
+    ensures { result ≡ is_waiting turn.now }
+{
+    matches!(turn, Turn::Waiting)
 }
 
 impl Notes {
     /// No lines.
     pub(crate) fn new(alloc: Global) -> Notes
-        ensures empty { string_bytes result.text ≡ [] }
+        ensures empty { note_bytes result.text ≡ [] }
         ensures whole { result.is_cut ≡ false }
     {
         Notes {
-            text: String::new(alloc),
+            text: NoteText::new(alloc),
             is_cut: false,
         }
-    }
-
-    /// The lines.
-    pub(crate) fn as_bytes(&self) -> &[u8]
-        ensures { result.now ≡ string_bytes self.now.text }
-    {
-        self.text.as_bytes()
     }
 
     /// Memory was refused for a line.
@@ -50,7 +53,7 @@ impl Notes {
 
     /// Drops the lines.
     pub(crate) fn clear(&mut self)
-        ensures empty { string_bytes self.new.text ≡ [] }
+        ensures empty { note_bytes self.new.text ≡ [] }
         ensures cut { self.new.is_cut ≡ self.old.is_cut }
     {
         self.text.clear();
@@ -58,14 +61,29 @@ impl Notes {
 
     /// Drops the lines, and says that memory was refused.
     pub(crate) fn cut(&mut self)
-        ensures empty { string_bytes self.new.text ≡ [] }
+        ensures empty { note_bytes self.new.text ≡ [] }
         ensures cut { self.new.is_cut ≡ true }
     {
         self.clear();
         self.is_cut = true;
     }
 
+    /// The lines, but for what waits.
+    pub(crate) fn front(&self) -> &[u8]
+        ensures { result.now ≡ self.now.text.front.items }
+    {
+        self.text.front()
+    }
+
+    /// What waits behind it.
+    pub(crate) fn waiting(&self) -> &[u8]
+        ensures { result.now ≡ take self.now.text.waiting self.now.text.room }
+    {
+        self.text.waiting()
+    }
+
     /// Adds the line of a turn.
+    #[inline(always)]
     pub(crate) fn tell(
         &mut self,
         desk: &mut WholeDesk,
@@ -80,13 +98,14 @@ impl Notes {
         requires line { passed.now.line < desk.old.size.lines }
         requires head { IfSome mem.forw (λ n. n < desk.old.size.nodes) }
         requires nodes { nodes ≡ desk.old.size.nodes }
-        ensures told { (self.new.is_cut ≡ true) ⊎ ((self.new.is_cut ≡ self.old.is_cut) × (string_bytes self.new.text ≡ string_bytes self.old.text
-            ++ note_line node asked.now passed.now stage.now turn.now mem (walked ((shared_of desk.old).lines passed.now.line).tags nodes mem.forw))) }
+        ensures told { (self.new.is_cut ≡ true) ⊎ ((self.new.is_cut ≡ self.old.is_cut) × (note_bytes self.new.text ≡ note_bytes self.old.text
+            ++ note_line node asked.now passed.now stage.now (is_waiting turn.now) mem (walked ((shared_of desk.old).lines passed.now.line).tags nodes mem.forw))) }
         ensures same { shared_of desk.new ≡ shared_of desk.old }
         ensures size { desk.new.size ≡ desk.old.size }
     {
         let text = &mut self.text;
-        match push_note(text, desk, node, asked, passed, stage, turn, mem, nodes) {
+        let waits = is_waiting(turn);
+        match push_note(text, desk, node, asked, passed, stage, waits, mem, nodes) {
             Ok(()) => {}
             Err(_) => {
                 // the front of a line is no line

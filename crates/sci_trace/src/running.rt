@@ -1,6 +1,7 @@
 //! Runs a script with a line for each turn.
 
-ghost use Rattle.std.specs.Prelude.{◌≡◌, ℕ, List, [], false, OnOk, IfErr, string_bytes};
+ghost use Rattle.std.specs.Prelude.{◌≡◌, ℕ, List, [], false, OnOk, IfErr};
+ghost use Rattle.sci_trace.specs.NoteText.{note_bytes};
 ghost use Rattle.std.specs.Io.KnownBytes.{Appends};
 ghost use Rattle.sci_script.specs.Request.{no_words};
 ghost use Rattle.sci_script.specs.Wholes.{shared_of};
@@ -21,18 +22,22 @@ fn put_notes<W: Write>(
     coding: Coding,
     out: &mut W,
 ) -> Result<(), ScriptRefusal>
-    ensures ok { OnOk result (Appends (W.contents out.old) (W.contents out.new) (coded coding (string_bytes desk.old.notes.text))) }
-    ensures err { IfErr result (λ e. (written : List ℕ) × NotesLeft coding e (string_bytes desk.old.notes.text) written
+    ensures ok { OnOk result (Appends (W.contents out.old) (W.contents out.new) (coded coding (note_bytes desk.old.notes.text))) }
+    ensures err { IfErr result (λ e. (written : List ℕ) × NotesLeft coding e (note_bytes desk.old.notes.text) written
         × Appends (W.contents out.old) (W.contents out.new) written) }
     ensures whole { OnOk result (desk.old.notes.is_cut ≡ false) }
-    ensures dropped { OnOk result ((string_bytes desk.new.notes.text ≡ []) × (desk.new.notes.is_cut ≡ false)) }
+    ensures dropped { OnOk result ((note_bytes desk.new.notes.text ≡ []) × (desk.new.notes.is_cut ≡ false)) }
     ensures desk { desk.new.desk ≡ desk.old.desk }
     ensures size { desk.new.size ≡ desk.old.size }
 {
     if desk.notes.is_cut() {
         return Err(ScriptRefusal::OutOfMemory);
     }
-    match put_coded(out, coding, desk.notes.as_bytes()) {
+    match put_coded(out, coding, desk.notes.front()) {
+        Ok(()) => {}
+        Err(_) => return Err(ScriptRefusal::WriteFailed),
+    }
+    match put_coded(out, coding, desk.notes.waiting()) {
         Ok(()) => {
             desk.notes.clear();
             Ok(())

@@ -1,6 +1,7 @@
 //! The lines that a trace adds.
 
-ghost use Rattle.std.specs.Prelude.{◌≡◌, ◌<◌, ◌++◌, OnOk, IfSome, string_bytes, codes};
+ghost use Rattle.std.specs.Prelude.{◌≡◌, ◌<◌, ◌++◌, OnOk, IfSome, codes};
+ghost use Rattle.sci_trace.specs.NoteText.{note_bytes};
 ghost use Rattle.sci_script.specs.Wholes.{shared_of};
 ghost use Rattle.sci_trace.specs.Lists.{walked};
 ghost use Rattle.std.specs.Fmt.{decimal};
@@ -8,140 +9,138 @@ ghost use Rattle.sci_trace.specs.Texts.{operation_name, mem_wait, wait_text, loo
 
 use crate::events::push_event;
 use crate::lists::push_list;
+use crate::note_text::NoteText;
 use crate::steps::push_step;
-use crate::words::{push_link, push_node, push_number, push_tag};
+use crate::words::{push_between, push_link, push_node, push_tag};
 use sci_cache::Request;
 use sci_core::Stage;
-use sci_ops::Turn;
 use sci_script::{Load, Passed, WholeDesk};
 use sci_words::{LineNo, Mem, NodeId, Tag};
 use std::alloc::AllocError;
 
 /// The operation at work on a line: the one that was asked for, or, on another line, the victim's eviction.
 fn push_operation(
-    text: &mut String,
+    text: &mut NoteText,
     asked: &Option<Request>,
     line: LineNo,
 ) -> Result<(), AllocError>
-    ensures { OnOk result (string_bytes text.new ≡ string_bytes text.old ++ operation_name asked.now line) }
+    ensures { OnOk result (note_bytes text.new ≡ note_bytes text.old ++ operation_name asked.now line) }
 {
     let Some(request) = asked else {
-        return text.push_str(" evict: ");
+        return text.push(b" evict: ");
     };
     if request.line() != line {
-        return text.push_str(" evict: ");
+        return text.push(b" evict: ");
     }
     match request {
-        Request::Load { .. } => text.push_str(" load: "),
-        Request::Store { .. } => text.push_str(" store: "),
-        Request::Add { .. } => text.push_str(" add: "),
-        Request::WriteLine { .. } => text.push_str(" write line: "),
-        Request::Evict { .. } => text.push_str(" evict: "),
+        Request::Load { .. } => text.push(b" load: "),
+        Request::Store { .. } => text.push(b" store: "),
+        Request::Add { .. } => text.push(b" add: "),
+        Request::WriteLine { .. } => text.push(b" write line: "),
+        Request::Evict { .. } => text.push(b" evict: "),
     }
 }
 
 /// A wait behind a load of the memory word: in Queueing for the lent line, elsewhere for the place of the head.
-fn push_mem_wait(text: &mut String, stage: &Stage, mem: Mem) -> Result<(), AllocError>
-    ensures { OnOk result (string_bytes text.new ≡ string_bytes text.old ++ mem_wait stage.now mem) }
+fn push_mem_wait(text: &mut NoteText, stage: &Stage, mem: Mem) -> Result<(), AllocError>
+    ensures { OnOk result (note_bytes text.new ≡ note_bytes text.old ++ mem_wait stage.now mem) }
 {
     if let Stage::Queueing { .. } = stage {
-        return text.push_str("memory is lent");
+        return text.push(b"memory is lent");
     }
-    text.push_str("memory names ")?;
-    push_link(text, mem.forw)
+    push_link(text, b"memory names ", mem.forw, b"")
 }
 
 /// What a turn that waited has seen last.
 fn push_wait(
-    text: &mut String,
+    text: &mut NoteText,
     node: NodeId,
     load: &Option<Load>,
     stage: &Stage,
 ) -> Result<(), AllocError>
-    ensures { OnOk result (string_bytes text.new ≡ string_bytes text.old ++ wait_text node load.now stage.now) }
+    ensures { OnOk result (note_bytes text.new ≡ note_bytes text.old ++ wait_text node load.now stage.now) }
 {
     match load {
         Some(Load::Own(Some(tag))) => push_tag(text, node, *tag),
         Some(Load::Mem(Some(mem))) => push_mem_wait(text, stage, *mem),
         Some(Load::Tag(other, Some(tag))) => push_tag(text, *other, *tag),
-        _ => text.push_str("the line is busy"),
+        _ => text.push(b"the line is busy"),
     }
 }
 
 // A turn without an exchange: it waited, or it only looked.
 fn push_look(
-    text: &mut String,
+    text: &mut NoteText,
     node: NodeId,
     load: &Option<Load>,
     stage: &Stage,
-    turn: &Turn,
+    waits: bool,
 ) -> Result<(), AllocError>
-    ensures { OnOk result (string_bytes text.new ≡ string_bytes text.old ++ look_text node load.now stage.now turn.now) }
+    ensures { OnOk result (note_bytes text.new ≡ note_bytes text.old ++ look_text node load.now stage.now waits) }
 {
-    if let Turn::Waiting = turn {
-        text.push_str("waits: ")?;
+    if waits {
+        text.push(b"waits: ")?;
         push_wait(text, node, load, stage)?;
-        return text.push_str("; ");
+        return text.push(b"; ");
     }
-    text.push_str("only looked; ")
+    text.push(b"only looked; ")
 }
 
 /// What a turn did: its event and how the exchange ended, or its wait, or that it only looked.
 fn push_act(
-    text: &mut String,
+    text: &mut NoteText,
     node: NodeId,
     passed: &Passed,
     stage: &Stage,
-    turn: &Turn,
+    waits: bool,
 ) -> Result<(), AllocError>
-    ensures { OnOk result (string_bytes text.new ≡ string_bytes text.old ++ act_text node passed.now stage.now turn.now) }
+    ensures { OnOk result (note_bytes text.new ≡ note_bytes text.old ++ act_text node passed.now stage.now waits) }
 {
     match &passed.step {
         Some((event, ending)) => push_event(text, &passed.load, event, *ending),
-        None => push_look(text, node, &passed.load, stage, turn),
+        None => push_look(text, node, &passed.load, stage, waits),
     }
 }
 
 fn push_place(
-    text: &mut String,
+    text: &mut NoteText,
     node: NodeId,
     asked: &Option<Request>,
     line: LineNo,
 ) -> Result<(), AllocError>
-    ensures { OnOk result (string_bytes text.new ≡ string_bytes text.old ++ place_text node asked.now line) }
+    ensures { OnOk result (note_bytes text.new ≡ note_bytes text.old ++ place_text node asked.now line) }
 {
-    text.push_str("# node ")?;
-    push_node(text, node)?;
-    text.push_str(" line ")?;
-    push_number(text, u64::from(line))?;
+    push_node(text, b"# node ", node, b" line ")?;
+    push_between(text, b"", u64::from(line), b"")?;
     push_operation(text, asked, line)
 }
 
 /// One turn of a node, which was asked for this: `# node N line L OPERATION: WHAT; STEP; LIST` and a line feed. WHAT is the event
 /// and Done or Missed, `waits: ` and what it waits for, or `only looked`; STEP is the pending step after the turn; LIST is this
 /// memory word and the entries as they stand, with what is lent and held.
+#[inline(always)]
 pub(crate) fn push_note(
-    text: &mut String,
+    text: &mut NoteText,
     desk: &mut WholeDesk,
     node: NodeId,
     asked: &Option<Request>,
     passed: &Passed,
     stage: &Stage,
-    turn: &Turn,
+    waits: bool,
     mem: Mem,
     nodes: u16,
 ) -> Result<(), AllocError>
     requires line { passed.now.line < desk.old.size.lines }
     requires head { IfSome mem.forw (λ n. n < desk.old.size.nodes) }
     requires nodes { nodes ≡ desk.old.size.nodes }
-    ensures pushed { OnOk result (string_bytes text.new ≡ string_bytes text.old ++ note_line node asked.now passed.now stage.now turn.now mem (walked ((shared_of desk.old).lines passed.now.line).tags nodes mem.forw)) }
+    ensures pushed { OnOk result (note_bytes text.new ≡ note_bytes text.old ++ note_line node asked.now passed.now stage.now waits mem (walked ((shared_of desk.old).lines passed.now.line).tags nodes mem.forw)) }
     ensures same { shared_of desk.new ≡ shared_of desk.old }
     ensures size { desk.new.size ≡ desk.old.size }
 {
     let line = passed.line;
     push_place(text, node, asked, line)?;
-    push_act(text, node, passed, stage, turn)?;
+    push_act(text, node, passed, stage, waits)?;
     push_step(text, stage)?;
     push_list(text, desk, line, mem, nodes)?;
-    text.push_str("\n")
+    text.push(b"\n")
 }

@@ -1,114 +1,127 @@
 //! The parts that the words of a note share.
 
-ghost use Rattle.std.specs.Prelude.{◌≡◌, ◌<◌, ◌≤◌, ◌++◌, OnOk, string_bytes, codes};
+ghost use Rattle.std.specs.Prelude.{◌≡◌, ◌<◌, ◌≤◌, ◌+◌, ◌++◌, OnOk, codes};
+ghost use Rattle.sci_trace.specs.NoteText.{note_bytes};
 ghost use Rattle.std.specs.Fmt.{decimal};
 ghost use Rattle.sci_script.specs.Text.{held_text};
 ghost use Rattle.sci_words.specs.Tag.{name_of};
 ghost use Rattle.sci_trace.specs.Words.{link_word, found_text, tag_text};
 
+use crate::note_text::NoteText;
 use itoa::Buffer;
 use sci_script::Load;
-use sci_words::{Kind, NodeId, Tag, name};
+use sci_words::{Kind, NodeId, Tag};
 use std::alloc::AllocError;
 
-/// One digit.
-#[tactic(auto, using(std::proofs::lemmas::Fmt::decimal_digit))]
+/// A digit's byte.
 #[inline(always)]
-fn push_digit(text: &mut String, digit: u64) -> Result<(), AllocError>
+fn digit(digit: u64) -> u8
     requires { digit < 10 }
-    ensures { OnOk result (string_bytes text.new ≡ string_bytes text.old ++ decimal digit) }
+    ensures { result ≡ 48 + digit }
 {
-    text.push(char::from(b'0' + digit as u8))
-}
-
-/// A number of two digits.
-#[tactic(auto, using(std::proofs::lemmas::Fmt::decimal_digit))]
-#[inline(always)]
-fn push_two_digits(text: &mut String, number: u64) -> Result<(), AllocError>
-    requires { (10 ≤ number) × (number < 100) }
-    ensures { OnOk result (string_bytes text.new ≡ string_bytes text.old ++ decimal number) }
-{
-    push_digit(text, number / 10)?;
-    push_digit(text, number % 10)
+    b'0' + digit as u8
 }
 
 /// A number of any size.
-fn push_digits(text: &mut String, number: u64) -> Result<(), AllocError>
-    ensures { OnOk result (string_bytes text.new ≡ string_bytes text.old ++ decimal number) }
+fn push_digits(text: &mut NoteText, number: u64) -> Result<(), AllocError>
+    ensures { OnOk result (note_bytes text.new ≡ note_bytes text.old ++ decimal number) }
 {
-    text.push_str(Buffer::new().format(number))
+    text.push_bytes(Buffer::new().format(number).as_bytes())
 }
 
-/// A number in decimal digits. Each line of a turn has some, and `write!` takes several times as long; most have one digit or two.
+/// A number in decimal digits between two pieces. Each line of a turn has some, and `write!` takes several times as long; most have one
+/// digit or two.
+#[tactic(auto, using(std::proofs::lemmas::Fmt::decimal_digit, crate::proofs::Digits::two_digits))]
 #[inline(always)]
-pub(crate) fn push_number(text: &mut String, number: u64) -> Result<(), AllocError>
-    ensures { OnOk result (string_bytes text.new ≡ string_bytes text.old ++ decimal number) }
+pub(crate) fn push_between<const A: usize, const B: usize>(
+    text: &mut NoteText,
+    before: &[u8; A],
+    number: u64,
+    after: &[u8; B],
+) -> Result<(), AllocError>
+    ensures { OnOk result (note_bytes text.new ≡ note_bytes text.old ++ (before.now ++ decimal number ++ after.now)) }
 {
     if number < 10 {
-        return push_digit(text, number);
+        return text.push_three(before, &[digit(number)], after);
     }
     if number < 100 {
-        return push_two_digits(text, number);
+        let digits = [digit(number / 10), digit(number % 10)];
+        return text.push_three(before, &digits, after);
     }
-    push_digits(text, number)
+    text.push(before)?;
+    push_digits(text, number)?;
+    text.push(after)
 }
 
-/// A node's number.
+/// A node's number between two pieces.
 #[inline(always)]
-pub(crate) fn push_node(text: &mut String, node: NodeId) -> Result<(), AllocError>
-    ensures { OnOk result (string_bytes text.new ≡ string_bytes text.old ++ decimal node) }
+pub(crate) fn push_node<const A: usize, const B: usize>(
+    text: &mut NoteText,
+    before: &[u8; A],
+    node: NodeId,
+    after: &[u8; B],
+) -> Result<(), AllocError>
+    ensures { OnOk result (note_bytes text.new ≡ note_bytes text.old ++ (before.now ++ decimal node ++ after.now)) }
 {
-    push_number(text, u64::from(node.get()))
+    push_between(text, before, u64::from(node.get()), after)
 }
 
-/// A link: a node, or `none`.
+/// A link between two pieces: a node, or `none`.
 #[inline(always)]
-pub(crate) fn push_link(text: &mut String, link: Option<NodeId>) -> Result<(), AllocError>
-    ensures { OnOk result (string_bytes text.new ≡ string_bytes text.old ++ link_word link) }
+pub(crate) fn push_link<const A: usize, const B: usize>(
+    text: &mut NoteText,
+    before: &[u8; A],
+    link: Option<NodeId>,
+    after: &[u8; B],
+) -> Result<(), AllocError>
+    ensures { OnOk result (note_bytes text.new ≡ note_bytes text.old ++ (before.now ++ link_word link ++ after.now)) }
 {
     match link {
-        Some(node) => push_node(text, node),
-        None => text.push_str("none"),
+        Some(node) => push_node(text, before, node, after),
+        None => text.push_three(before, b"none", after),
     }
 }
 
 /// The tag that an event found: `NAME` of the own tag, `N NAME` of another node's.
-pub(crate) fn push_found(text: &mut String, load: &Option<Load>, tag: Tag) -> Result<(), AllocError>
-    ensures { OnOk result (string_bytes text.new ≡ string_bytes text.old ++ found_text load.now tag) }
+pub(crate) fn push_found(
+    text: &mut NoteText,
+    load: &Option<Load>,
+    tag: Tag,
+) -> Result<(), AllocError>
+    ensures { OnOk result (note_bytes text.new ≡ note_bytes text.old ++ found_text load.now tag) }
 {
     if let Some(Load::Tag(node, _)) = load {
-        push_node(text, *node)?;
-        return push_name(text, tag);
+        push_node(text, b"", *node, b" ")?;
     }
-    text.push_str(name(tag))
+    push_name(text, tag)
 }
 
-/// A tag's name behind a blank. Each is a text that is known where it is pushed, and so takes no call.
+/// A tag's name.
 #[inline(always)]
-pub(crate) fn push_name(text: &mut String, tag: Tag) -> Result<(), AllocError>
-    ensures { OnOk result (string_bytes text.new ≡ string_bytes text.old ++ codes " " ++ name_of tag) }
+pub(crate) fn push_name(text: &mut NoteText, tag: Tag) -> Result<(), AllocError>
+    ensures { OnOk result (note_bytes text.new ≡ note_bytes text.old ++ name_of tag) }
 {
     let is_followed = tag.forw.is_some();
     match tag.kind {
-        Kind::Invalid => text.push_str(" INVALID"),
-        Kind::Queued => text.push_str(" QUEUED"),
-        Kind::Fresh if is_followed => text.push_str(" HEAD_FRESH"),
-        Kind::Fresh => text.push_str(" ONLY_FRESH"),
-        Kind::Dirty if is_followed => text.push_str(" HEAD_DIRTY"),
-        Kind::Dirty => text.push_str(" ONLY_DIRTY"),
-        Kind::Convert => text.push_str(" CONVERT"),
-        Kind::Purging => text.push_str(" PURGING"),
-        Kind::Leaving => text.push_str(" LEAVING"),
-        Kind::Valid if is_followed => text.push_str(" MID_VALID"),
-        Kind::Valid => text.push_str(" TAIL_VALID"),
-        Kind::Roll => text.push_str(" ROLL"),
-        Kind::Purged => text.push_str(" PURGED"),
+        Kind::Invalid => text.push(b"INVALID"),
+        Kind::Queued => text.push(b"QUEUED"),
+        Kind::Fresh if is_followed => text.push(b"HEAD_FRESH"),
+        Kind::Fresh => text.push(b"ONLY_FRESH"),
+        Kind::Dirty if is_followed => text.push(b"HEAD_DIRTY"),
+        Kind::Dirty => text.push(b"ONLY_DIRTY"),
+        Kind::Convert => text.push(b"CONVERT"),
+        Kind::Purging => text.push(b"PURGING"),
+        Kind::Leaving => text.push(b"LEAVING"),
+        Kind::Valid if is_followed => text.push(b"MID_VALID"),
+        Kind::Valid => text.push(b"TAIL_VALID"),
+        Kind::Roll => text.push(b"ROLL"),
+        Kind::Purged => text.push(b"PURGED"),
     }
 }
 
 /// A node's tag, with its links: `node N is NAME forw F back B`, and ` held`.
-pub(crate) fn push_tag(text: &mut String, node: NodeId, tag: Tag) -> Result<(), AllocError>
-    ensures { OnOk result (string_bytes text.new ≡ string_bytes text.old ++ tag_text node tag) }
+pub(crate) fn push_tag(text: &mut NoteText, node: NodeId, tag: Tag) -> Result<(), AllocError>
+    ensures { OnOk result (note_bytes text.new ≡ note_bytes text.old ++ tag_text node tag) }
 {
     let Tag {
         held,
@@ -116,24 +129,20 @@ pub(crate) fn push_tag(text: &mut String, node: NodeId, tag: Tag) -> Result<(), 
         back,
         ..
     } = tag;
-    text.push_str("node ")?;
-    push_node(text, node)?;
-    text.push_str(" is")?;
+    push_node(text, b"node ", node, b" is ")?;
     push_name(text, tag)?;
-    text.push_str(" forw ")?;
-    push_link(text, forw)?;
-    text.push_str(" back ")?;
-    push_link(text, back)?;
+    push_link(text, b" forw ", forw, b"")?;
+    push_link(text, b" back ", back, b"")?;
     push_held(text, held)
 }
 
 /// ` held`, where it is.
 #[inline(always)]
-pub(crate) fn push_held(text: &mut String, held: bool) -> Result<(), AllocError>
-    ensures { OnOk result (string_bytes text.new ≡ string_bytes text.old ++ held_text held) }
+pub(crate) fn push_held(text: &mut NoteText, held: bool) -> Result<(), AllocError>
+    ensures { OnOk result (note_bytes text.new ≡ note_bytes text.old ++ held_text held) }
 {
     if held {
-        text.push_str(" held")?;
+        text.push(b" held")?;
     }
     Ok(())
 }

@@ -178,7 +178,7 @@ fn runs<T: Abort + Threads + Wait + Sync>(rt: &T, alloc: Global) -> Result<(), F
     Err(Fail::new("serve_run answered 7"))
 }
 
-/// Growths: 11 of serve_check, 9 of read_settings, 1 of serve_trace, 3 made up for, 22 of serve_trace, 18 of serve_run,
+/// Growths: 11 of serve_check, 9 of read_settings, 1 of serve_trace, 3 made up for, 17 of serve_trace, 18 of serve_run,
 /// 1 thread of serve_run, 20 of serve_run.
 #[test]
 fn refused_growths(rt: HostRuntime) -> Result<(), Fail> {

@@ -4,6 +4,7 @@
 //! answers Ok.
 ghost use Rattle.std.specs.Prelude.{None};
 
+use crate::note_text::NoteText;
 use crate::{TraceDesk, trace};
 use sci_script::{Script, ScriptRefusal, read_script};
 use std::alloc::Global;
@@ -78,11 +79,29 @@ fn traces(rt: &impl Abort, alloc: Global, script: &Script) -> Result<(), Fail> {
     }
 }
 
-/// Growths: 3 made up for, 1 of read_script, 11 of open, 10 of trace.
+// A piece that is longer than what may wait.
+fn pushes(rt: &impl Abort, alloc: Global) -> Result<(), Fail> {
+    let mut text = NoteText::new(alloc);
+    let piece = [b'#'; 513];
+    match text.push_bytes(&piece) {
+        Ok(()) => {
+            assert!(rt; text.front() == piece.as_slice());
+            Ok(())
+        }
+        Err(_) => {
+            assert!(rt; text.front().is_empty() && text.waiting().is_empty());
+            text.push_bytes(&piece)?;
+            Err(Fail::new("push_bytes answered 7"))
+        }
+    }
+}
+
+/// Growths: 3 made up for, 1 of read_script, 11 of open, 5 of trace, 1 of push_bytes.
 #[test]
 fn refused_growths(rt: HostRuntime) -> Result<(), Fail> {
     let Ok(script) = read_script(rt.alloc(), SCRIPT.as_bytes()) else {
         return Err(Fail::new("read_script answered 7"));
     };
-    traces(&rt, rt.alloc(), &script)
+    traces(&rt, rt.alloc(), &script)?;
+    pushes(&rt, rt.alloc())
 }

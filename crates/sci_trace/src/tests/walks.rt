@@ -4,7 +4,7 @@ use sci_script::ScriptRefusal;
 use std::test::Fail;
 
 /// Each walk: a script, its refusal if it has one, and its trace.
-const WALKS: [Case; 5] = [
+const WALKS: [Case; 6] = [
     // Two readers, and then the head stores.
     (
         "memory 2 1\nload 0 0 0\ndone 0\nload 1 0 0\ndone 1\nlist 0\nstore 1 0 0 5\ndone 1\n",
@@ -118,6 +118,20 @@ const WALKS: [Case; 5] = [
          # node 1 line 0 evict: ReturnHomeFresh Done; Parted(none); HOME\n\
          # node 1 line 0 evict: Left Done; Idle; HOME\n\
          node 1 out\n",
+    ),
+    // A node that shares nothing stores the largest word.
+    (
+        "memory 1 1\nstore 0 0 2 18446744073709551615\ndone 0\n",
+        None,
+        "# node 0 line 0 store: Queue(none) Done; Queueing(none); HOME\n\
+         # node 0 line 0 store: PrependValid Done; Fetching(none); FRESH lent 0: 0 QUEUED\n\
+         # node 0 line 0 store: ReturnMemory Done; InQueue(none); FRESH 0: 0 QUEUED\n\
+         # node 0 line 0 store: Settle Done; Idle; FRESH 0: 0 ONLY_FRESH\n\
+         # node 0 line 0 store: Convert(ONLY_FRESH) Done; Converting(none); FRESH 0: 0 CONVERT\n\
+         # node 0 line 0 store: FreshToGone Done; Converting(none) turned; GONE 0: 0 CONVERT\n\
+         # node 0 line 0 store: Converted Done; Purging; GONE 0: 0 PURGING\n\
+         # node 0 line 0 store: Written(words 0 0 18446744073709551615 0 0 0 0 0) Done; Idle; GONE 0: 0 ONLY_DIRTY\n\
+         node 0 wrote stamp 1\n",
     ),
 ];
 

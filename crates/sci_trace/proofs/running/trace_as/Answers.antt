@@ -11,6 +11,7 @@ use Rattle.sci_script.specs.Shared.{shared_is_open, shared_does}
 use Rattle.sci_script.specs.Wholes.{shared_of}
 use Rattle.sci_script.proofs.Runs.{step_is, words_behind, words_step}
 use Rattle.sci_script.proofs.Through.{prints, stops_at}
+use Rattle.sci_trace.specs.NoteText.{note_bytes}
 use Rattle.sci_trace.specs.declared.desk.TraceDesk.{TraceDesk}
 use Rattle.sci_trace.specs.Coding.{coded}
 use Rattle.sci_trace.specs.Telling.{telling, telling_of, telling_is_open, tells}
@@ -38,7 +39,7 @@ returns-in_err-put_notes-clause-err g c =
     let notes = c.perform-performed.new.desk.notes in
     rw (p.1, p.2) (
       coded c.args.coding traced ++ written,
-      notes_stop c.args.coding c.args.script.now.size.nodes c.args.script.now.steps.items c.loop-step.step-index traced (string_bytes notes.text) written c.in_err-put_notes.field-0.0 (shared_of c.args.desk.now.desk)
+      notes_stop c.args.coding c.args.script.now.size.nodes c.args.script.now.steps.items c.loop-step.step-index traced (note_bytes notes.text) written c.in_err-put_notes.field-0.0 (shared_of c.args.desk.now.desk)
           (shared_of c.loop-step.desk.desk) (shared_of c.put_notes.new.desk.desk) so_far notes.lines left,
       Appends-trans _ _ _ _ _ appended front,
     )
@@ -52,7 +53,7 @@ returns-in_err-performed-clause-err g c =
     let s = shared_of c.args.desk.now.desk in
     let mid = shared_of c.loop-step.desk.desk in
     let desk = c.perform-performed.new.desk in
-    let notes = string_bytes desk.notes.text in
+    let notes = note_bytes desk.notes.text in
     let e = c.in_err-performed.field-0.0 in
     let at = step_is c.steps-step-items.result.now steps i c.step-item.result c.steps-step-items.ensures c.loop-step-test.true c.step-item.is in
     let seen = stops_at (λ (d : TraceDesk). shared_of d.desk) shared_is_open (λ d event e. tells (telling_of d) event (telling_of e)) shared_does (λ d event e h. told_does (telling_of d) event (telling_of e) h) c.args.desk.now.size.nodes c.loop-step.desk c.step-item.result e desk c.in_err-performed.ensures.err in
@@ -73,7 +74,7 @@ returns-in-Err-clause-err g c =
     let s = shared_of c.args.desk.now.desk in
     let mid = shared_of c.loop-step.desk.desk in
     let desk = c.perform-performed.new.desk in
-    let notes = string_bytes desk.notes.text in
+    let notes = note_bytes desk.notes.text in
     let text = string_bytes c.perform-performed.new.text in
     let n = c.in-Err.ensures.err.0 in
     let front = rw c.as_bytes.ensures.value at c.in-Err.ensures.err.2 in
@@ -98,7 +99,7 @@ loop-step-preserved g c =
     let s = shared_of c.args.desk.now.desk in
     let mid = shared_of c.loop-step.desk.desk in
     let desk = c.perform-performed.new.desk in
-    let notes = string_bytes desk.notes.text in
+    let notes = note_bytes desk.notes.text in
     let text = string_bytes c.perform-performed.new.text in
     let put = rw c.as_bytes.ensures.value at c.in-Ok.ensures.ok in
     let seen = prints (λ (d : TraceDesk). shared_of d.desk) shared_is_open (λ d event e. tells (telling_of d) event (telling_of e)) shared_does (λ d event e h. told_does (telling_of d) event (telling_of e) h) c.loop-step.words c.loop-step.desk c.step-item.result.command text desk c.in_ok-performed.ensures.ok in
@@ -107,7 +108,7 @@ loop-step-preserved g c =
     let after = subst (λ (d : WholeDesk). Prints shared_is_open shared_does (words_behind no_words (take i steps)) mid (get_or items i c.step-item.result).command text (shared_of d)) (sym c.in_ok-put_notes.ensures.desk) shown in
     let all = traces_more items steps i c.step-item.result traced notes text s mid (shared_of c.put_notes.new.desk.desk) c.steps-step-items.ensures c.loop-step-test.true so_far desk.notes.lines after in
     let telling_so = prints telling_of telling_is_open (λ (d : TraceDesk) event e. tells (telling_of d) event (telling_of e)) tells (λ d event e h. h) c.loop-step.words c.loop-step.desk c.step-item.result.command text desk c.in_ok-performed.ensures.ok in
-    let now = told_so c.loop-step.words c.step-item.result.command text mid (shared_of desk.desk) (string_bytes c.loop-step.desk.notes.text) notes c.loop-step.desk.notes.is_cut desk.notes.is_cut c.loop-step.invariant.empty c.loop-step.invariant.whole c.in_ok-put_notes.ensures.whole telling_so in
+    let now = told_so c.loop-step.words c.step-item.result.command text mid (shared_of desk.desk) (note_bytes c.loop-step.desk.notes.text) notes c.loop-step.desk.notes.is_cut desk.notes.is_cut c.loop-step.invariant.empty c.loop-step.invariant.whole c.in_ok-put_notes.ensures.whole telling_so in
     let as_read = subst (λ (step : Step). Prints telling_is_open tells c.loop-step.words (telling mid []) step.command text (telling (shared_of desk.desk) notes)) c.step-item.is now in
     let as_noted = subst (λ (words : List ℕ). Prints telling_is_open tells words (telling mid []) (get_or items i c.step-item.result).command text (telling (shared_of desk.desk) notes)) c.loop-step.invariant.noted as_read in
     let as_put = subst (λ (d : WholeDesk). Prints telling_is_open tells (words_behind no_words (take i steps)) (telling mid []) (get_or items i c.step-item.result).command text (telling (shared_of d) notes)) (sym c.in_ok-put_notes.ensures.desk) as_noted in

@@ -1,4 +1,4 @@
-use Rattle.std.proofs.Common.{◌≡◌, ◌∙◌, subst}
+use Rattle.std.proofs.Common.{◌≡◌, subst}
 use Rattle.std.proofs.lemmas.Option.{same_Some}
 use Rattle.sci_core.specs.Stage.{stage_of}
 use Rattle.sci_script.specs.Shared.{Shared}

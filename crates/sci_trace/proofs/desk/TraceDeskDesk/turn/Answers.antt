@@ -1,7 +1,8 @@
-use Rattle.std.proofs.Common.{◌≡◌, true, sym, subst, string_bytes}
+use Rattle.std.proofs.Common.{◌≡◌, true, sym, subst}
 use Rattle.sci_script.specs.Event.{Turned}
 use Rattle.sci_script.specs.Shared.{Shared, shared_is_open, shared_does}
 use Rattle.sci_script.specs.Wholes.{shared_of}
+use Rattle.sci_trace.specs.NoteText.{note_bytes}
 use Rattle.sci_trace.proofs.Tellings.{adds_line}
 use Rattle.sci_trace.proofs.desk.TraceDeskDesk.turn.Goals as goal
 
@@ -13,7 +14,7 @@ returns-clause-turned c =
     let before = c.args.self.now.notes in
     let after = c.tell.new.self.notes in (
       subst (λ (x : Shared). shared_does s (Turned c.args.node turn) x) (sym c.tell.ensures.same) c.watched_turn-turn.ensures.turned,
-      adds_line s mid (shared_of c.tell.new.self.desk) c.args.node turn c.watched_turn-turn.new.passed (string_bytes before.text) (string_bytes after.text) before.is_cut after.is_cut c.tell.ensures.same
+      adds_line s mid (shared_of c.tell.new.self.desk) c.args.node turn c.watched_turn-turn.new.passed (note_bytes before.text) (note_bytes after.text) before.is_cut after.is_cut c.tell.ensures.same
           c.watched_turn-turn.ensures.passed c.tell.ensures.told,
     )
 
