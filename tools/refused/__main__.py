@@ -66,16 +66,24 @@ def build(trial, given, jobs):
     return is_well
 
 
-def tried(trial, size, given, jobs):
-    """Proves the functions that a crate's edits change, and tries the edits."""
+def begin(trial, given, jobs):
+    """Proves the functions that a crate's edits change."""
     lacking = [it.name for it in trial.crate.below() if not given.get((it.name, "library"), True)]
-    is_well, said, used, seconds = (False, f"its library {lacking[0]} failed", 0, 0) if lacking else trial.prove(jobs)
-    say(f"{trial.crate.name}: {'proved' if is_well else 'NOT PROVED'}, what its edits change ({used:.0f} CPU s, {seconds:.0f} s)")
-    if is_well:
-        trial.try_all(size)
+    if lacking:
+        say(f"{trial.crate.name} NOT PROVED: its library {lacking[0]} failed")
     else:
-        say(said[-3000:])
-        trial.failed = {it: "its function isn't proved as it stands" for it in trial.edits}
+        trial.begin(jobs)
+
+
+def tasks_of_edits(trial, waits, size):
+    """Returns the tasks for a crate's edits: a first check, the batches side by side over what it kept, and a last check."""
+    lines, needs, name = trial.crate.count(rb"\n"), RT.need(trial.crate), trial.crate.name
+    tasks = {(name, "first"): (waits, lines, needs, lambda given, jobs: begin(trial, given, jobs))}
+    batches = trial.batches(size)
+    for batch, label in batches:
+        tasks[name, label] = [(name, "first")], lines, needs, lambda given, jobs, it=(batch, label): trial.try_these(*it)
+    tasks[name, "last"] = [(name, "first"), *((name, label) for _, label in batches)], lines, needs, lambda given, jobs: trial.end()
+    return tasks
 
 
 def tasks_of(crates, root, room, size, is_built):
@@ -94,7 +102,7 @@ def tasks_of(crates, root, room, size, is_built):
             waits = [(crate.name, "library")]
         if trial.edits:
             trials.append(trial)
-            tasks[crate.name, "edits"] = waits, lines, needs, lambda given, jobs, it=trial: tried(it, size, given, jobs)
+            tasks |= tasks_of_edits(trial, waits, size)
     return trials, tasks
 
 

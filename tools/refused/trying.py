@@ -51,7 +51,7 @@ class Trial:
 
     def __init__(self, crate, edits, types, kept, say):
         self.crate, self.edits, self.types, self.kept, self.say = crate, edits, types, kept, say
-        self.refused, self.failed = {}, {}
+        self.refused, self.failed, self.is_begun = {}, {}, False
         self.asks = self.asked(names_of)
 
     def asked(self, by):
@@ -138,20 +138,35 @@ class Trial:
             return False, f"{edit.function}: only a proof file that names what the edit took away fails: change a value and keep the names"
         return False, f"no goal of {edit.function} failed: {line[:200]}"
 
-    def try_all(self, size):
-        """Tries the edits in batches, and alone each that no batch confirmed. The crate is to be proved over the folder again at the end."""
+    def begin(self, jobs):
+        """Proves what the edits change, as it stands."""
+        self.is_begun, said, used, seconds = self.prove(jobs)
+        self.say(f"{self.crate.name}: {'proved' if self.is_begun else 'NOT PROVED'}, what its edits change ({used:.0f} CPU s, {seconds:.0f} s)")
+        if not self.is_begun:
+            self.say(said[-3000:])
+
+    def end(self):
+        """Proves that again over the folder that the edits were tried in: where it fails, none of them is confirmed."""
+        is_well, _, used, _ = self.prove(1) if self.is_begun else (False, "", 0, 0)
+        if not is_well:
+            why = "over the folder that the edits were tried in, its function isn't proved any more" if self.is_begun else "its function isn't proved as it stands"
+            self.failed = {it: why for it in self.edits}
+            self.refused = {}
         for it in self.edits:
             if it.why:
                 self.failed[it] = f"BAD EDIT: {it.why}"
-        batches = in_batches([it for it in self.edits if not it.why], size)
-        for at, batch in enumerate(batches):
-            self.try_batch(batch, f"batch {at + 1} of {len(batches)}")
-        is_well, _, used, _ = self.prove(1)
-        if not is_well:
-            for it in self.refused:
-                self.failed[it] = "its function isn't proved any more over the folder that the edits were tried in"
-            self.refused = {}
         self.say(f"{self.crate.name}: {'proved' if is_well else 'NOT PROVED'} again after its edits ({used:.0f} CPU s)")
+
+    def batches(self, size):
+        """Returns the edits in batches, each with a label."""
+        batches = in_batches([it for it in self.edits if not it.why], size)
+        return [(batch, f"batch {at + 1} of {len(batches)}") for at, batch in enumerate(batches)]
+
+    def try_these(self, batch, label):
+        """Tries the edits of a batch, and alone each that the batch doesn't confirm."""
+        batch = [it for it in batch if not it.why]
+        if self.is_begun and batch:
+            self.try_batch(batch, label)
 
     def try_batch(self, batch, label):
         """Tries these edits in one check; in halves, where they don't compile together."""
