@@ -5,4 +5,5 @@ pub mod Pages
 pub mod Tellings
 pub mod Same
 pub mod Digits
+pub mod Pieces
 pub mod Walking

@@ -1,4 +1,5 @@
 pub mod NoteText
+pub mod Short
 pub mod Words
 pub mod Events
 pub mod Steps

@@ -4,14 +4,15 @@ ghost use Rattle.std.specs.Prelude.{◌≡◌, ◌++◌, OnOk, codes};
 ghost use Rattle.sci_trace.specs.NoteText.{note_bytes};
 ghost use Rattle.std.specs.Fmt.{decimal};
 ghost use Rattle.std.specs.List.{flat_map};
-ghost use Rattle.sci_trace.specs.Words.{link_word, found_text};
-ghost use Rattle.sci_trace.specs.Events.{written_text, ending_text, closed_ending, event_text};
+ghost use Rattle.sci_trace.specs.Short.{short_bytes};
+ghost use Rattle.sci_trace.specs.Events.{event_name, written_text, ending_text, closed_ending, argument_text, event_text};
 
 use crate::note_text::NoteText;
-use crate::words::{push_between, push_found, push_link};
+use crate::numbers::push_between;
+use crate::short::Short;
+use crate::words::{push_found, push_link};
 use sci_core::Event;
 use sci_script::{Ending, Load};
-use sci_words::{NodeId, Tag};
 use std::alloc::AllocError;
 
 fn push_words(text: &mut NoteText, words: &[u64]) -> Result<(), AllocError>
@@ -37,85 +38,100 @@ fn push_written(text: &mut NoteText, words: &Option<[u64; 8]>) -> Result<(), All
 }
 
 /// How an exchange ended, behind an event without an argument.
-fn push_ending(text: &mut NoteText, ending: Ending) -> Result<(), AllocError>
-    ensures { OnOk result (note_bytes text.new ≡ note_bytes text.old ++ ending_text ending) }
+fn ending_text(ending: Ending) -> Short
+    ensures { short_bytes result ≡ ending_text ending }
 {
     match ending {
-        Ending::Done => text.push(b" Done; "),
-        Ending::Missed => text.push(b" Missed; "),
-        Ending::Busy => text.push(b" Busy; "),
+        Ending::Done => Short::new(b" Done;          ", 7),
+        Ending::Missed => Short::new(b" Missed;        ", 9),
+        Ending::Busy => Short::new(b" Busy;          ", 7),
     }
 }
 
 /// How an exchange ended, behind an argument.
-fn push_closed(text: &mut NoteText, ending: Ending) -> Result<(), AllocError>
-    ensures { OnOk result (note_bytes text.new ≡ note_bytes text.old ++ closed_ending ending) }
+fn closed_ending(ending: Ending) -> Short
+    ensures { short_bytes result ≡ closed_ending ending }
 {
     match ending {
-        Ending::Done => text.push(b") Done; "),
-        Ending::Missed => text.push(b") Missed; "),
-        Ending::Busy => text.push(b") Busy; "),
+        Ending::Done => Short::new(b") Done;         ", 8),
+        Ending::Missed => Short::new(b") Missed;       ", 10),
+        Ending::Busy => Short::new(b") Busy;         ", 8),
     }
 }
 
-/// An event without an argument. Its name is a piece whose length is known, and so takes few instructions; so do those below.
-#[inline(always)]
-fn push_bare<const N: usize>(
-    text: &mut NoteText,
-    name: &[u8; N],
-    ending: Ending,
-) -> Result<(), AllocError>
-    ensures { OnOk result (note_bytes text.new ≡ note_bytes text.old ++ (name.now ++ ending_text ending)) }
+/// An event's name, and the bracket in front of its argument, where it has one.
+fn event_name(event: &Event) -> Short
+    ensures { short_bytes result ≡ event_name event.now }
 {
-    text.push(name)?;
-    push_ending(text, ending)
+    match event {
+        Event::Look => Short::new(b"Look            ", 4),
+        Event::Queue(_) => Short::new(b"Queue(          ", 6),
+        Event::Requeue(_) => Short::new(b"Requeue(        ", 8),
+        Event::PrependValid => Short::new(b"PrependValid    ", 12),
+        Event::ReturnMemory => Short::new(b"ReturnMemory    ", 12),
+        Event::AttachFresh(_) => Short::new(b"AttachFresh(    ", 12),
+        Event::Settle => Short::new(b"Settle          ", 6),
+        Event::Hold(_) => Short::new(b"Hold(           ", 5),
+        Event::Unhold => Short::new(b"Unhold          ", 6),
+        Event::Convert(_) => Short::new(b"Convert(        ", 8),
+        Event::FreshToGone => Short::new(b"FreshToGone     ", 11),
+        Event::Converted => Short::new(b"Converted       ", 9),
+        Event::Unconverted => Short::new(b"Unconverted     ", 11),
+        Event::BeginPurge(_) => Short::new(b"BeginPurge(     ", 11),
+        Event::Written(_) => Short::new(b"Written(        ", 8),
+        Event::PrependGone => Short::new(b"PrependGone     ", 11),
+        Event::AttachDirty(_) => Short::new(b"AttachDirty(    ", 12),
+        Event::ReturnCopy => Short::new(b"ReturnCopy      ", 10),
+        Event::PurgeOne(_) => Short::new(b"PurgeOne(       ", 9),
+        Event::Advance => Short::new(b"Advance         ", 7),
+        Event::Clear => Short::new(b"Clear           ", 5),
+        Event::Roll(_) => Short::new(b"Roll(           ", 5),
+        Event::TellSuccessor(_) => Short::new(b"TellSuccessor(  ", 14),
+        Event::TellPredecessor(_) => Short::new(b"TellPredecessor(", 16),
+        Event::Adopt(_) => Short::new(b"Adopt(          ", 6),
+        Event::Rolled => Short::new(b"Rolled          ", 6),
+        Event::Leave(_) => Short::new(b"Leave(          ", 6),
+        Event::Promote(_) => Short::new(b"Promote(        ", 8),
+        Event::PassOn => Short::new(b"PassOn          ", 6),
+        Event::Stay => Short::new(b"Stay            ", 4),
+        Event::ReEnter => Short::new(b"ReEnter         ", 7),
+        Event::ReturnHomeFresh => Short::new(b"ReturnHomeFresh ", 15),
+        Event::ReturnHomeDirty => Short::new(b"ReturnHomeDirty ", 15),
+        Event::Left => Short::new(b"Left            ", 4),
+        Event::HomeWrite => Short::new(b"HomeWrite       ", 9),
+    }
 }
 
-/// An event that notes a link.
-#[inline(always)]
-fn push_linked<const N: usize>(
+/// What stands behind an event's name: a link, the words, or the tag that was found behind this load, and how the exchange ended.
+fn push_argument(
     text: &mut NoteText,
-    name: &[u8; N],
-    forw: Option<NodeId>,
-    ending: Ending,
-) -> Result<(), AllocError>
-    ensures { OnOk result (note_bytes text.new ≡ note_bytes text.old ++ (name.now ++ (link_word forw ++ closed_ending ending))) }
-{
-    push_link(text, name, forw, b"")?;
-    push_closed(text, ending)
-}
-
-/// An event that found a tag, behind this load.
-#[inline(always)]
-fn push_tagged<const N: usize>(
-    text: &mut NoteText,
-    name: &[u8; N],
     load: &Option<Load>,
-    found: Tag,
+    event: &Event,
     ending: Ending,
 ) -> Result<(), AllocError>
-    ensures { OnOk result (note_bytes text.new ≡ note_bytes text.old ++ (name.now ++ (found_text load.now found ++ closed_ending ending))) }
+    ensures { OnOk result (note_bytes text.new ≡ note_bytes text.old ++ argument_text load.now event.now ending) }
 {
-    text.push(name)?;
-    push_found(text, load, found)?;
-    push_closed(text, ending)
+    match event {
+        Event::Queue(forw) | Event::Requeue(forw) => push_link(text, b"", *forw, b"")?,
+        Event::Written(words) => push_written(text, words)?,
+        Event::AttachFresh(found)
+        | Event::Hold(found)
+        | Event::Convert(found)
+        | Event::BeginPurge(found)
+        | Event::AttachDirty(found)
+        | Event::PurgeOne(found)
+        | Event::Roll(found)
+        | Event::TellSuccessor(found)
+        | Event::TellPredecessor(found)
+        | Event::Adopt(found)
+        | Event::Leave(found)
+        | Event::Promote(found) => push_found(text, load, *found)?,
+        _ => return text.push_short(ending_text(ending)),
+    }
+    text.push_short(closed_ending(ending))
 }
 
-/// An event that writes words.
-fn push_writing<const N: usize>(
-    text: &mut NoteText,
-    name: &[u8; N],
-    words: &Option<[u64; 8]>,
-    ending: Ending,
-) -> Result<(), AllocError>
-    ensures { OnOk result (note_bytes text.new ≡ note_bytes text.old ++ (name.now ++ (written_text words.now ++ closed_ending ending))) }
-{
-    text.push(name)?;
-    push_written(text, words)?;
-    push_closed(text, ending)
-}
-
-/// An event with its arguments, behind this load, and how it ended.
+/// An event with its argument, behind this load, and how the exchange ended.
 pub(crate) fn push_event(
     text: &mut NoteText,
     load: &Option<Load>,
@@ -124,47 +140,6 @@ pub(crate) fn push_event(
 ) -> Result<(), AllocError>
     ensures { OnOk result (note_bytes text.new ≡ note_bytes text.old ++ event_text load.now event.now ending) }
 {
-    match event {
-        Event::Look => push_bare(text, b"Look", ending),
-        Event::Queue(forw) => push_linked(text, b"Queue(", *forw, ending),
-        Event::Requeue(forw) => push_linked(text, b"Requeue(", *forw, ending),
-        Event::PrependValid => push_bare(text, b"PrependValid", ending),
-        Event::ReturnMemory => push_bare(text, b"ReturnMemory", ending),
-        Event::AttachFresh(found) => push_tagged(text, b"AttachFresh(", load, *found, ending),
-        Event::Settle => push_bare(text, b"Settle", ending),
-        Event::Hold(found) => push_tagged(text, b"Hold(", load, *found, ending),
-        Event::Unhold => push_bare(text, b"Unhold", ending),
-        Event::Convert(found) => push_tagged(text, b"Convert(", load, *found, ending),
-        Event::FreshToGone => push_bare(text, b"FreshToGone", ending),
-        Event::Converted => push_bare(text, b"Converted", ending),
-        Event::Unconverted => push_bare(text, b"Unconverted", ending),
-        Event::BeginPurge(found) => push_tagged(text, b"BeginPurge(", load, *found, ending),
-        Event::Written(words) => push_writing(text, b"Written(", words, ending),
-        Event::PrependGone => push_bare(text, b"PrependGone", ending),
-        Event::AttachDirty(found) => push_tagged(text, b"AttachDirty(", load, *found, ending),
-        Event::ReturnCopy => push_bare(text, b"ReturnCopy", ending),
-        Event::PurgeOne(found) => push_tagged(text, b"PurgeOne(", load, *found, ending),
-        Event::Advance => push_bare(text, b"Advance", ending),
-        Event::Clear => push_bare(text, b"Clear", ending),
-        Event::Roll(found) => push_tagged(text, b"Roll(", load, *found, ending),
-        Event::TellSuccessor(found) => push_tagged(text, b"TellSuccessor(", load, *found, ending),
-        Event::TellPredecessor(found) => push_tagged(
-            text,
-            b"TellPredecessor(",
-            load,
-            *found,
-            ending,
-        ),
-        Event::Adopt(found) => push_tagged(text, b"Adopt(", load, *found, ending),
-        Event::Rolled => push_bare(text, b"Rolled", ending),
-        Event::Leave(found) => push_tagged(text, b"Leave(", load, *found, ending),
-        Event::Promote(found) => push_tagged(text, b"Promote(", load, *found, ending),
-        Event::PassOn => push_bare(text, b"PassOn", ending),
-        Event::Stay => push_bare(text, b"Stay", ending),
-        Event::ReEnter => push_bare(text, b"ReEnter", ending),
-        Event::ReturnHomeFresh => push_bare(text, b"ReturnHomeFresh", ending),
-        Event::ReturnHomeDirty => push_bare(text, b"ReturnHomeDirty", ending),
-        Event::Left => push_bare(text, b"Left", ending),
-        Event::HomeWrite => push_bare(text, b"HomeWrite", ending),
-    }
+    text.push_short(event_name(event))?;
+    push_argument(text, load, event, ending)
 }

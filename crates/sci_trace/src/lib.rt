@@ -8,8 +8,10 @@ mod events;
 mod lists;
 mod note_text;
 mod notes;
+mod numbers;
 mod page;
 mod running;
+mod short;
 mod steps;
 #[cfg(test)]
 mod tests;

@@ -2,11 +2,13 @@
 
 ghost use Rattle.std.specs.Prelude.{◌≡◌, ◌<◌, ◌++◌, Some, OnOk, IfOk, IfSome, codes};
 ghost use Rattle.sci_trace.specs.NoteText.{note_bytes};
+ghost use Rattle.sci_trace.specs.Short.{short_bytes};
 ghost use Rattle.sci_words.specs.Mem.{mem_name_of};
 ghost use Rattle.sci_script.specs.Wholes.{shared_of};
 ghost use Rattle.sci_trace.specs.Lists.{entry_text, entries_text, lent_text, list_text, walked};
 
 use crate::note_text::NoteText;
+use crate::short::Short;
 use crate::words::{push_held, push_name, push_node};
 use sci_script::{Desk, WholeDesk};
 use sci_words::{LineNo, Mem, MemState, NodeId, Tag};
@@ -65,16 +67,16 @@ fn push_entries(
 }
 
 /// The state of the memory word, and ` lent`.
-fn push_state(text: &mut NoteText, mem: Mem) -> Result<(), AllocError>
-    ensures { OnOk result (note_bytes text.new ≡ note_bytes text.old ++ mem_name_of mem ++ lent_text mem.lent) }
+fn state_text(mem: Mem) -> Short
+    ensures { short_bytes result ≡ mem_name_of mem ++ lent_text mem.lent }
 {
     match (mem.state, mem.lent) {
-        (MemState::Home, false) => text.push(b"HOME"),
-        (MemState::Home, true) => text.push(b"HOME lent"),
-        (MemState::Fresh, false) => text.push(b"FRESH"),
-        (MemState::Fresh, true) => text.push(b"FRESH lent"),
-        (MemState::Gone, false) => text.push(b"GONE"),
-        (MemState::Gone, true) => text.push(b"GONE lent"),
+        (MemState::Home, false) => Short::new(b"HOME            ", 4),
+        (MemState::Home, true) => Short::new(b"HOME lent       ", 9),
+        (MemState::Fresh, false) => Short::new(b"FRESH           ", 5),
+        (MemState::Fresh, true) => Short::new(b"FRESH lent      ", 10),
+        (MemState::Gone, false) => Short::new(b"GONE            ", 4),
+        (MemState::Gone, true) => Short::new(b"GONE lent       ", 9),
     }
 }
 
@@ -95,7 +97,7 @@ pub(crate) fn push_list(
     ensures size { desk.new.size ≡ desk.old.size }
 {
     let head = mem.forw;
-    push_state(text, mem)?;
+    text.push_short(state_text(mem))?;
     if let Some(head) = head {
         push_node(text, b" ", head, b"")?;
         push_entries(text, desk, line, head, nodes)?;

@@ -1,11 +1,16 @@
 //! A text that is put together from short pieces.
 
-ghost use Rattle.std.specs.Prelude.{◌≡◌, ◌≤◌, ◌++◌, [], OnOk, ◌+◌, length, take, drop, true, false};
+ghost use Rattle.std.specs.Prelude.{◌≡◌, ◌<◌, ◌≤◌, ◌⊎◌, ◌++◌, [], OnOk, ◌+◌, length, take, drop, true, false};
+ghost use Rattle.sci_trace.specs.Short.{short_bytes};
 
+use crate::short::Short;
 use std::alloc::{AllocError, Global};
 
 /// How many bytes wait at most.
 const ROOM: usize = 512;
+
+/// How many bytes the place for three pieces has.
+const PLACE: usize = 32;
 
 /// A text. Its last pieces wait in a room of its own, where a short one takes a few instructions, and join the front together.
 #[derive(Drop)]
@@ -22,6 +27,7 @@ pub struct NoteText {
 fn write_first<const N: usize>(room: &mut [u8], piece: &[u8; N]) -> bool
     ensures written { result ≡ true → (N ≤ length room.old) × (room.new ≡ piece.now ++ drop N room.old) }
     ensures kept { result ≡ false → room.new ≡ room.old }
+    ensures long { result ≡ false → length room.old < N }
 {
     match room.first_chunk_mut::<N>() {
         Some(first) => {
@@ -34,13 +40,87 @@ fn write_first<const N: usize>(room: &mut [u8], piece: &[u8; N]) -> bool
 
 // Writes over the bytes from a place on, where the piece fits in.
 #[inline(always)]
-fn write_at<const N: usize>(room: &mut [u8; ROOM], at: usize, piece: &[u8; N]) -> bool
-    requires { at ≤ 512 }
-    ensures written { result ≡ true → (at + N ≤ 512) × (take (at + N) room.new ≡ take at room.old ++ piece.now) }
+fn write_at<const N: usize>(room: &mut [u8], at: usize, piece: &[u8; N]) -> bool
+    requires { at ≤ length room.old }
+    ensures written { result ≡ true → (at + N ≤ length room.old) × (take (at + N) room.new ≡ take at room.old ++ piece.now) }
     ensures kept { result ≡ false → room.new ≡ room.old }
+    ensures long { result ≡ false → length room.old < at + N }
+    ensures same { length room.new ≡ length room.old }
     ensures front { take at room.new ≡ take at room.old }
 {
     write_first(&mut room[at..], piece)
+}
+
+// Writes the first `count` bytes of a piece from a place on, where all of the piece fits in. What stands behind them is any.
+#[inline(always)]
+fn write_part<const N: usize>(room: &mut [u8], at: usize, piece: &[u8; N], count: usize) -> bool
+    requires at { at ≤ length room.old }
+    requires count { count ≤ N }
+    ensures written { result ≡ true → (at + count ≤ length room.old) × (take (at + count) room.new ≡ take at room.old ++ take count piece.now) }
+    ensures kept { result ≡ false → room.new ≡ room.old }
+    ensures long { result ≡ false → length room.old < at + N }
+    ensures same { length room.new ≡ length room.old }
+    ensures front { take at room.new ≡ take at room.old }
+{
+    write_at(room, at, piece)
+}
+
+// Writes three pieces over the front of a place, where they fit in. The piece between is the front of its bytes.
+#[inline(always)]
+fn write_pieces<const A: usize, const N: usize, const B: usize>(
+    place: &mut [u8; PLACE],
+    before: &[u8; A],
+    between: &[u8; N],
+    count: usize,
+    after: &[u8; B],
+) -> bool
+    requires { count ≤ N }
+    ensures written { result ≡ true → (A + count + B ≤ 32) × (take (A + count + B) place.new ≡ before.now ++ (take count between.now ++ after.now)) }
+    ensures long { result ≡ false → 32 < A + N + B }
+    ensures same { length place.new ≡ 32 }
+{
+    write_at(place, 0, before)
+        && write_part(place, A, between, count)
+        && write_at(place, A + count, after)
+}
+
+// Writes three pieces over the first bytes of a room that has a place for them.
+#[inline(always)]
+fn write_front<const A: usize, const N: usize, const B: usize>(
+    room: &mut [u8],
+    before: &[u8; A],
+    between: &[u8; N],
+    count: usize,
+    after: &[u8; B],
+) -> bool
+    requires { count ≤ N }
+    ensures written { result ≡ true → (A + count + B ≤ length room.old) × (take (A + count + B) room.new ≡ before.now ++ (take count between.now ++ after.now)) }
+    ensures long { result ≡ false → (length room.old < 32) ⊎ (32 < A + N + B) }
+    ensures same { length room.new ≡ length room.old }
+{
+    match room.first_chunk_mut::<PLACE>() {
+        Some(place) => write_pieces(place, before, between, count, after),
+        None => false,
+    }
+}
+
+// Writes three pieces from a place on.
+#[inline(always)]
+fn write_behind<const A: usize, const N: usize, const B: usize>(
+    room: &mut [u8; ROOM],
+    at: usize,
+    before: &[u8; A],
+    between: &[u8; N],
+    count: usize,
+    after: &[u8; B],
+) -> bool
+    requires at { at ≤ 512 }
+    requires count { count ≤ N }
+    ensures written { result ≡ true → (at + A + count + B ≤ 512) × (take (at + A + count + B) room.new ≡ take at room.old ++ (before.now ++ (take count between.now ++ after.now))) }
+    ensures long { result ≡ false → (480 < at) ⊎ (32 < A + N + B) }
+    ensures front { take at room.new ≡ take at room.old }
+{
+    write_front(&mut room[at..], before, between, count, after)
 }
 
 impl NoteText {
@@ -125,23 +205,37 @@ impl NoteText {
         self.push_behind(piece)
     }
 
-    // Has three pieces wait, where all fit in.
+    /// Adds a short text. It is written as one piece of 16 bytes, so there is no branch on its length.
+    #[inline(always)]
+    pub(crate) fn push_short(&mut self, short: Short) -> Result<(), AllocError>
+        ensures { OnOk result (note_bytes self.new ≡ note_bytes self.old ++ short_bytes short) }
+    {
+        let at = self.waiting;
+        let bytes = short.bytes;
+        if write_part(&mut self.room, at, bytes, short.length) {
+            self.waiting = at + short.length;
+            return Ok(());
+        }
+        self.push_behind(&bytes[..short.length])
+    }
+
+    // Has three pieces wait, where the room has a place for them.
     #[inline(always)]
     fn write_three<const A: usize, const N: usize, const B: usize>(
         &mut self,
         before: &[u8; A],
         between: &[u8; N],
+        count: usize,
         after: &[u8; B],
     ) -> bool
-        ensures written { result ≡ true → note_bytes self.new ≡ note_bytes self.old ++ (before.now ++ between.now ++ after.now) }
+        requires { count ≤ N }
+        ensures written { result ≡ true → note_bytes self.new ≡ note_bytes self.old ++ (before.now ++ (take count between.now ++ after.now)) }
         ensures kept { result ≡ false → note_bytes self.new ≡ note_bytes self.old }
+        ensures long { result ≡ false → (480 < self.old.waiting) ⊎ (32 < A + N + B) }
     {
         let at = self.waiting;
-        if write_at(&mut self.room, at, before)
-            && write_at(&mut self.room, at + A, between)
-            && write_at(&mut self.room, at + A + N, after)
-        {
-            self.waiting = at + A + N + B;
+        if write_behind(&mut self.room, at, before, between, count, after) {
+            self.waiting = at + A + count + B;
             return true;
         }
         false
@@ -156,26 +250,28 @@ impl NoteText {
         between: &[u8],
         after: &[u8],
     ) -> Result<(), AllocError>
-        ensures { OnOk result (note_bytes self.new ≡ note_bytes self.old ++ (before.now ++ between.now ++ after.now)) }
+        ensures { OnOk result (note_bytes self.new ≡ note_bytes self.old ++ (before.now ++ (between.now ++ after.now))) }
     {
         self.push_behind(before)?;
         self.push_behind(between)?;
         self.push_behind(after)
     }
 
-    /// Adds three pieces whose lengths are known, as fast as one.
+    /// Adds three pieces, as fast as one: two whose lengths are known, and between them the first `count` bytes of a third.
     #[inline(always)]
     pub(crate) fn push_three<const A: usize, const N: usize, const B: usize>(
         &mut self,
         before: &[u8; A],
         between: &[u8; N],
+        count: usize,
         after: &[u8; B],
     ) -> Result<(), AllocError>
-        ensures { OnOk result (note_bytes self.new ≡ note_bytes self.old ++ (before.now ++ between.now ++ after.now)) }
+        requires { count ≤ N }
+        ensures { OnOk result (note_bytes self.new ≡ note_bytes self.old ++ (before.now ++ (take count between.now ++ after.now))) }
     {
-        if self.write_three(before, between, after) {
+        if self.write_three(before, between, count, after) {
             return Ok(());
         }
-        self.push_three_behind(before, between, after)
+        self.push_three_behind(before, &between[..count], after)
     }
 }

@@ -2,42 +2,45 @@
 
 ghost use Rattle.std.specs.Prelude.{◌≡◌, ◌<◌, ◌++◌, OnOk, IfSome, codes};
 ghost use Rattle.sci_trace.specs.NoteText.{note_bytes};
+ghost use Rattle.sci_trace.specs.Short.{short_bytes};
 ghost use Rattle.sci_script.specs.Wholes.{shared_of};
 ghost use Rattle.sci_trace.specs.Lists.{walked};
 ghost use Rattle.std.specs.Fmt.{decimal};
-ghost use Rattle.sci_trace.specs.Texts.{operation_name, mem_wait, wait_text, look_text, act_text, place_text, note_line};
+ghost use Rattle.sci_trace.specs.Texts.{request_name, operation_name, mem_wait, wait_text, look_text, act_text, place_text, note_line};
 
 use crate::events::push_event;
 use crate::lists::push_list;
 use crate::note_text::NoteText;
+use crate::numbers::push_between;
+use crate::short::Short;
 use crate::steps::push_step;
-use crate::words::{push_between, push_link, push_node, push_tag};
+use crate::words::{push_link, push_node, push_tag};
 use sci_cache::Request;
 use sci_core::Stage;
 use sci_script::{Load, Passed, WholeDesk};
 use sci_words::{LineNo, Mem, NodeId, Tag};
 use std::alloc::AllocError;
 
-/// The operation at work on a line: the one that was asked for, or, on another line, the victim's eviction.
-fn push_operation(
-    text: &mut NoteText,
-    asked: &Option<Request>,
-    line: LineNo,
-) -> Result<(), AllocError>
-    ensures { OnOk result (note_bytes text.new ≡ note_bytes text.old ++ operation_name asked.now line) }
+/// An operation that was asked for.
+fn request_name(request: &Request) -> Short
+    ensures { short_bytes result ≡ request_name request.now }
 {
-    let Some(request) = asked else {
-        return text.push(b" evict: ");
-    };
-    if request.line() != line {
-        return text.push(b" evict: ");
-    }
     match request {
-        Request::Load { .. } => text.push(b" load: "),
-        Request::Store { .. } => text.push(b" store: "),
-        Request::Add { .. } => text.push(b" add: "),
-        Request::WriteLine { .. } => text.push(b" write line: "),
-        Request::Evict { .. } => text.push(b" evict: "),
+        Request::Load { .. } => Short::new(b" load:          ", 7),
+        Request::Store { .. } => Short::new(b" store:         ", 8),
+        Request::Add { .. } => Short::new(b" add:           ", 6),
+        Request::WriteLine { .. } => Short::new(b" write line:    ", 13),
+        Request::Evict { .. } => Short::new(b" evict:         ", 8),
+    }
+}
+
+/// The operation at work on a line: the one that was asked for, or, on another line, the victim's eviction.
+fn operation_name(asked: &Option<Request>, line: LineNo) -> Short
+    ensures { short_bytes result ≡ operation_name asked.now line }
+{
+    match asked {
+        Some(request) if request.line() == line => request_name(request),
+        _ => Short::new(b" evict:         ", 8),
     }
 }
 
@@ -112,7 +115,7 @@ fn push_place(
 {
     push_node(text, b"# node ", node, b" line ")?;
     push_between(text, b"", u64::from(line), b"")?;
-    push_operation(text, asked, line)
+    text.push_short(operation_name(asked, line))
 }
 
 /// One turn of a node, which was asked for this: `# node N line L OPERATION: WHAT; STEP; LIST` and a line feed. WHAT is the event

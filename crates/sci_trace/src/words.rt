@@ -1,57 +1,19 @@
 //! The parts that the words of a note share.
 
-ghost use Rattle.std.specs.Prelude.{◌≡◌, ◌<◌, ◌≤◌, ◌+◌, ◌++◌, OnOk, codes};
+ghost use Rattle.std.specs.Prelude.{◌≡◌, ◌++◌, OnOk, codes};
 ghost use Rattle.sci_trace.specs.NoteText.{note_bytes};
+ghost use Rattle.sci_trace.specs.Short.{short_bytes};
 ghost use Rattle.std.specs.Fmt.{decimal};
 ghost use Rattle.sci_script.specs.Text.{held_text};
 ghost use Rattle.sci_words.specs.Tag.{name_of};
 ghost use Rattle.sci_trace.specs.Words.{link_word, found_text, tag_text};
 
 use crate::note_text::NoteText;
-use itoa::Buffer;
+use crate::numbers::push_between;
+use crate::short::Short;
 use sci_script::Load;
 use sci_words::{Kind, NodeId, Tag};
 use std::alloc::AllocError;
-
-/// A digit's byte.
-#[inline(always)]
-fn digit(digit: u64) -> u8
-    requires { digit < 10 }
-    ensures { result ≡ 48 + digit }
-{
-    b'0' + digit as u8
-}
-
-/// A number of any size.
-fn push_digits(text: &mut NoteText, number: u64) -> Result<(), AllocError>
-    ensures { OnOk result (note_bytes text.new ≡ note_bytes text.old ++ decimal number) }
-{
-    text.push_bytes(Buffer::new().format(number).as_bytes())
-}
-
-/// A number in decimal digits between two pieces. Each line of a turn has some, and `write!` takes several times as long; most have one
-/// digit or two.
-#[tactic(auto, using(std::proofs::lemmas::Fmt::decimal_digit, crate::proofs::Digits::two_digits))]
-#[inline(always)]
-pub(crate) fn push_between<const A: usize, const B: usize>(
-    text: &mut NoteText,
-    before: &[u8; A],
-    number: u64,
-    after: &[u8; B],
-) -> Result<(), AllocError>
-    ensures { OnOk result (note_bytes text.new ≡ note_bytes text.old ++ (before.now ++ decimal number ++ after.now)) }
-{
-    if number < 10 {
-        return text.push_three(before, &[digit(number)], after);
-    }
-    if number < 100 {
-        let digits = [digit(number / 10), digit(number % 10)];
-        return text.push_three(before, &digits, after);
-    }
-    text.push(before)?;
-    push_digits(text, number)?;
-    text.push(after)
-}
 
 /// A node's number between two pieces.
 #[inline(always)]
@@ -78,7 +40,7 @@ pub(crate) fn push_link<const A: usize, const B: usize>(
 {
     match link {
         Some(node) => push_node(text, before, node, after),
-        None => text.push_three(before, b"none", after),
+        None => text.push_three(before, b"none", 4, after),
     }
 }
 
@@ -97,26 +59,33 @@ pub(crate) fn push_found(
 }
 
 /// A tag's name.
+fn tag_name(tag: Tag) -> Short
+    ensures { short_bytes result ≡ name_of tag }
+{
+    let is_followed = tag.forw.is_some();
+    match tag.kind {
+        Kind::Invalid => Short::new(b"INVALID         ", 7),
+        Kind::Queued => Short::new(b"QUEUED          ", 6),
+        Kind::Fresh if is_followed => Short::new(b"HEAD_FRESH      ", 10),
+        Kind::Fresh => Short::new(b"ONLY_FRESH      ", 10),
+        Kind::Dirty if is_followed => Short::new(b"HEAD_DIRTY      ", 10),
+        Kind::Dirty => Short::new(b"ONLY_DIRTY      ", 10),
+        Kind::Convert => Short::new(b"CONVERT         ", 7),
+        Kind::Purging => Short::new(b"PURGING         ", 7),
+        Kind::Leaving => Short::new(b"LEAVING         ", 7),
+        Kind::Valid if is_followed => Short::new(b"MID_VALID       ", 9),
+        Kind::Valid => Short::new(b"TAIL_VALID      ", 10),
+        Kind::Roll => Short::new(b"ROLL            ", 4),
+        Kind::Purged => Short::new(b"PURGED          ", 6),
+    }
+}
+
+/// A tag's name, at the end of a text.
 #[inline(always)]
 pub(crate) fn push_name(text: &mut NoteText, tag: Tag) -> Result<(), AllocError>
     ensures { OnOk result (note_bytes text.new ≡ note_bytes text.old ++ name_of tag) }
 {
-    let is_followed = tag.forw.is_some();
-    match tag.kind {
-        Kind::Invalid => text.push(b"INVALID"),
-        Kind::Queued => text.push(b"QUEUED"),
-        Kind::Fresh if is_followed => text.push(b"HEAD_FRESH"),
-        Kind::Fresh => text.push(b"ONLY_FRESH"),
-        Kind::Dirty if is_followed => text.push(b"HEAD_DIRTY"),
-        Kind::Dirty => text.push(b"ONLY_DIRTY"),
-        Kind::Convert => text.push(b"CONVERT"),
-        Kind::Purging => text.push(b"PURGING"),
-        Kind::Leaving => text.push(b"LEAVING"),
-        Kind::Valid if is_followed => text.push(b"MID_VALID"),
-        Kind::Valid => text.push(b"TAIL_VALID"),
-        Kind::Roll => text.push(b"ROLL"),
-        Kind::Purged => text.push(b"PURGED"),
-    }
+    text.push_short(tag_name(tag))
 }
 
 /// A node's tag, with its links: `node N is NAME forw F back B`, and ` held`.
