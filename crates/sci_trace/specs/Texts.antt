@@ -14,6 +14,7 @@ use Rattle.sci_trace.specs.Events.{event_text}
 use Rattle.sci_trace.specs.Steps.{step_text}
 use Rattle.sci_trace.specs.Lists.{list_text}
 
+-- an operation that was asked for
 abbrev pub request_name : Request → List ℕ
 request_name (Request.Load line) = codes " load: "
 request_name (Request.Store line word value) = codes " store: "
@@ -38,6 +39,7 @@ wait_text node (Some (Load.Mem (Some mem))) stage = mem_wait stage mem
 wait_text node (Some (Load.Tag other (Some tag))) stage = tag_text other tag
 wait_text node _ stage = codes "the line is busy"
 
+-- the turn waited
 abbrev pub is_waiting : Turn → Bool
 is_waiting Turn.Waiting = true
 is_waiting _ = false

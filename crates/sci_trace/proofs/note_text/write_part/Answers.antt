@@ -1,4 +1,4 @@
-use Rattle.std.proofs.Common.{◌≡◌, ◌≤◌, ◌+◌, take, length, arith, length-take-le}
+use Rattle.std.proofs.Common.{take, arith, length-take-le}
 use Rattle.sci_trace.proofs.Pieces.{front_piece}
 use Rattle.sci_trace.proofs.note_text.write_part.Goals as goal
 
