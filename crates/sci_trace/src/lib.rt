@@ -4,6 +4,7 @@
 mod coding;
 mod desk;
 mod drawing;
+mod event_names;
 mod events;
 mod lists;
 mod note_text;
@@ -13,6 +14,7 @@ mod page;
 mod running;
 mod short;
 mod steps;
+mod tag_names;
 #[cfg(test)]
 mod tests;
 mod texts;

@@ -2,7 +2,6 @@
 
 ghost use Rattle.std.specs.Prelude.{◌≡◌, ◌++◌, OnOk, codes};
 ghost use Rattle.sci_trace.specs.NoteText.{note_bytes};
-ghost use Rattle.sci_trace.specs.Short.{short_bytes};
 ghost use Rattle.std.specs.Fmt.{decimal};
 ghost use Rattle.sci_script.specs.Text.{held_text};
 ghost use Rattle.sci_words.specs.Tag.{name_of};
@@ -10,9 +9,9 @@ ghost use Rattle.sci_trace.specs.Words.{link_word, found_text, tag_text};
 
 use crate::note_text::NoteText;
 use crate::numbers::push_between;
-use crate::short::Short;
+use crate::tag_names::tag_name;
 use sci_script::Load;
-use sci_words::{Kind, NodeId, Tag};
+use sci_words::{NodeId, Tag};
 use std::alloc::AllocError;
 
 /// A node's number between two pieces.
@@ -56,28 +55,6 @@ pub(crate) fn push_found(
         push_node(text, b"", *node, b" ")?;
     }
     push_name(text, tag)
-}
-
-/// A tag's name.
-fn tag_name(tag: Tag) -> Short
-    ensures { short_bytes result ≡ name_of tag }
-{
-    let is_followed = tag.forw.is_some();
-    match tag.kind {
-        Kind::Invalid => Short::new(b"INVALID         ", 7),
-        Kind::Queued => Short::new(b"QUEUED          ", 6),
-        Kind::Fresh if is_followed => Short::new(b"HEAD_FRESH      ", 10),
-        Kind::Fresh => Short::new(b"ONLY_FRESH      ", 10),
-        Kind::Dirty if is_followed => Short::new(b"HEAD_DIRTY      ", 10),
-        Kind::Dirty => Short::new(b"ONLY_DIRTY      ", 10),
-        Kind::Convert => Short::new(b"CONVERT         ", 7),
-        Kind::Purging => Short::new(b"PURGING         ", 7),
-        Kind::Leaving => Short::new(b"LEAVING         ", 7),
-        Kind::Valid if is_followed => Short::new(b"MID_VALID       ", 9),
-        Kind::Valid => Short::new(b"TAIL_VALID      ", 10),
-        Kind::Roll => Short::new(b"ROLL            ", 4),
-        Kind::Purged => Short::new(b"PURGED          ", 6),
-    }
 }
 
 /// A tag's name, at the end of a text.
