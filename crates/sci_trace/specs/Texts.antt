@@ -16,16 +16,16 @@ use Rattle.sci_trace.specs.Lists.{list_text}
 
 -- an operation that was asked for
 abbrev pub request_name : Request → List ℕ
-request_name (Request.Load line) = codes " load: "
-request_name (Request.Store line word value) = codes " store: "
-request_name (Request.Add line word delta) = codes " add: "
-request_name (Request.WriteLine line words) = codes " write line: "
-request_name (Request.Evict line) = codes " evict: "
+request_name (Request.Load line) = codes "load: "
+request_name (Request.Store line word value) = codes "store: "
+request_name (Request.Add line word delta) = codes "add: "
+request_name (Request.WriteLine line words) = codes "write line: "
+request_name (Request.Evict line) = codes "evict: "
 
 -- the operation at work on a line: the one that was asked for, or, on another line, the victim's eviction
 abbrev pub operation_name : Option Request → ℕ → List ℕ
-operation_name None line = codes " evict: "
-operation_name (Some request) line = if line_of request == line then request_name request else codes " evict: "
+operation_name None line = codes "evict: "
+operation_name (Some request) line = if line_of request == line then request_name request else codes "evict: "
 
 -- a wait behind a load of the memory word: in Queueing for the lent line, elsewhere for the place of the head
 abbrev pub mem_wait : Stage → Mem → List ℕ
@@ -58,7 +58,7 @@ act_text node passed stage waits = elim passed.step [
 
 -- `# node N line L OPERATION: `
 abbrev pub place_text : ℕ → Option Request → ℕ → List ℕ
-place_text node asked line = codes "# node " ++ decimal node ++ codes " line " ++ decimal line ++ operation_name asked line
+place_text node asked line = codes "# node " ++ decimal node ++ codes " line " ++ decimal line ++ codes " " ++ operation_name asked line
 
 -- `# node N line L OPERATION: WHAT; STEP; LIST`
 abbrev pub note_line : ℕ → Option Request → Passed → Stage → Bool → Mem → List (ℕ × Tag) → List ℕ

@@ -8,8 +8,10 @@ ghost use Rattle.sci_script.specs.Wholes.{shared_of};
 ghost use Rattle.sci_trace.specs.Lists.{entry_text, entries_text, lent_text, list_text, walked};
 
 use crate::note_text::NoteText;
+use crate::numbers::push_named;
 use crate::short::Short;
-use crate::words::{push_held, push_name, push_node};
+use crate::tag_names::tag_name;
+use crate::words::{push_held, push_node};
 use sci_script::{Desk, WholeDesk};
 use sci_words::{LineNo, Mem, MemState, NodeId, Tag};
 use std::alloc::AllocError;
@@ -35,8 +37,7 @@ fn push_entry<const A: usize>(
         unreachable!()
     };
     let Tag { held, forw, .. } = tag;
-    push_node(text, before, node, b" ")?;
-    push_name(text, tag)?;
+    push_named(text, before, u64::from(node.get()), tag_name(tag))?;
     push_held(text, held)?;
     Ok(forw)
 }

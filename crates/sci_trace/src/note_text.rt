@@ -7,7 +7,7 @@ use crate::short::Short;
 use std::alloc::{AllocError, Global};
 
 /// How many bytes wait at most.
-const ROOM: usize = 512;
+const ROOM: usize = 2_048;
 
 /// How many bytes the place for three pieces has.
 const PLACE: usize = 32;
@@ -19,7 +19,7 @@ pub struct NoteText {
     room: [u8; ROOM],
     // How many bytes wait in the room.
     waiting: usize,
-    ghost fits: { waiting ≤ 512 },
+    ghost fits: { waiting ≤ 2048 },
 }
 
 // Writes over the first bytes of a room, where the piece fits in.
@@ -65,7 +65,8 @@ fn write_part<const N: usize>(room: &mut [u8], at: usize, piece: &[u8; N], count
     write_at(room, at, piece)
 }
 
-// Writes three pieces over the front of a place, where they fit in. The piece between is the front of its bytes.
+// Writes three pieces over the front of a place, where all of their bytes fit in: one, and the first `count` and `size` bytes of
+// two more.
 #[inline(always)]
 fn write_pieces<const A: usize, const N: usize, const B: usize>(
     place: &mut [u8; PLACE],
@@ -73,18 +74,20 @@ fn write_pieces<const A: usize, const N: usize, const B: usize>(
     between: &[u8; N],
     count: usize,
     after: &[u8; B],
+    size: usize,
 ) -> bool
-    requires { count ≤ N }
-    ensures written { result ≡ true → (A + count + B ≤ 32) × (take (A + count + B) place.new ≡ before.now ++ (take count between.now ++ after.now)) }
+    requires count { count ≤ N }
+    requires size { size ≤ B }
+    ensures written { result ≡ true → (A + count + size ≤ 32) × (take (A + count + size) place.new ≡ before.now ++ (take count between.now ++ take size after.now)) }
     ensures long { result ≡ false → 32 < A + N + B }
     ensures same { length place.new ≡ 32 }
 {
     write_at(place, 0, before)
         && write_part(place, A, between, count)
-        && write_at(place, A + count, after)
+        && write_part(place, A + count, after, size)
 }
 
-// Writes three pieces over the first bytes of a room that has a place for them.
+// Writes them over the first bytes of a room that has a place for them.
 #[inline(always)]
 fn write_front<const A: usize, const N: usize, const B: usize>(
     room: &mut [u8],
@@ -92,19 +95,22 @@ fn write_front<const A: usize, const N: usize, const B: usize>(
     between: &[u8; N],
     count: usize,
     after: &[u8; B],
+    size: usize,
 ) -> bool
-    requires { count ≤ N }
-    ensures written { result ≡ true → (A + count + B ≤ length room.old) × (take (A + count + B) room.new ≡ before.now ++ (take count between.now ++ after.now)) }
+    requires count { count ≤ N }
+    requires size { size ≤ B }
+    ensures written { result ≡ true → (A + count + size ≤ length room.old)
+        × (take (A + count + size) room.new ≡ before.now ++ (take count between.now ++ take size after.now)) }
     ensures long { result ≡ false → (length room.old < 32) ⊎ (32 < A + N + B) }
     ensures same { length room.new ≡ length room.old }
 {
     match room.first_chunk_mut::<PLACE>() {
-        Some(place) => write_pieces(place, before, between, count, after),
+        Some(place) => write_pieces(place, before, between, count, after, size),
         None => false,
     }
 }
 
-// Writes three pieces from a place on.
+// Writes them from a place on.
 #[inline(always)]
 fn write_behind<const A: usize, const N: usize, const B: usize>(
     room: &mut [u8; ROOM],
@@ -113,14 +119,17 @@ fn write_behind<const A: usize, const N: usize, const B: usize>(
     between: &[u8; N],
     count: usize,
     after: &[u8; B],
+    size: usize,
 ) -> bool
-    requires at { at ≤ 512 }
+    requires at { at ≤ 2048 }
     requires count { count ≤ N }
-    ensures written { result ≡ true → (at + A + count + B ≤ 512) × (take (at + A + count + B) room.new ≡ take at room.old ++ (before.now ++ (take count between.now ++ after.now))) }
-    ensures long { result ≡ false → (480 < at) ⊎ (32 < A + N + B) }
+    requires size { size ≤ B }
+    ensures written { result ≡ true → (at + A + count + size ≤ 2048)
+        × (take (at + A + count + size) room.new ≡ take at room.old ++ (before.now ++ (take count between.now ++ take size after.now))) }
+    ensures long { result ≡ false → (2016 < at) ⊎ (32 < A + N + B) }
     ensures front { take at room.new ≡ take at room.old }
 {
-    write_front(&mut room[at..], before, between, count, after)
+    write_front(&mut room[at..], before, between, count, after, size)
 }
 
 impl NoteText {
@@ -227,15 +236,17 @@ impl NoteText {
         between: &[u8; N],
         count: usize,
         after: &[u8; B],
+        size: usize,
     ) -> bool
-        requires { count ≤ N }
-        ensures written { result ≡ true → note_bytes self.new ≡ note_bytes self.old ++ (before.now ++ (take count between.now ++ after.now)) }
+        requires count { count ≤ N }
+        requires size { size ≤ B }
+        ensures written { result ≡ true → note_bytes self.new ≡ note_bytes self.old ++ (before.now ++ (take count between.now ++ take size after.now)) }
         ensures kept { result ≡ false → note_bytes self.new ≡ note_bytes self.old }
-        ensures long { result ≡ false → (480 < self.old.waiting) ⊎ (32 < A + N + B) }
+        ensures long { result ≡ false → (2016 < self.old.waiting) ⊎ (32 < A + N + B) }
     {
         let at = self.waiting;
-        if write_behind(&mut self.room, at, before, between, count, after) {
-            self.waiting = at + A + count + B;
+        if write_behind(&mut self.room, at, before, between, count, after, size) {
+            self.waiting = at + A + count + size;
             return true;
         }
         false
@@ -257,7 +268,7 @@ impl NoteText {
         self.push_behind(after)
     }
 
-    /// Adds three pieces, as fast as one: two whose lengths are known, and between them the first `count` bytes of a third.
+    /// Adds three pieces, as fast as one: one whose length is known, and the first `count` and `size` bytes of two more.
     #[inline(always)]
     pub(crate) fn push_three<const A: usize, const N: usize, const B: usize>(
         &mut self,
@@ -265,13 +276,15 @@ impl NoteText {
         between: &[u8; N],
         count: usize,
         after: &[u8; B],
+        size: usize,
     ) -> Result<(), AllocError>
-        requires { count ≤ N }
-        ensures { OnOk result (note_bytes self.new ≡ note_bytes self.old ++ (before.now ++ (take count between.now ++ after.now))) }
+        requires count { count ≤ N }
+        requires size { size ≤ B }
+        ensures { OnOk result (note_bytes self.new ≡ note_bytes self.old ++ (before.now ++ (take count between.now ++ take size after.now))) }
     {
-        if self.write_three(before, between, count, after) {
+        if self.write_three(before, between, count, after, size) {
             return Ok(());
         }
-        self.push_three_behind(before, &between[..count], after)
+        self.push_three_behind(before, &between[..count], &after[..size])
     }
 }

@@ -11,7 +11,7 @@ ghost use Rattle.sci_trace.specs.Texts.{request_name, operation_name, mem_wait, 
 use crate::events::push_event;
 use crate::lists::push_list;
 use crate::note_text::NoteText;
-use crate::numbers::push_between;
+use crate::numbers::push_named;
 use crate::short::Short;
 use crate::steps::push_step;
 use crate::words::{push_link, push_node, push_tag};
@@ -26,11 +26,11 @@ fn request_name(request: &Request) -> Short
     ensures { short_bytes result ≡ request_name request.now }
 {
     match request {
-        Request::Load { .. } => Short::new(b" load:          ", 7),
-        Request::Store { .. } => Short::new(b" store:         ", 8),
-        Request::Add { .. } => Short::new(b" add:           ", 6),
-        Request::WriteLine { .. } => Short::new(b" write line:    ", 13),
-        Request::Evict { .. } => Short::new(b" evict:         ", 8),
+        Request::Load { .. } => Short::new(b"load:           ", 6),
+        Request::Store { .. } => Short::new(b"store:          ", 7),
+        Request::Add { .. } => Short::new(b"add:            ", 5),
+        Request::WriteLine { .. } => Short::new(b"write line:     ", 12),
+        Request::Evict { .. } => Short::new(b"evict:          ", 7),
     }
 }
 
@@ -40,7 +40,7 @@ fn operation_name(asked: &Option<Request>, line: LineNo) -> Short
 {
     match asked {
         Some(request) if request.line() == line => request_name(request),
-        _ => Short::new(b" evict:         ", 8),
+        _ => Short::new(b"evict:          ", 7),
     }
 }
 
@@ -114,8 +114,7 @@ fn push_place(
     ensures { OnOk result (note_bytes text.new ≡ note_bytes text.old ++ place_text node asked.now line) }
 {
     push_node(text, b"# node ", node, b" line ")?;
-    push_between(text, b"", u64::from(line), b"")?;
-    text.push_short(operation_name(asked, line))
+    push_named(text, b"", u64::from(line), operation_name(asked, line))
 }
 
 /// One turn of a node, which was asked for this: `# node N line L OPERATION: WHAT; STEP; LIST` and a line feed. WHAT is the event

@@ -8,7 +8,7 @@ ghost use Rattle.sci_words.specs.Tag.{name_of};
 ghost use Rattle.sci_trace.specs.Words.{link_word, found_text, tag_text};
 
 use crate::note_text::NoteText;
-use crate::numbers::push_between;
+use crate::numbers::{push_between, push_named};
 use crate::tag_names::tag_name;
 use sci_script::Load;
 use sci_words::{NodeId, Tag};
@@ -39,7 +39,7 @@ pub(crate) fn push_link<const A: usize, const B: usize>(
 {
     match link {
         Some(node) => push_node(text, before, node, after),
-        None => text.push_three(before, b"none", 4, after),
+        None => text.push_three(before, b"none", 4, after, B),
     }
 }
 
@@ -51,10 +51,11 @@ pub(crate) fn push_found(
 ) -> Result<(), AllocError>
     ensures { OnOk result (note_bytes text.new ≡ note_bytes text.old ++ found_text load.now tag) }
 {
-    if let Some(Load::Tag(node, _)) = load {
-        push_node(text, b"", *node, b" ")?;
+    let name = tag_name(tag);
+    match load {
+        Some(Load::Tag(node, _)) => push_named(text, b"", u64::from(node.get()), name),
+        _ => text.push_short(name),
     }
-    push_name(text, tag)
 }
 
 /// A tag's name, at the end of a text.

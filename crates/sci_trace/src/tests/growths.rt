@@ -82,7 +82,7 @@ fn traces(rt: &impl Abort, alloc: Global, script: &Script) -> Result<(), Fail> {
 // A piece that is longer than what may wait.
 fn pushes(rt: &impl Abort, alloc: Global) -> Result<(), Fail> {
     let mut text = NoteText::new(alloc);
-    let piece = [b'#'; 513];
+    let piece = [b'#'; 2_049];
     match text.push_bytes(&piece) {
         Ok(()) => {
             assert!(rt; text.front() == piece.as_slice());
