@@ -48,7 +48,10 @@ static NAMES: [[u8; 16]; 35] = [
 ];
 
 /// How many bytes each name has.
-static LENGTHS: [usize; 35] = [4, 6, 8, 12, 12, 12, 6, 5, 6, 8, 11, 9, 11, 11, 8, 11, 12, 10, 9, 7, 5, 5, 14, 16, 6, 6, 6, 8, 6, 4, 7, 15, 15, 4, 9];
+static LENGTHS: [usize; 35] = [
+    4, 6, 8, 12, 12, 12, 6, 5, 6, 8, 11, 9, 11, 11, 8, 11, 12, 10, 9, 7, 5, 5, 14, 16, 6, 6, 6, 8,
+    6, 4, 7, 15, 15, 4, 9,
+];
 
 /// The place of an event's name.
 fn place_of(event: &Event) -> usize

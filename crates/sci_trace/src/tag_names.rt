@@ -33,7 +33,9 @@ static NAMES: [[u8; 16]; 20] = [
 ];
 
 /// How many bytes each name has.
-static LENGTHS: [usize; 20] = [7, 6, 10, 10, 7, 7, 7, 10, 4, 6, 7, 6, 10, 10, 7, 7, 7, 9, 4, 6];
+static LENGTHS: [usize; 20] = [
+    7, 6, 10, 10, 7, 7, 7, 10, 4, 6, 7, 6, 10, 10, 7, 7, 7, 9, 4, 6,
+];
 
 /// The place of a tag's name.
 fn place_of(tag: Tag) -> usize

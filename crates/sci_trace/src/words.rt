@@ -4,7 +4,6 @@ ghost use Rattle.std.specs.Prelude.{◌≡◌, ◌++◌, OnOk, codes};
 ghost use Rattle.sci_trace.specs.NoteText.{note_bytes};
 ghost use Rattle.std.specs.Fmt.{decimal};
 ghost use Rattle.sci_script.specs.Text.{held_text};
-ghost use Rattle.sci_words.specs.Tag.{name_of};
 ghost use Rattle.sci_trace.specs.Words.{link_word, found_text, tag_text};
 
 use crate::note_text::NoteText;
@@ -58,14 +57,6 @@ pub(crate) fn push_found(
     }
 }
 
-/// A tag's name, at the end of a text.
-#[inline(always)]
-pub(crate) fn push_name(text: &mut NoteText, tag: Tag) -> Result<(), AllocError>
-    ensures { OnOk result (note_bytes text.new ≡ note_bytes text.old ++ name_of tag) }
-{
-    text.push_short(tag_name(tag))
-}
-
 /// A node's tag, with its links: `node N is NAME forw F back B`, and ` held`.
 pub(crate) fn push_tag(text: &mut NoteText, node: NodeId, tag: Tag) -> Result<(), AllocError>
     ensures { OnOk result (note_bytes text.new ≡ note_bytes text.old ++ tag_text node tag) }
@@ -77,7 +68,7 @@ pub(crate) fn push_tag(text: &mut NoteText, node: NodeId, tag: Tag) -> Result<()
         ..
     } = tag;
     push_node(text, b"node ", node, b" is ")?;
-    push_name(text, tag)?;
+    text.push_short(tag_name(tag))?;
     push_link(text, b" forw ", forw, b"")?;
     push_link(text, b" back ", back, b"")?;
     push_held(text, held)
