@@ -16,6 +16,7 @@ use Rattle.sci_script.specs.Request.{words_after}
 use Rattle.sci_script.specs.Run.{Prints}
 use Rattle.sci_script.specs.Shared.{Shared, shared_does}
 use Rattle.sci_script.proofs.Runs.{words_behind}
+use Rattle.sci_trace.specs.Lists.{walked}
 use Rattle.sci_trace.specs.Notes.{Told, line_of_turn}
 use Rattle.sci_trace.specs.Texts.{is_waiting, note_line}
 use Rattle.sci_trace.specs.Telling.{Telling, telling, nothing, AddsLine, telling_is_open, tells, TellsAll}
@@ -29,21 +30,21 @@ told_does s (SawTag line node tag) t h = h.0
 told_does s (SawResidents node lines) t h = h.0
 
 -- a line that was added tells of this
-pub told_line : (node : ℕ) (asked : Option Request) (passed : Passed) (stage : Stage) (turn : Turn) (mem : Mem) (entries : List (ℕ × Tag)) (before after : List ℕ) (cut still : Bool) (step : Stage) (word : Mem)
-    → stage ≡ step → mem ≡ word
+pub told_line : (node : ℕ) (asked : Option Request) (passed : Passed) (stage : Stage) (turn : Turn) (mem : Mem) (entries : List (ℕ × Tag)) (before after : List ℕ) (cut still : Bool) (step : Stage) (word : Mem) (tags : ℕ → Tag) (width : ℕ)
+    → stage ≡ step → mem ≡ word → entries ≡ walked tags width mem.forw
     → (still ≡ true) ⊎ ((still ≡ cut) × (after ≡ before ++ note_line node asked passed stage (is_waiting turn) mem entries))
-    → (still ≡ true) ⊎ ((still ≡ cut) × (told : Told) × (told.node ≡ node) × (told.turn ≡ turn) × (told.passed ≡ passed) × (told.stage ≡ step) × (told.mem ≡ word) × (after ≡ before ++ line_of_turn told))
-told_line node asked passed stage turn mem entries before after cut still step word stands is (inl h) = inl h
-told_line node asked passed stage turn mem entries before after cut still step word stands is (inr (kept, added)) =
+    → (still ≡ true) ⊎ ((still ≡ cut) × (told : Told) × (told.node ≡ node) × (told.turn ≡ turn) × (told.passed ≡ passed) × (told.stage ≡ step) × (told.mem ≡ word) × (told.entries ≡ walked tags width told.mem.forw) × (after ≡ before ++ line_of_turn told))
+told_line node asked passed stage turn mem entries before after cut still step word tags width stands is along (inl h) = inl h
+told_line node asked passed stage turn mem entries before after cut still step word tags width stands is along (inr (kept, added)) =
     let told : Told = record { node = node; asked = asked; passed = passed; stage = stage; turn = turn; mem = mem; entries = entries } in
-    inr (kept, told, refl, refl, refl, stands, is, added)
+    inr (kept, told, refl, refl, refl, stands, is, along, added)
 
 -- a turn's line is added: the desk stands as the turn left it, and the line tells what passed
 pub adds_line : (s mid t : Shared) (node : ℕ) (turn : Turn) (q : Passed) (before after : List ℕ) (cut still : Bool) → t ≡ mid → shared_passes s node mid nothing q
-    → (still ≡ true) ⊎ ((still ≡ cut) × (told : Told) × (told.node ≡ node) × (told.turn ≡ turn) × (told.passed ≡ q) × (told.stage ≡ stage_of ((mid.lines q.line).steps node)) × (told.mem ≡ (mid.lines q.line).memory) × (after ≡ before ++ line_of_turn told))
+    → (still ≡ true) ⊎ ((still ≡ cut) × (told : Told) × (told.node ≡ node) × (told.turn ≡ turn) × (told.passed ≡ q) × (told.stage ≡ stage_of ((mid.lines q.line).steps node)) × (told.mem ≡ (mid.lines q.line).memory) × (told.entries ≡ walked (mid.lines q.line).tags mid.width told.mem.forw) × (after ≡ before ++ line_of_turn told))
     → AddsLine (record { shared = s; notes = before; is_cut = cut }) node turn (record { shared = t; notes = after; is_cut = still })
 adds_line s mid t node turn q before after cut still same passes (inl h) = inl h
-adds_line s mid t node turn q before after cut still same passes (inr (kept, told, of, is, passed, step, mem, added)) =
+adds_line s mid t node turn q before after cut still same passes (inr (kept, told, of, is, passed, step, mem, along, added)) =
     subst (λ (x : Shared). AddsLine (record { shared = s; notes = before; is_cut = cut }) node turn (record { shared = x; notes = after; is_cut = still })) (sym same)
     (inr (
       kept,
@@ -54,6 +55,7 @@ adds_line s mid t node turn q before after cut still same passes (inr (kept, tol
         subst (λ (p : Passed). shared_passes s node mid nothing p) (sym passed) passes,
         subst (λ (p : Passed). told.stage ≡ stage_of ((mid.lines p.line).steps node)) (sym passed) step,
         subst (λ (p : Passed). told.mem ≡ (mid.lines p.line).memory) (sym passed) mem,
+        subst (λ (p : Passed). told.entries ≡ walked (mid.lines p.line).tags mid.width told.mem.forw) (sym passed) along,
       ),
       added,
     ))

@@ -10,6 +10,7 @@ use Rattle.sci_script.specs.Request.{words_after}
 use Rattle.sci_script.specs.Run.{Prints}
 use Rattle.sci_script.specs.Shared.{Shared, shared_is_open, shared_does}
 use Rattle.sci_script.specs.Wholes.{shared_of}
+use Rattle.sci_trace.specs.Lists.{walked}
 use Rattle.sci_trace.specs.NoteText.{note_bytes}
 use Rattle.sci_trace.specs.declared.desk.TraceDesk.{TraceDesk}
 use Rattle.sci_trace.specs.Notes.{Told, line_of_turn}
@@ -31,10 +32,10 @@ abbrev pub nothing : Passed
 nothing = record { line = 0; load = None; step = None }
 
 -- this is told of the turn that the node took from s to t: whose it was, what it came to, what passed in it, and the node's pending
--- step and memory's word after it
+-- step, memory's word and the list's entries after it
 abbrev pub IsTold : Shared → ℕ → Turn → Shared → Told → Type 0
 IsTold s node turn t told = (told.node ≡ node) × (told.turn ≡ turn) × shared_passes s node t nothing told.passed × (told.stage ≡ stage_of ((t.lines told.passed.line).steps node))
-    × (told.mem ≡ (t.lines told.passed.line).memory)
+    × (told.mem ≡ (t.lines told.passed.line).memory) × (told.entries ≡ walked (t.lines told.passed.line).tags t.width told.mem.forw)
 
 -- the turn's line is added, unless memory is refused for it
 abbrev pub AddsLine : Telling → ℕ → Turn → Telling → Type 0

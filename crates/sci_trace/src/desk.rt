@@ -1,9 +1,10 @@
 //! A desk that says of each turn what it did.
 
-ghost use Rattle.std.specs.Prelude.{◌≡◌, ◌<◌, ◌≤◌, ◌⊎◌, ◌++◌, true, IfOk, IfSome};
+ghost use Rattle.std.specs.Prelude.{◌≡◌, ◌<◌, ◌≤◌, ◌⊎◌, ◌++◌, true, IfOk};
 ghost use Rattle.sci_trace.specs.NoteText.{note_bytes};
 ghost use Rattle.sci_core.specs.Stage.{stage_of};
 ghost use Rattle.sci_script.specs.Wholes.{shared_of};
+ghost use Rattle.sci_trace.specs.Lists.{walked};
 ghost use Rattle.sci_trace.specs.Notes.{Told, line_of_turn};
 
 use crate::notes::Notes;
@@ -57,6 +58,7 @@ impl TraceDesk {
         ensures same { shared_of self.new.desk ≡ shared_of self.old.desk }
         ensures told { (self.new.notes.is_cut ≡ true) ⊎ ((self.new.notes.is_cut ≡ self.old.notes.is_cut) × (told : Told) × (told.node ≡ node) × (told.turn ≡ turn.now) × (told.passed ≡ passed.now)
             × (told.stage ≡ stage_of (((shared_of self.old.desk).lines passed.now.line).steps node)) × (told.mem ≡ ((shared_of self.old.desk).lines passed.now.line).memory)
+            × (told.entries ≡ walked ((shared_of self.old.desk).lines passed.now.line).tags (shared_of self.old.desk).width told.mem.forw)
             × (note_bytes self.new.notes.text ≡ note_bytes self.old.notes.text ++ line_of_turn told)) }
         ensures size { self.new.size ≡ self.old.size }
     {

@@ -16,6 +16,7 @@ use sci_core::Event;
 use sci_script::{Ending, Load};
 use std::alloc::AllocError;
 
+/// Words, each behind a space.
 fn push_words(text: &mut NoteText, words: &[u64]) -> Result<(), AllocError>
     ensures { OnOk result (note_bytes text.new ≡ note_bytes text.old ++ flat_map (λ word. codes " " ++ decimal word) words.now) }
 {

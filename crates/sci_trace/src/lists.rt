@@ -1,6 +1,6 @@
 //! A sharing list with what listings don't show: what is lent and what is held.
 
-ghost use Rattle.std.specs.Prelude.{◌≡◌, ◌<◌, ◌++◌, Some, OnOk, IfOk, IfSome, codes};
+ghost use Rattle.std.specs.Prelude.{◌≡◌, ◌<◌, ◌++◌, Some, OnOk, IfOk, IfSome};
 ghost use Rattle.sci_trace.specs.NoteText.{note_bytes};
 ghost use Rattle.sci_trace.specs.Short.{short_bytes};
 ghost use Rattle.sci_words.specs.Mem.{mem_name_of};

@@ -268,7 +268,7 @@ impl NoteText {
         self.push_behind(after)
     }
 
-    /// Adds three pieces, as fast as one: one whose length is known, and the first `count` and `size` bytes of two more.
+    /// Adds three pieces at once: one whose length is known, and the first `count` and `size` bytes of two more.
     #[inline(always)]
     pub(crate) fn push_three<const A: usize, const N: usize, const B: usize>(
         &mut self,

@@ -59,15 +59,6 @@ impl Notes {
         self.text.clear();
     }
 
-    /// Drops the lines, and says that memory was refused.
-    pub(crate) fn cut(&mut self)
-        ensures empty { note_bytes self.new.text ≡ [] }
-        ensures cut { self.new.is_cut ≡ true }
-    {
-        self.clear();
-        self.is_cut = true;
-    }
-
     /// The lines, but for what waits.
     pub(crate) fn front(&self) -> &[u8]
         ensures { result.now ≡ self.now.text.front.items }
@@ -75,7 +66,7 @@ impl Notes {
         self.text.front()
     }
 
-    /// What waits behind it.
+    /// What waits behind them.
     pub(crate) fn waiting(&self) -> &[u8]
         ensures { result.now ≡ take self.now.text.waiting self.now.text.room }
     {
@@ -110,7 +101,7 @@ impl Notes {
             Err(_) => {
                 // the front of a line is no line
                 self.text.clear();
-                self.cut();
+                self.is_cut = true;
             }
         }
     }

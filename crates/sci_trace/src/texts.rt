@@ -1,11 +1,10 @@
 //! The lines that a trace adds.
 
-ghost use Rattle.std.specs.Prelude.{◌≡◌, ◌<◌, ◌++◌, OnOk, IfSome, codes};
+ghost use Rattle.std.specs.Prelude.{◌≡◌, ◌<◌, ◌++◌, OnOk, IfSome};
 ghost use Rattle.sci_trace.specs.NoteText.{note_bytes};
 ghost use Rattle.sci_trace.specs.Short.{short_bytes};
 ghost use Rattle.sci_script.specs.Wholes.{shared_of};
 ghost use Rattle.sci_trace.specs.Lists.{walked};
-ghost use Rattle.std.specs.Fmt.{decimal};
 ghost use Rattle.sci_trace.specs.Texts.{request_name, operation_name, mem_wait, wait_text, look_text, act_text, place_text, note_line};
 
 use crate::events::push_event;
@@ -71,7 +70,7 @@ fn push_wait(
     }
 }
 
-// A turn without an exchange: it waited, or it only looked.
+/// A turn without an exchange: it waited, or it only looked.
 fn push_look(
     text: &mut NoteText,
     node: NodeId,
@@ -105,6 +104,7 @@ fn push_act(
     }
 }
 
+/// Whose turn it was: `# node N line L OPERATION: `.
 fn push_place(
     text: &mut NoteText,
     node: NodeId,
@@ -118,7 +118,7 @@ fn push_place(
 }
 
 /// One turn of a node, which was asked for this: `# node N line L OPERATION: WHAT; STEP; LIST` and a line feed. WHAT is the event
-/// and Done or Missed, `waits: ` and what it waits for, or `only looked`; STEP is the pending step after the turn; LIST is this
+/// and how its exchange ended, `waits: ` and what it waits for, or `only looked`; STEP is the pending step after the turn; LIST is this
 /// memory word and the entries as they stand, with what is lent and held.
 #[inline(always)]
 pub(crate) fn push_note(

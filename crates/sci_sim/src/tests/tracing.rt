@@ -66,7 +66,7 @@ fn a_walk_is_told(rt: HostRuntime) {
 }
 
 /// Scripts that end in each way. Their text is known from elsewhere; here the two commands are compared.
-const SCRIPTS: [&str; 12] = [
+const SCRIPTS: [&str; 13] = [
     SHARERS,
     LEAVER,
     "memory 1 1",
@@ -76,6 +76,7 @@ const SCRIPTS: [&str; 12] = [
     "memory 1 1\nload 0 0 8\n",
     "memory 1 1\nlist 0\nturn 0",
     "memory 2 1\nload 0 0 0\nturn 0\nload 0 0 0\nturn 0\n",
+    "memory 2 1\nload 0 0 0\nturn 0\nturn 0\nload 1 0 0\nturn 1\ndone 1\n",
     "memory 1 2\ncapacity 1\nload 0 0 0\ndone 0\nload 0 1 0\ndone 0\nresidents 0\nlist 0\ntag 1 0\n",
     "memory 1 1\nopen 0 18446744073709551615 1 2 3 4 5 6 7 8\nadd 0 0 7 1\ndone 0\nload 0 0 7\ndone 0\nevict 0 0\ndone 0\n",
     "memory 2 1\nstore 0 0 0 5\ndone 0\nstore 0 0 0 6\nturn 0\nload 1 0 0\ndone 1\nlist 0\n",

@@ -1,5 +1,5 @@
 //! Traces turn by turn, worked by hand from docs/PROTOCOL.md: its walks, and its tables of events and turns.
-use super::{Case, check};
+use super::{Case, check, trace_text};
 use sci_script::ScriptRefusal;
 use std::test::Fail;
 
@@ -138,5 +138,25 @@ const WALKS: [Case; 6] = [
 #[test]
 fn walks(rt: HostRuntime) -> Result<(), Fail> {
     check(&rt, rt.alloc(), &WALKS);
+    Ok(())
+}
+
+/// A `done` that is refused has a line for each of its turns; they are more than what waits.
+#[test]
+fn a_refused_command_is_told(rt: HostRuntime) -> Result<(), Fail> {
+    let script = "memory 2 1\nload 0 0 0\nturn 0\nturn 0\nload 1 0 0\nturn 1\ndone 1\n";
+    let before = "# node 0 line 0 load: Queue(none) Done; Queueing(none); HOME\n\
+                  # node 0 line 0 load: PrependValid Done; Fetching(none); FRESH lent 0: 0 QUEUED\n\
+                  # node 1 line 0 load: Queue(0) Done; Queueing(0); FRESH lent 0: 0 QUEUED\n";
+    let wait = "# node 1 line 0 load: waits: memory is lent; Queueing(0); FRESH lent 0: 0 QUEUED\n";
+    let mut out = Vec::new(rt.alloc());
+    let end = trace_text(rt.alloc(), script, &mut out);
+    assert_eq!(rt; end.err(), Some(ScriptRefusal::NotDone(7)));
+    let mut told = Vec::new(rt.alloc());
+    told.extend_from_slice(before.as_bytes())?;
+    for _ in 0..100_000 {
+        told.extend_from_slice(wait.as_bytes())?;
+    }
+    assert!(rt; out == told);
     Ok(())
 }
