@@ -31,28 +31,16 @@ impl Model for Closed {
     ghost invariant = { λ c. IsClosed record { mem = c.mem; memory = c.memory; tags = c.tags.items; lines = c.lines.items } };
 }
 
-// Lines, in room that was taken before.
-fn lines_into(mut copies: Vec<Line>, lines: &[Line]) -> Vec<Line>
-    requires empty { copies.items ≡ [] }
-    requires room { length lines.now ≤ vec_capacity copies }
-    ensures { result.items ≡ lines.now }
+// Copies, in room that was taken before.
+fn copied_into<T: Copy>(mut room: Vec<T>, items: &[T]) -> Vec<T>
+    requires empty { room.items ≡ [] }
+    requires enough { length items.now ≤ vec_capacity room }
+    ensures { result.items ≡ items.now }
 {
-    for line in lines {
-        copies.push_reserved(*line);
+    for item in items {
+        room.push_reserved(*item);
     }
-    copies
-}
-
-// Tags, in room that was taken before.
-fn tags_into(mut copies: Vec<Tag>, tags: &[Tag]) -> Vec<Tag>
-    requires empty { copies.items ≡ [] }
-    requires room { length tags.now ≤ vec_capacity copies }
-    ensures { result.items ≡ tags.now }
-{
-    for tag in tags {
-        copies.push_reserved(*tag);
-    }
-    copies
+    room
 }
 
 impl<K: Keeps> Whole<K> {
@@ -85,8 +73,8 @@ impl<K: Keeps> Whole<K> {
         Closed {
             mem,
             memory,
-            tags: tags_into(tags, &self.tags),
-            lines: lines_into(lines, &self.lines),
+            tags: copied_into(tags, &self.tags),
+            lines: copied_into(lines, &self.lines),
         }
     }
 }

@@ -10,7 +10,7 @@ use crate::stages::Stage;
 use crate::table::purging::written;
 
 /// What an exchange does with a slot.
-#[derive(Clone, Copy, Debug, PartialEq, Eq)]
+#[derive(Clone, Copy)]
 pub enum Motion {
     /// Nothing.
     Stays,
@@ -21,7 +21,7 @@ pub enum Motion {
 }
 
 /// An exchange, but for lines. It answers the line that it takes or gives back, or none.
-#[derive(Clone, Copy, Debug, PartialEq, Eq)]
+#[derive(Clone, Copy)]
 pub struct Outline {
     pub change: Change,
     pub motion: Motion,

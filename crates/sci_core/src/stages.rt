@@ -3,7 +3,7 @@ use sci_words::{NodeId, Tag};
 
 /// A pending step, but for its line: what a `Whole` keeps beside the lines, each in its own slot. `Pending` says what each
 /// step is.
-#[derive(Clone, Copy, Debug, PartialEq, Eq)]
+#[derive(Clone, Copy, Debug)]
 pub enum Stage {
     /// Nothing.
     Idle,
