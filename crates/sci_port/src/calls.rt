@@ -4,7 +4,7 @@ use sci_words::{Mem, NodeId, Tag};
 
 /// One call of a port, and what it answered. Ports don't make them: what contracts say of calls one after another is said of
 /// these.
-#[derive(Clone, Copy, Debug, PartialEq, Eq)]
+#[derive(Clone, Copy)]
 pub enum Call {
     /// A look at the own tag.
     Own(Option<Tag>),
