@@ -19,7 +19,6 @@ sys.dont_write_bytecode = True
 
 from edits import edits_of
 from kit import RT
-from libraries import built, take_below
 from trying import Trial
 
 ROOT = pathlib.Path(__file__).resolve().parents[2]
@@ -38,6 +37,20 @@ def copy_of(root, room, kept):
     for name in kept:
         if os.path.isdir(f"{root}/crates/{name}/out/incremental"):
             shutil.copytree(f"{root}/crates/{name}/out/incremental", f"{room}/kept/{name}")
+
+
+def take_libraries(root, crates):
+    """Takes over the libraries below these crates, as they were built; returns whether all are there. The stamp of one tells whether
+    it is as its sources are; `rt ci` leaves none, and has built all just before."""
+    below = {it.name: it for crate in crates for it in crate.below()}
+    for name, it in below.items():
+        made = f"{root}/crates/{name}/out/rlib"
+        stamp = RT.rtlib.text_of(f"{made}/stamp") if os.path.isfile(f"{made}/stamp") else it.stamp()
+        if not os.path.isdir(f"{made}/{name}.rlib") or stamp != it.stamp():
+            return False
+    for name, it in below.items():
+        shutil.copytree(f"{root}/crates/{name}/out/rlib/{name}.rlib", it.rlib)
+    return True
 
 
 def build(trial, given, jobs):
@@ -78,11 +91,10 @@ def tasks_of(crates, root, room, size, is_built):
     edits = {it.name: edits_of(it) for it in crates}
     wanted = [it for it in crates if edits[it.name][0]]
     used = {below.name for it in wanted for below in it.below()}
-    has_libraries = is_built and take_below(root, wanted)
+    has_libraries = is_built and take_libraries(root, wanted)
     trials, tasks = [], {}
     for crate in crates:
         trial = Trial(crate, *edits[crate.name], f"{room}/kept/{crate.name}", say)
-        trial.library = built(root, crate) if has_libraries else None
         lines, needs = crate.count(rb"\n"), RT.need(crate)
         waits = [] if has_libraries else [(it.name, "library") for it in crate.below()]
         if crate.name in used and not has_libraries:

@@ -100,11 +100,15 @@ def make(root):
         (crate / "refused" / f"{name}.edit").write_text(text, encoding="utf-8")
 
 
-def tried(root, words):
-    """Runs the tool over the repository, and returns its faults and what it said."""
-    ran = subprocess.run([sys.executable, str(TOOL), "--root", str(root), *words], stdin=subprocess.DEVNULL, stdout=subprocess.PIPE, stderr=subprocess.STDOUT)
-    said = ran.stdout.decode(errors="replace")
-    faults = []
+def main():
+    with tempfile.TemporaryDirectory(prefix="refused-test-") as folder:
+        root = pathlib.Path(folder)
+        make(root)
+        words = [sys.executable, str(TOOL), "--root", folder]
+        ran = subprocess.run(words, stdin=subprocess.DEVNULL, stdout=subprocess.PIPE, stderr=subprocess.STDOUT)
+        said = ran.stdout.decode(errors="replace")
+        is_kept = not (root / "crates" / "lib_of_halves" / "out").exists()
+    faults = [] if is_kept else ["it wrote into the repository"]
     for name, _, word in EDITS:
         line = next((it for it in said.split("\n") if f"/{name}.edit: " in it), "no line")
         is_refused = ": refused, as it must be: " in line
@@ -114,26 +118,10 @@ def tried(root, words):
     last = f"{refused} passed, {len(EDITS) - refused} failed"
     if said.rstrip("\n").split("\n")[-1] != last or ran.returncode != 1:
         faults.append(f"its last line is not {last}, or its status, {ran.returncode}, is not 1")
-    return faults, said
-
-
-def main():
-    with tempfile.TemporaryDirectory(prefix="refused-test-") as folder:
-        root = pathlib.Path(folder)
-        make(root)
-        crate = root / "crates" / "lib_of_halves"
-        faults, said = tried(root, [])
-        if (crate / "out").exists():
-            faults.append("it wrote into the repository")
-        # the same over what was proved of the library, of which nothing is then proved anew
-        subprocess.run(["rt", "lib"], cwd=crate, stdin=subprocess.DEVNULL, stdout=subprocess.DEVNULL, stderr=subprocess.DEVNULL, check=True)
-        others, told = tried(root, ["--built"])
-        if ", 0 modules anew" not in told or ", 0 modules anew" in said:
-            others.append("over its library it proves what its edits change anew, or from nothing it doesn't")
-    for it in [*faults, *others]:
+    for it in faults:
         print(f"the test of tools/refused: {it}")
-    print(said + told if faults or others else f"the test of tools/refused: each of {len(EDITS)} edits was told for what it is, from nothing and over the library")
-    return 1 if faults or others else 0
+    print(said if faults else f"the test of tools/refused: each of {len(EDITS)} edits was told for what it is")
+    return 1 if faults else 0
 
 
 if __name__ == "__main__":

@@ -11,11 +11,8 @@ import time
 from edits import in_batches
 from functions import modules_of, named, names_of
 from kit import RATTLE, RT
-from libraries import unpack_modules
 
 LINE = re.compile(r"^fn (\S+): (.*)$", re.M)
-# how many modules of the crate the check did not find in the folder of kept work
-ANEW = re.compile(r"^crate \S+: modules loaded=\d+ checked=(\d+)$", re.M)
 # the last line of a check of some functions: how many were asked for, and how many of them are proved
 ASKED = re.compile(r"^only=(\d+) proved=(\d+)$", re.M)
 # what the prover says of a function whose own goals it could not show
@@ -55,8 +52,6 @@ class Trial:
     def __init__(self, crate, edits, types, kept, say):
         self.crate, self.edits, self.types, self.kept, self.say = crate, edits, types, kept, say
         self.refused, self.failed, self.is_begun = {}, {}, False
-        # the crate's own library, if it was just built
-        self.library = None
         self.asks = self.asked(names_of)
 
     def asked(self, by):
@@ -143,22 +138,10 @@ class Trial:
             return False, f"{edit.function}: only a proof file that names what the edit took away fails: change a value and keep the names"
         return False, f"no goal of {edit.function} failed: {line[:200]}"
 
-    def take_library(self):
-        """Begins the folder of kept work with what was proved of the crate's own library. The prover makes the folder within, and
-        takes of it what it would prove the same."""
-        os.makedirs(self.kept)
-        run(["check", *self.words(1), "--only="], self.crate.folder)
-        for within in os.listdir(self.kept):
-            unpack_modules(self.library, f"{self.kept}/{within}")
-
     def begin(self, jobs):
         """Proves what the edits change, as it stands."""
-        if self.library and not os.path.isdir(self.kept):
-            self.take_library()
         self.is_begun, said, used, seconds = self.prove(jobs)
-        anew = ANEW.search(said)
-        told = f", {anew[1]} modules anew" if anew else ""
-        self.say(f"{self.crate.name}: {'proved' if self.is_begun else 'NOT PROVED'}, what its edits change{told} ({used:.0f} CPU s, {seconds:.0f} s)")
+        self.say(f"{self.crate.name}: {'proved' if self.is_begun else 'NOT PROVED'}, what its edits change ({used:.0f} CPU s, {seconds:.0f} s)")
         if not self.is_begun:
             self.say(said[-3000:])
 
