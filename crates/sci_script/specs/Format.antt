@@ -100,10 +100,9 @@ change_at n word value = do
 -- `residents N`
 unfoldable pub load_at : ℕ → Size → List (List ℕ) → Result Command ScriptRefusal
 load_at n size (node ∷ line ∷ word ∷ []) = do
-  node ← node_at n size node
-  line ← line_at n size line
+  place ← place_at n size node line
   word ← number_at n 0 7 word
-  Ok (Begin node line (Load word))
+  Ok (Begin place.0 place.1 (Load word))
 load_at n size _ = Err (BadCommand n)
 
 unfoldable pub store_at : ℕ → Size → List (List ℕ) → Result Command ScriptRefusal
@@ -122,9 +121,8 @@ add_at n size _ = Err (BadCommand n)
 
 unfoldable pub evict_at : ℕ → Size → List (List ℕ) → Result Command ScriptRefusal
 evict_at n size (node ∷ line ∷ []) = do
-  node ← node_at n size node
-  line ← line_at n size line
-  Ok (Begin node line Evict)
+  place ← place_at n size node line
+  Ok (Begin place.0 place.1 Evict)
 evict_at n size _ = Err (BadCommand n)
 
 unfoldable pub turn_at : ℕ → Size → List (List ℕ) → Result Command ScriptRefusal

@@ -150,8 +150,7 @@ fn load(number: u64, size: Size, args: &[&[u8]]) -> Result<Command, ScriptRefusa
 {
     match args {
         [n, l, w] => {
-            let node = node(number, size, n)?;
-            let line = line(number, size, l)?;
+            let (node, line) = place(number, size, n, l)?;
             let word = number_within(number, 0, 7, w)? as u8;
             let request = Request::Load { word };
             Ok(Command::Begin {
@@ -217,8 +216,7 @@ fn evict(number: u64, size: Size, args: &[&[u8]]) -> Result<Command, ScriptRefus
 {
     match args {
         [n, l] => {
-            let node = node(number, size, n)?;
-            let line = line(number, size, l)?;
+            let (node, line) = place(number, size, n, l)?;
             let request = Request::Evict;
             Ok(Command::Begin {
                 node,

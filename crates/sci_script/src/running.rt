@@ -1,6 +1,6 @@
 //! Runs a script.
 ghost use Rattle.std.specs.Prelude.{◌≡◌, ◌<◌, ◌≤◌, ℕ, [], true, Some, string_bytes, IfOk, IfErr, OnOk, All, MatchBool, MatchOption};
-ghost use Rattle.sci_script.specs.declared.commands.Command.TheVariants.{Done, List as ListLine};
+ghost use Rattle.sci_script.specs.declared.commands.Command.TheVariants.{Begin as BeginCall, Turn as TurnOnce, Done, List as ListLine};
 ghost use Rattle.sci_script.specs.Size.{IsIn};
 ghost use Rattle.sci_script.specs.Event.{Turned, IsEnd, IsNoEnd};
 ghost use Rattle.sci_script.specs.Request.{words_after};
@@ -90,6 +90,50 @@ fn list<D: Desk>(
     }
 }
 
+// A call begins where the node has none open. It prints nothing.
+fn begin<D: Desk>(
+    desk: &mut D,
+    nodes: u16,
+    number: u64,
+    node: NodeId,
+    line: LineNo,
+    request: Request,
+) -> Result<(), ScriptRefusal>
+    requires command { IsIn (D.size desk.old) (BeginCall node line request) }
+    ensures ok { OnOk result (Prints D.is_open D.does [] desk.old (BeginCall node line request) [] desk.new) }
+    ensures err { IfErr result (λ e. StopsAt D.is_open D.does nodes desk.old (record { number = number; command = BeginCall node line request }) e desk.new) }
+    ensures size { D.size desk.new ≡ D.size desk.old }
+{
+    if desk.open(node) {
+        return Err(ScriptRefusal::BadCommand(number));
+    }
+    Ok(desk.begin(node, request.on(line))?)
+}
+
+/// `turn`: the text of one turn of the node's open call, behind an empty text.
+fn turn<D: Desk>(
+    text: &mut String,
+    desk: &mut D,
+    nodes: u16,
+    words: &[u8; 64],
+    number: u64,
+    node: NodeId,
+) -> Result<(), ScriptRefusal>
+    requires empty { string_bytes text.old ≡ [] }
+    requires node { node < (D.size desk.old).nodes }
+    requires few { (D.size desk.old).nodes ≤ 64 }
+    requires words { All (λ w. w < 8) words.now }
+    ensures ok { OnOk result (Prints D.is_open D.does words.now desk.old (TurnOnce node) (string_bytes text.new) desk.new) }
+    ensures err { IfErr result (λ e. StopsAt D.is_open D.does nodes desk.old (record { number = number; command = TurnOnce node }) e desk.new) }
+    ensures size { D.size desk.new ≡ D.size desk.old }
+{
+    if !desk.open(node) {
+        return Err(ScriptRefusal::BadCommand(number));
+    }
+    let came = desk.turn(node);
+    Ok(turn_text(text, node, words[usize::from(node.get())], &came)?)
+}
+
 /// One command: what it prints, behind an empty text. The words are those that the nodes' last loads are to show.
 pub fn perform<D: Desk>(
     alloc: Global,
@@ -113,19 +157,8 @@ pub fn perform<D: Desk>(
             node,
             line,
             request,
-        } => {
-            if desk.open(node) {
-                return Err(ScriptRefusal::BadCommand(number));
-            }
-            Ok(desk.begin(node, request.on(line))?)
-        }
-        Command::Turn { node } => {
-            if !desk.open(node) {
-                return Err(ScriptRefusal::BadCommand(number));
-            }
-            let turn = desk.turn(node);
-            Ok(turn_text(text, node, words[usize::from(node.get())], &turn)?)
-        }
+        } => begin(desk, nodes, number, node, line, request),
+        Command::Turn { node } => turn(text, desk, nodes, words, number, node),
         Command::Done { node } => {
             if !desk.open(node) {
                 return Err(ScriptRefusal::BadCommand(number));
