@@ -2,6 +2,7 @@
 ghost use Rattle.std.specs.Prelude.{◌≡◌, ◌<◌, All};
 ghost use Rattle.sci_core.specs.Whole.{nodes_of};
 
+mod answers;
 mod growths;
 mod memory;
 mod texts;
