@@ -94,12 +94,9 @@ impl<K: Keeps> Bank for SoloBank<K> {
     }
 
     fn pending(&self, line: LineNo) -> Pending {
-        let wholes = &self.wholes;
-        let whole = &wholes[usize::from(line)];
-        // The node's own tag is well formed, and the line lawful.
-        let _ = whole.tag(self.node);
-        let _ = whole.nodes();
-        whole.pending(self.node)
+        // It is sound, as `stage` says.
+        let _ = self.stage(line);
+        self.wholes[usize::from(line)].pending(self.node)
     }
 
     fn stage(&self, line: LineNo) -> Stage {

@@ -235,16 +235,21 @@ capacity_of (entry ∷ entries) = do
     | Some capacity ↦ Ok (capacity, entries)
   ]
 
+-- the script of this size that the entries behind its size give
+unfoldable pub sized_script : Size → List (ℕ × List ℕ) → Result (Size × ℕ × List Opening × List Step) ScriptRefusal
+sized_script size entries = do
+  bound ← capacity_of entries
+  front ← openings_of size bound.1
+  steps ← steps_of size front.1
+  Ok (size, bound.0, front.0, steps)
+
 -- the entries of a script, where end is one past the last line
 unfoldable pub meaning_of : ℕ → List (ℕ × List ℕ) → Result (Size × ℕ × List Opening × List Step) ScriptRefusal
 meaning_of end [] = Err (BadCommand end)
 meaning_of end (first ∷ entries) = do
   words ← words_at first.0 first.1
   size ← size_at first.0 words
-  bound ← capacity_of entries
-  front ← openings_of size bound.1
-  steps ← steps_of size front.1
-  Ok (size, bound.0, front.0, steps)
+  sized_script size entries
 
 -- a whole script
 unfoldable pub script_of : List ℕ → Result (Size × ℕ × List Opening × List Step) ScriptRefusal

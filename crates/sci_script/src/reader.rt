@@ -4,7 +4,7 @@ ghost use Rattle.std.specs.Prelude.{◌≡◌, ◌<◌, ◌≤◌, ◌+◌, ◌^
 ghost use Rattle.std.specs.List.{position};
 ghost use Rattle.std.specs.Str.Lines.{lines, strip_carriage_return};
 ghost use Rattle.sci_script.specs.Size.{IsSize, IsCapacity, AreIn};
-ghost use Rattle.sci_script.specs.Format.{Gives, entries_from, capacity_of, openings_of, steps_of, meaning_of, script_of, view};
+ghost use Rattle.sci_script.specs.Format.{Gives, entries_from, capacity_of, openings_of, steps_of, sized_script, meaning_of, script_of, view};
 
 use crate::commands::{Opening, Script, Size, Step};
 use crate::line_commands::{bound, command, opening, size};
@@ -174,6 +174,32 @@ fn steps(alloc: Global, size: Size, number: u64, text: &[u8]) -> Result<Vec<Step
     Ok(steps)
 }
 
+/// The script of this size, whose lines behind the size are from line `number` on, in the list of words that was used before.
+#[tactic(auto, unfolding(crate::specs::Format::sized_script))]
+fn sized_script<'a>(
+    alloc: Global,
+    words: &mut Vec<&'a [u8]>,
+    size: Size,
+    number: u64,
+    text: &'a [u8],
+) -> Result<Script, ScriptRefusal>
+    requires size { IsSize size }
+    requires few { number + length text.now < 2 ^ 64 }
+    ensures { Gives view result (sized_script size (entries_from number (lines text.now))) }
+{
+    let bound = capacity(words, number, text)?;
+    let front = openings(alloc, size, bound.number, bound.rest)?;
+    let steps = steps(alloc, size, front.number, front.rest)?;
+    let capacity = bound.capacity;
+    let openings = front.openings;
+    Ok(Script {
+        size,
+        capacity,
+        openings,
+        steps,
+    })
+}
+
 /// Reads a script: `Ok` exactly where the text is one, and else the lowest faulty line.
 #[tactic(auto, unfolding(crate::specs::Format::script_of, crate::specs::Format::meaning_of))]
 pub fn read_script(alloc: Global, text: &[u8]) -> Result<Script, ScriptRefusal>
@@ -186,15 +212,5 @@ pub fn read_script(alloc: Global, text: &[u8]) -> Result<Script, ScriptRefusal>
     let mut words = Vec::new(alloc);
     split_line(&mut words, first.number, first.line)?;
     let size = size(first.number, &words)?;
-    let bound = capacity(&mut words, first.number + 1, first.rest)?;
-    let front = openings(alloc, size, bound.number, bound.rest)?;
-    let steps = steps(alloc, size, front.number, front.rest)?;
-    let capacity = bound.capacity;
-    let openings = front.openings;
-    Ok(Script {
-        size,
-        capacity,
-        openings,
-        steps,
-    })
+    sized_script(alloc, &mut words, size, first.number + 1, first.rest)
 }

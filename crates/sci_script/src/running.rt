@@ -57,11 +57,13 @@ fn done<D: Desk>(
     requires node { node < (D.size desk.old).nodes }
     requires few { (D.size desk.old).nodes ≤ 64 }
     requires words { All (λ w. w < 8) words.now }
-    requires open { D.is_open desk.old node ≡ true }
     ensures ok { OnOk result (Prints D.is_open D.does words.now desk.old (Done node) (string_bytes text.new) desk.new) }
     ensures err { IfErr result (λ e. StopsAt D.is_open D.does nodes desk.old (record { number = number; command = Done node }) e desk.new) }
     ensures size { D.size desk.new ≡ D.size desk.old }
 {
+    if !desk.open(node) {
+        return Err(ScriptRefusal::BadCommand(number));
+    }
     match turns_to_end(desk, node) {
         Some(turn) => Ok(turn_text(text, node, words[usize::from(node.get())], &turn)?),
         None => Err(ScriptRefusal::NotDone(number)),
@@ -159,12 +161,7 @@ pub fn perform<D: Desk>(
             request,
         } => begin(desk, nodes, number, node, line, request),
         Command::Turn { node } => turn(text, desk, nodes, words, number, node),
-        Command::Done { node } => {
-            if !desk.open(node) {
-                return Err(ScriptRefusal::BadCommand(number));
-            }
-            done(text, desk, nodes, words, number, node)
-        }
+        Command::Done { node } => done(text, desk, nodes, words, number, node),
         Command::List { line } => {
             *text = list(alloc, desk, nodes, number, line)?;
             Ok(())

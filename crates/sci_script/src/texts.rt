@@ -87,6 +87,22 @@ fn push_entries(text: &mut String, entries: &[(NodeId, Tag)]) -> Result<(), Allo
     Ok(())
 }
 
+/// Adds the head and the entries behind it, ` F: N NAME, N NAME ..`, or nothing where there is no head.
+fn push_chain(
+    text: &mut String,
+    head: Option<NodeId>,
+    entries: &[(NodeId, Tag)],
+) -> Result<(), AllocError>
+    ensures { OnOk result (string_bytes text.new ≡ string_bytes text.old ++ chain_text head entries.now) }
+{
+    if let Some(head) = head {
+        let head = head.get();
+        write!(text, " {head}:")?;
+        push_entries(text, entries)?;
+    }
+    Ok(())
+}
+
 /// What `list` prints, `line L HOME` or `line L STATE F: N NAME, N NAME ..`, and a line feed. The entries are those along the
 /// line's sharing list, from the head on, each with its tag.
 pub fn list_text(
@@ -100,11 +116,7 @@ pub fn list_text(
     let head = mem.forw;
     let mut text = format!(in alloc; "line {line} ")?;
     text.push_str(mem_name(mem))?;
-    if let Some(head) = head {
-        let head = head.get();
-        write!(text, " {head}:")?;
-        push_entries(&mut text, entries)?;
-    }
+    push_chain(&mut text, head, entries)?;
     text.push_str("\n")?;
     Ok(text)
 }

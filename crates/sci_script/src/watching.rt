@@ -14,7 +14,7 @@ use sci_port::{Bank, SoloBank};
 use sci_words::{LineNo, Mem, NodeId, Tag};
 
 /// A load, with its answer.
-#[derive(Clone, Copy, Debug, PartialEq, Eq)]
+#[derive(Clone, Copy, Debug)]
 pub enum Load {
     /// A look at the own tag.
     Own(Option<Tag>),
@@ -25,7 +25,7 @@ pub enum Load {
 }
 
 /// How an exchange ended.
-#[derive(Clone, Copy, Debug, PartialEq, Eq)]
+#[derive(Clone, Copy, Debug)]
 pub enum Ending {
     /// The row was made.
     Done,
@@ -36,7 +36,7 @@ pub enum Ending {
 }
 
 /// What passed in a turn. It keeps no line of bytes but what a write stores: each call of a turn writes into it.
-#[derive(Clone, Copy, Debug, PartialEq, Eq)]
+#[derive(Clone, Copy, Debug)]
 pub struct Passed {
     /// The line of the last call.
     pub line: LineNo,
