@@ -16,7 +16,7 @@ pub struct Size {
 }
 
 /// What a call is to do on its line.
-#[derive(Clone, Copy, Debug, PartialEq, Eq)]
+#[derive(Clone, Copy, Debug)]
 pub enum Request {
     /// To see the word with this number, 0 to 7.
     Load { word: u8 },
@@ -45,7 +45,7 @@ impl Request {
 }
 
 /// What one line of a script asks for.
-#[derive(Clone, Copy, Debug, PartialEq, Eq)]
+#[derive(Clone, Copy, Debug)]
 pub enum Command {
     /// Begins a call of the node on the line.
     Begin {
@@ -77,7 +77,7 @@ pub enum Command {
 }
 
 /// A command, and the number of the line of text that it stands on, counted from 1.
-#[derive(Clone, Copy, Debug, PartialEq, Eq)]
+#[derive(Clone, Copy, Debug)]
 pub struct Step {
     pub number: u64,
     pub command: Command,

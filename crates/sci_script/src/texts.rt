@@ -133,6 +133,15 @@ fn push_link(text: &mut String, link: Option<NodeId>) -> Result<(), AllocError>
     }
 }
 
+fn push_held(text: &mut String, held: bool) -> Result<(), AllocError>
+    ensures { OnOk result (string_bytes text.new ≡ string_bytes text.old ++ held_text held) }
+{
+    if held {
+        text.push_str(" held")?;
+    }
+    Ok(())
+}
+
 /// What `tag` prints, `tag L N NAME forw F back B`, ` held` where the tag is held, and a line feed. A link is `-` for none.
 pub fn tag_text(alloc: Global, line: LineNo, node: NodeId, tag: Tag) -> Result<String, AllocError>
     ensures { IfOk result (λ text. string_bytes text ≡ tag_line line node tag) }
@@ -149,9 +158,7 @@ pub fn tag_text(alloc: Global, line: LineNo, node: NodeId, tag: Tag) -> Result<S
     push_link(&mut text, forw)?;
     text.push_str(" back ")?;
     push_link(&mut text, back)?;
-    if held {
-        text.push_str(" held")?;
-    }
+    push_held(&mut text, held)?;
     text.push_str("\n")?;
     Ok(text)
 }
