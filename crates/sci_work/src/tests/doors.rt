@@ -1,12 +1,14 @@
 //! What a gate hears of a worker's calls, and what the worker does without its leave: no call at all.
 ghost use Rattle.std.specs.Prelude.{◌<◌, ◌≤◌};
+ghost use Rattle.sci_work.specs.Made.{IsBankOf};
 ghost use Rattle.sci_work.specs.Ring.{FitsRing};
 
 use crate::tests::rings::opened;
 use crate::tests::same;
 use crate::{Gate, RingFact, WorkRefusal, consume, produce};
-use sci_cache::Node;
+use sci_cache::{Node, NodeRefusal};
 use sci_ops::Answer;
+use sci_port::Bank;
 use sci_words::NodeId;
 use std::alloc::Global;
 use std::sync::Wait;
@@ -94,6 +96,35 @@ fn shown(items: &[u64], item: Option<usize>) -> [u64; 8]
     }
 }
 
+// Word 0 of the line that was seen.
+fn word_of(answer: Result<Answer, NodeRefusal>) -> Option<u64> {
+    match answer {
+        Ok(Answer::Seen { words, .. }) => Some(words[0]),
+        _ => None,
+    }
+}
+
+// What the worker has left that ended so.
+fn left_behind<R: Wait, B: Bank>(
+    rt: &R,
+    alloc: Global,
+    node: &mut Node,
+    bank: &mut B,
+    refusal: Option<WorkRefusal>,
+) -> Option<Left>
+    requires { IsBankOf (B.way bank.old) node.old }
+{
+    let names = node.resident(alloc).ok()?.len();
+    let first = word_of(node.load(rt, bank, 0))?;
+    let count = word_of(node.load(rt, bank, 1))?;
+    Some(Left {
+        refusal,
+        names,
+        first,
+        count,
+    })
+}
+
 // Node 3's worker on a ring of one line, which shows this item or none: it produces the items, or it consumes them.
 #[tactic(auto, using(crate::proofs::Items::is_ring, crate::proofs::Items::is_ring_of))]
 fn worked<R: Wait, G: Gate>(
@@ -110,25 +141,13 @@ fn worked<R: Wait, G: Gate>(
     let first = shown(items, item);
     let mut bank = opened(alloc, RingFact::new(items, 1), me, 2, first, stamp)?;
     let mut node = Node::new(alloc, me, 2, 2).ok()?;
-    let refusal = if produces {
-        produce(rt, &mut node, &mut bank, items, 1, gate, stop).err()
-    } else {
-        let n = items.len();
-        consume(rt, alloc, &mut node, &mut bank, n, 1, gate, stop).err()
-    };
-    let names = node.resident(alloc).ok()?.len();
-    let Ok(Answer::Seen { words: line, .. }) = node.load(rt, &mut bank, 0) else {
-        return None;
-    };
-    let Ok(Answer::Seen { words: behind, .. }) = node.load(rt, &mut bank, 1) else {
-        return None;
-    };
-    Some(Left {
-        refusal,
-        names,
-        first: line[0],
-        count: behind[0],
-    })
+    if produces {
+        let ended = produce(rt, &mut node, &mut bank, items, 1, gate, stop);
+        return left_behind(rt, alloc, &mut node, &mut bank, ended.err());
+    }
+    let n = items.len();
+    let ended = consume(rt, alloc, &mut node, &mut bank, n, 1, gate, stop);
+    left_behind(rt, alloc, &mut node, &mut bank, ended.err())
 }
 
 #[test]
