@@ -1,5 +1,5 @@
 //! A line on separate words: how it is opened and closed, banks of lines, runs that are replayed, and threads on it.
-ghost use Rattle.std.specs.Prelude.{◌≡◌, ◌<◌, IfSome, IsTrue};
+ghost use Rattle.std.specs.Prelude.{◌≡◌, ◌<◌, All, IfSome, IsTrue};
 ghost use Rattle.sci_core.specs.declared.pending.Pending.TheVariants.{Idle};
 ghost use Rattle.sci_fine.specs.Seats.{IsSeatOf};
 
@@ -13,7 +13,7 @@ mod threads;
 use super::*;
 use crossbeam_utils::Backoff;
 use sci_core::{AnyWords, Closed, Line, Pending};
-use sci_ops::{Op, Turn};
+use sci_ops::{Answer, Op, Turn};
 use sci_words::{Kind, Mem, MemState, Tag};
 use std::alloc::Global;
 use std::fmt::Debug;
@@ -54,77 +54,82 @@ fn is_idle(seat: &Seat<AnyWords>) -> bool
     matches!(seat.pending(), Pending::Idle)
 }
 
-// A line of two nodes, with its seats.
-fn opened(alloc: Global, line: Line) -> Option<(FineLine<AnyWords>, Seat<AnyWords>, Seat<AnyWords>)>
-    ensures { IfSome result (λ r. IsSeatOf r.0 r.1 × IsSeatOf r.0 r.2) }
+// A line of so many nodes with this opening, and its seats.
+fn opened(
+    alloc: Global,
+    nodes: u16,
+    opening: Line,
+) -> Option<(FineLine<AnyWords>, Vec<Seat<AnyWords>>)>
+    ensures { IfSome result (λ r. All (λ s. IsSeatOf r.0 s) r.1.items) }
 {
-    let Ok((line, mut seats)) = FineLine::new(alloc, 2, 0, line, AnyWords) else {
+    let Ok((line, seats)) = FineLine::new(alloc, nodes, 0, opening, AnyWords) else {
         return None;
     };
-    let one = seats.pop()?;
-    let zero = seats.pop()?;
-    Some((line, zero, one))
+    Some((line, seats))
+}
+
+fn are_idle(seats: &[Seat<AnyWords>]) -> bool
+    ensures { IsTrue result → All (λ s. s.standing.pending ≡ Idle) seats.now }
+{
+    for seat in seats {
+        if !is_idle(seat) {
+            return false;
+        }
+    }
+    true
 }
 
 // The line closed with these seats; or the refusal, with how many seats came back. 0: they are not Idle.
 fn closed(
     alloc: Global,
     line: FineLine<AnyWords>,
-    first: Seat<AnyWords>,
-    second: Seat<AnyWords>,
+    seats: Vec<Seat<AnyWords>>,
 ) -> Result<Closed, (u8, usize)>
-    requires { IsSeatOf line first × IsSeatOf line second }
+    requires { All (λ s. IsSeatOf line s) seats.items }
 {
-    if !is_idle(&first) || !is_idle(&second) {
+    if !are_idle(&seats) {
         return Err((0, 0));
     }
-    let Ok(seats) = vec![in alloc; first, second] else {
-        return Err((7, 0));
-    };
     match line.finish(alloc, seats) {
         Ok(closed) => Ok(closed),
         Err(refused) => Err((refused.refusal, refused.seats.len())),
     }
 }
 
-// How many seats a line of so many nodes opens with, or the refusal.
-fn seats_of(alloc: Global, nodes: u16) -> Result<usize, u8> {
-    match FineLine::new(alloc, nodes, 7, OPENING, AnyWords) {
-        Ok((_, seats)) => Ok(seats.len()),
-        Err(refusal) => Err(refusal.number()),
+// How many seats a line of so many nodes opens with, and how many tags that nobody used it closes with; or the refusal.
+fn counts_of(alloc: Global, nodes: u16) -> Result<(usize, usize), u8> {
+    let (line, seats) = match FineLine::new(alloc, nodes, 7, OPENING, AnyWords) {
+        Ok(opened) => opened,
+        Err(refusal) => return Err(refusal.number()),
+    };
+    let count = seats.len();
+    match line.finish(alloc, seats) {
+        Ok(closed) => Ok((count, closed.tags.len())),
+        Err(refused) => Err(refused.refusal),
     }
-}
-
-// How many tags a line of so many nodes closes with that nobody used.
-fn tags_of(alloc: Global, nodes: u16) -> Option<usize> {
-    let Ok((line, seats)) = FineLine::new(alloc, nodes, 7, OPENING, AnyWords) else {
-        return None;
-    };
-    let Ok(closed) = line.finish(alloc, seats) else {
-        return None;
-    };
-    Some(closed.tags.len())
 }
 
 #[test]
 fn opens_and_finishes_with_1_to_64_nodes(rt: HostRuntime) {
     for nodes in 1..65 {
         let count = usize::from(nodes);
-        assert_eq!(rt; seats_of(rt.alloc(), nodes), Ok(count), "with {nodes}");
-        assert_eq!(rt; tags_of(rt.alloc(), nodes), Some(count), "with {nodes}");
+        let counts = counts_of(rt.alloc(), nodes);
+        same(&rt, &(nodes, counts), &(nodes, Ok((count, count))));
     }
     for nodes in [0, 65, u16::MAX] {
-        assert_eq!(rt; seats_of(rt.alloc(), nodes), Err(6), "with {nodes}");
+        let counts = counts_of(rt.alloc(), nodes);
+        same(&rt, &(nodes, counts), &(nodes, Err(6)));
     }
 }
 
 #[test]
 fn finishes_with_seats_in_order(rt: HostRuntime) -> Result<(), Fail> {
-    let (line, zero, one) = opened(rt.alloc(), OPENING).ok_or("no line")?;
-    let refused = closed(rt.alloc(), line, one, zero);
+    let (line, mut seats) = opened(rt.alloc(), 2, OPENING).ok_or("no line")?;
+    seats.reverse();
+    let refused = closed(rt.alloc(), line, seats);
     assert!(rt; matches!(refused, Err((9, 2))));
-    let (line, zero, one) = opened(rt.alloc(), OPENING).ok_or("no line")?;
-    let Ok(closed) = closed(rt.alloc(), line, zero, one) else {
+    let (line, seats) = opened(rt.alloc(), 2, OPENING).ok_or("no line")?;
+    let Ok(closed) = closed(rt.alloc(), line, seats) else {
         panic!(rt; "it was refused")
     };
     same(&rt, &closed.mem, &HOME);
@@ -144,62 +149,51 @@ fn turn(port: &mut FinePort<'_, AnyWords>, op: &mut Op) -> Turn
 }
 
 // Turns to the operation's end.
-fn finish<R: Wait>(rt: &R, port: &mut FinePort<'_, AnyWords>, mut op: Op)
+fn finish<R: Wait>(rt: &R, port: &mut FinePort<'_, AnyWords>, mut op: Op) -> Answer
     ensures same_line { port.new.line ≡ port.old.line }
     ensures same_reference { port.new.seat.ghost_name ≡ port.old.seat.ghost_name }
 {
     let backoff = Backoff::new();
     for _ in rt.forever() {
         match turn(port, &mut op) {
-            Turn::Done(_) => break,
+            Turn::Done(answer) => return answer,
             Turn::Moved => backoff.reset(),
             Turn::Waiting => backoff.snooze(),
         }
     }
+    unreachable!()
 }
 
 // Adds 1 to word 0, many times.
-fn add_all<R: Wait>(rt: &R, line: &FineLine<AnyWords>, mut seat: Seat<AnyWords>) -> Seat<AnyWords>
-    requires { IsSeatOf line.now seat }
-    ensures { IsSeatOf line.now result }
+fn add_all<R: Wait>(rt: &R, line: &FineLine<AnyWords>, seat: &mut Seat<AnyWords>)
+    requires { IsSeatOf line.now seat.old }
+    ensures { IsSeatOf line.now seat.new }
 {
-    let mut port = line.port(&mut seat);
+    let mut port = line.port(seat);
     for _ in 0..ADDS {
         if let Ok(add) = Op::add(0, 1) {
-            finish(rt, &mut port, add);
+            let _ = finish(rt, &mut port, add);
         }
     }
-    seat
 }
 
 // Two threads, each with its own seat.
-fn both<R: Threads + Wait + Sync>(
+fn both_add<R: Threads + Wait + Sync>(
     rt: &R,
     line: &FineLine<AnyWords>,
-    zero: Seat<AnyWords>,
-    one: Seat<AnyWords>,
-) -> (Seat<AnyWords>, Seat<AnyWords>)
-    requires { IsSeatOf line.now zero × IsSeatOf line.now one }
-    ensures { IsSeatOf line.now result.0 × IsSeatOf line.now result.1 }
+    seats: &mut [Seat<AnyWords>],
+)
+    requires { All (λ s. IsSeatOf line.now s) seats.old }
+    ensures { All (λ s. IsSeatOf line.now s) seats.new }
 {
-    thread::join(
-        rt,
-        move || -> Seat<AnyWords>
-            requires { IsSeatOf line.now zero }
-            ensures { IsSeatOf line.entry.now result }
-        { add_all(rt, line, zero) },
-        move || -> Seat<AnyWords>
-            requires { IsSeatOf line.now one }
-            ensures { IsSeatOf line.entry.now result }
-        { add_all(rt, line, one) },
-    )
+    thread::for_each_mut(rt, seats, 2, &|_, seat| add_all(rt, line, seat));
 }
 
 #[test]
 fn two_threads_add(rt: HostRuntime) -> Result<(), Fail> {
-    let (line, zero, one) = opened(rt.alloc(), Line::ZERO).ok_or("no line")?;
-    let (zero, one) = both(&rt, &line, zero, one);
-    let Ok(closed) = closed(rt.alloc(), line, zero, one) else {
+    let (line, mut seats) = opened(rt.alloc(), 2, Line::ZERO).ok_or("no line")?;
+    both_add(&rt, &line, seats.as_mut_slice());
+    let Ok(closed) = closed(rt.alloc(), line, seats) else {
         panic!(rt; "it was refused")
     };
     let head = closed.mem.forw.ok_or("no list")?;
