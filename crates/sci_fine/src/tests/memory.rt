@@ -4,8 +4,7 @@ ghost use Rattle.std.specs.Prelude.{◌≡◌, All};
 ghost use Rattle.sci_fine.specs.Seats.{IsSeatOf};
 
 use super::banks::pair_of;
-use super::replays::opened;
-use super::{same, turn};
+use super::{opened, same, turn};
 use crate::{FineBank, FineLine, FinePort, Seat};
 use sci_core::{AnyWords, Event, Line, Outcome};
 use sci_ops::{Op, Turn};

@@ -1,12 +1,11 @@
 //! The events that passed through a recorder to a line that is lent, made again on a line on separate words.
-ghost use Rattle.std.specs.Prelude.{◌≡◌, All, IfSome, IsTrue};
-ghost use Rattle.sci_core.specs.declared.pending.Pending.TheVariants.{Idle};
+ghost use Rattle.std.specs.Prelude.{◌≡◌, All};
 ghost use Rattle.sci_fine.specs.Seats.{IsSeatOf};
 
 mod crowds;
 mod rows;
 
-use super::is_idle;
+use super::{closed, opened, same};
 use crate::{FineLine, FinePort, Seat};
 use sci_core::{AnyWords, Closed, Event, Line, Outcome, Whole};
 use sci_port::Port;
@@ -136,43 +135,9 @@ fn replay_all(
 {
     for (place, (node, event)) in events.iter().enumerate() {
         let alike = replay(line, seats, whole, *node, event);
-        assert!(rt; alike, "event {place}, {event:?} of {node:?}");
+        let told = (place, node, event);
+        same(rt, &(told, alike), &(told, true));
     }
-}
-
-// A line of so many nodes with this opening, and its seats.
-pub fn opened(
-    alloc: Global,
-    nodes: u16,
-    opening: Line,
-) -> Option<(FineLine<AnyWords>, Vec<Seat<AnyWords>>)>
-    ensures { IfSome result (λ r. All (λ s. IsSeatOf r.0 s) r.1.items) }
-{
-    let Ok((line, seats)) = FineLine::new(alloc, nodes, 0, opening, AnyWords) else {
-        return None;
-    };
-    Some((line, seats))
-}
-
-fn are_idle(seats: &[Seat<AnyWords>]) -> bool
-    ensures { IsTrue result → All (λ s. s.standing.pending ≡ Idle) seats.now }
-{
-    for seat in seats {
-        if !is_idle(seat) {
-            return false;
-        }
-    }
-    true
-}
-
-// The line, closed. None: a seat is not Idle, or memory ran out.
-pub fn closed(alloc: Global, line: FineLine<AnyWords>, seats: Vec<Seat<AnyWords>>) -> Option<Closed>
-    requires { All (λ s. IsSeatOf line s) seats.items }
-{
-    if !are_idle(&seats) {
-        return None;
-    }
-    line.finish(alloc, seats).ok()
 }
 
 // The words and bytes of a closed line, and those of one that is lent.
@@ -192,6 +157,19 @@ fn is_left_as(closed: &Closed, whole: &Whole<AnyWords>) -> bool {
     closed.mem == whole.mem() && closed.memory == whole.memory_line()
 }
 
+// Makes the events on both lines, and closes the one on separate words.
+fn left_by(
+    rt: &impl Abort,
+    alloc: Global,
+    opening: Line,
+    whole: &mut Whole<AnyWords>,
+    events: &[(NodeId, Event)],
+) -> Option<Closed> {
+    let (line, mut seats) = opened(alloc, whole.nodes(), opening)?;
+    replay_all(rt, &line, seats.as_mut_slice(), whole, events);
+    closed(alloc, line, seats).ok()
+}
+
 // Makes the events on a line that is lent and on one on separate words, to the end, where no node is in a step.
 fn replay_run(
     rt: &impl Abort,
@@ -202,9 +180,7 @@ fn replay_run(
 ) -> Result<(), Fail> {
     assert!(rt; !events.is_empty());
     let mut whole = Whole::open(alloc, nodes, 0, opening, AnyWords)?;
-    let (line, mut seats) = opened(alloc, nodes, opening).ok_or("no line")?;
-    replay_all(rt, &line, seats.as_mut_slice(), &mut whole, events);
-    let left = closed(alloc, line, seats).ok_or("the nodes are not done")?;
+    let left = left_by(rt, alloc, opening, &mut whole, events).ok_or("it is not closed")?;
     assert!(rt; is_left_as(&left, &whole));
     Ok(())
 }
