@@ -6,7 +6,7 @@ ghost use Rattle.sci_coarse.specs.Seats.{IsSeatOf};
 mod crowds;
 mod rows;
 
-use super::is_idle;
+use super::{is_idle, same};
 use crate::{CoarseLine, CoarsePort, Seat};
 use sci_core::{AnyWords, Closed, Event, Line, Outcome, Whole};
 use sci_port::Port;
@@ -140,7 +140,8 @@ fn replay_all(
 {
     for (place, (node, event)) in events.iter().enumerate() {
         let alike = replay(line, seats, whole, *node, event);
-        assert!(rt; alike, "event {place}, {event:?} of {node:?}");
+        let told = (place, node, event);
+        same(rt, &(told, alike), &(told, true));
     }
 }
 
@@ -196,6 +197,19 @@ fn is_left_as(closed: &Closed, whole: &Whole<AnyWords>) -> bool {
     closed.mem == whole.mem() && closed.memory == whole.memory_line()
 }
 
+// Makes the events on both lines, and closes the one under its lock word.
+fn left_by(
+    rt: &impl Abort,
+    alloc: Global,
+    opening: Line,
+    whole: &mut Whole<AnyWords>,
+    events: &[(NodeId, Event)],
+) -> Option<Closed> {
+    let (line, mut seats) = opened(alloc, whole.nodes(), opening)?;
+    replay_all(rt, &line, seats.as_mut_slice(), whole, events);
+    closed(alloc, line, seats)
+}
+
 // Makes the events on a line that is lent and on one under its lock word, to the end, where no node is in a step.
 fn replay_run(
     rt: &impl Abort,
@@ -206,9 +220,7 @@ fn replay_run(
 ) -> Result<(), Fail> {
     assert!(rt; !events.is_empty());
     let mut whole = Whole::open(alloc, nodes, 0, opening, AnyWords)?;
-    let (line, mut seats) = opened(alloc, nodes, opening).ok_or("no line")?;
-    replay_all(rt, &line, seats.as_mut_slice(), &mut whole, events);
-    let left = closed(alloc, line, seats).ok_or("the nodes are not done")?;
+    let left = left_by(rt, alloc, opening, &mut whole, events).ok_or("it is not closed")?;
     assert!(rt; is_left_as(&left, &whole));
     Ok(())
 }

@@ -62,17 +62,34 @@ fn carry_out(
     None
 }
 
+// The operation of each node.
+fn operations(alloc: Global, nodes: u16, shift: u16) -> Result<Vec<Op>, Fail> {
+    let mut ops = Vec::with_capacity(alloc, usize::from(nodes))?;
+    for number in 0..nodes {
+        ops.push(operation(number, shift)?)?;
+    }
+    Ok(ops)
+}
+
 // All nodes begin an operation, take their turns one after another to the end, and do so twice more, each with another operation.
+fn record(
+    alloc: Global,
+    whole: &mut Whole<AnyWords>,
+    trace: &mut Trace,
+    patience: usize,
+) -> Result<(), Fail> {
+    for shift in 0..3 {
+        let mut ops = operations(alloc, whole.nodes(), shift)?;
+        carry_out(whole, trace, &mut ops, patience).ok_or("it did not end")?;
+    }
+    Ok(())
+}
+
+// Records such a run and replays it.
 fn check(rt: &impl Abort, alloc: Global, nodes: u16, patience: usize) -> Result<(), Fail> {
     let mut whole = Whole::open(alloc, nodes, 0, Line::ZERO, AnyWords)?;
     let mut trace = Trace::new(Vec::with_capacity(alloc, 100_000)?);
-    for shift in 0..3 {
-        let mut ops = Vec::with_capacity(alloc, usize::from(nodes))?;
-        for number in 0..nodes {
-            ops.push(operation(number, shift)?)?;
-        }
-        carry_out(&mut whole, &mut trace, &mut ops, patience).ok_or("it did not end")?;
-    }
+    record(alloc, &mut whole, &mut trace, patience)?;
     let events = trace.events().ok_or("no room")?;
     replay_run(rt, alloc, nodes, Line::ZERO, events)
 }
