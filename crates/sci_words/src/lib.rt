@@ -19,6 +19,3 @@ pub use names::{mem_name, name};
 pub use nodes::{LineNo, NodeId};
 pub use refusals::WordRefusal;
 pub use tags::{Kind, Tag};
-
-#[cfg(test)]
-mod tests;

@@ -1,5 +1,5 @@
 //! Words worked out by hand from the table of layout 1.
-use super::*;
+use sci_words::*;
 use std::fmt::Debug;
 use std::process::Abort;
 
@@ -36,8 +36,8 @@ fn reads_and_writes_tags(rt: HostRuntime) {
         (0x20017, held, "MID_VALID"),
         (0x1ff07, tail, "TAIL_VALID"),
     ] {
-        assert_eq!(rt; read_tag(word), Ok(want), "at {word:x}");
-        assert!(rt; want.well_formed(), "at {word:x}");
+        same(&rt, &read_tag(word), &Ok(want));
+        assert!(rt; want.well_formed());
         same(&rt, &write_tag(want), &word);
         same(&rt, &name(want), &text);
     }
@@ -52,7 +52,7 @@ fn refuses_tags(rt: HostRuntime) {
         (0xff0007, WordRefusal::LinkMissing, 3),
         (0xffff11, WordRefusal::HeldNotValid, 5),
     ] {
-        assert_eq!(rt; read_tag(word), Err(refusal), "at {word:x}");
+        same(&rt, &read_tag(word), &Err(refusal));
         same(&rt, &refusal.number(), &number);
     }
 }
