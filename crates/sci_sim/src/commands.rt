@@ -157,6 +157,8 @@ Example: a line that three nodes share.
   tag 0 2 0000000000ff0102 0 0 0 0 0 0 0 0 0
   end";
 
+const SCRIPT_FILE: &str = "the script; without it standard input is read";
+
 fn file<'a>(rt: &impl AllocGlobal, help: &'a str) -> Arg<'a> {
     Arg::new(rt.alloc(), "FILE").help(help)
 }
@@ -182,57 +184,41 @@ fn reader_of<'a>(
         .arg(file(rt, file_help))
 }
 
-/// Adds the commands that run a script.
-fn with_scripts<'a>(
-    rt: &impl AllocGlobal,
-    program: Command<'a>,
-) -> Result<Command<'a>, AllocError> {
-    const FILE: &str = "the script; without it standard input is read";
-    let script = reader_of(
-        rt,
-        "script",
-        "Runs a script and prints its text",
-        SCRIPTS,
-        FILE,
-    )?;
-    let trace = reader_of(
-        rt,
-        "trace",
-        "Runs a script, and says of each turn what it did",
-        TRACES,
-        FILE,
-    )?;
-    let draw = reader_of(
-        rt,
-        "draw",
-        "Runs a script, and writes a page that shows each turn",
-        PAGES,
-        FILE,
-    )?;
-    program
-        .subcommand(script)?
-        .subcommand(trace)?
-        .subcommand(draw)
+fn script<'a>(rt: &impl AllocGlobal) -> Result<Command<'a>, AllocError> {
+    let about = "Runs a script and prints its text";
+    reader_of(rt, "script", about, SCRIPTS, SCRIPT_FILE)
 }
 
-/// Adds the commands that run a workload, and check a dump.
-fn with_works<'a>(rt: &impl AllocGlobal, program: Command<'a>) -> Result<Command<'a>, AllocError> {
-    let run = reader_of(
-        rt,
-        "run",
-        "Runs a workload, each node in a thread of its own, and prints its result",
-        SETTINGS,
-        "the settings; without it standard input is read",
-    )?
-    .arg(progress(rt))?;
-    let check = reader_of(
-        rt,
-        "check",
-        "Checks that each line of a dump is an exact sharing list",
-        DUMPS,
-        "the dump; without it standard input is read",
-    )?;
-    program.subcommand(run)?.subcommand(check)
+fn trace<'a>(rt: &impl AllocGlobal) -> Result<Command<'a>, AllocError> {
+    let about = "Runs a script, and says of each turn what it did";
+    reader_of(rt, "trace", about, TRACES, SCRIPT_FILE)
+}
+
+fn draw<'a>(rt: &impl AllocGlobal) -> Result<Command<'a>, AllocError> {
+    let about = "Runs a script, and writes a page that shows each turn";
+    reader_of(rt, "draw", about, PAGES, SCRIPT_FILE)
+}
+
+fn run<'a>(rt: &impl AllocGlobal) -> Result<Command<'a>, AllocError> {
+    let about = "Runs a workload, each node in a thread of its own, and prints its result";
+    let file = "the settings; without it standard input is read";
+    reader_of(rt, "run", about, SETTINGS, file)
+}
+
+fn check<'a>(rt: &impl AllocGlobal) -> Result<Command<'a>, AllocError> {
+    let about = "Checks that each line of a dump is an exact sharing list";
+    let file = "the dump; without it standard input is read";
+    reader_of(rt, "check", about, DUMPS, file)
+}
+
+/// Adds the commands: those that run a script, the one that runs a workload, and the one that checks a dump.
+fn with_all<'a>(rt: &impl AllocGlobal, program: Command<'a>) -> Result<Command<'a>, AllocError> {
+    program
+        .subcommand(script(rt)?)?
+        .subcommand(trace(rt)?)?
+        .subcommand(draw(rt)?)?
+        .subcommand(run(rt)?.arg(progress(rt))?)?
+        .subcommand(check(rt)?)
 }
 
 /// The program's commands.
@@ -243,6 +229,5 @@ pub fn commands<'a>(rt: &impl AllocGlobal) -> Result<Command<'a>, AllocError> {
         .about(ABOUT)
         .after_help(STATUSES)
         .subcommand_required(true);
-    let program = with_scripts(rt, program)?;
-    with_works(rt, program)
+    with_all(rt, program)
 }

@@ -2,26 +2,11 @@
 //! page; `scisim run [FILE]` runs a workload; `scisim check [FILE]` checks a dump.
 #![tactic(auto)]
 
-mod checking;
 mod commands;
-mod faults;
-mod input;
-mod progress;
-mod running;
-mod serve;
-mod settings;
-#[cfg(test)]
-mod tests;
-mod verdicts;
-mod works;
 
-use checking::serve_check;
 use clap::ArgMatches;
 use commands::commands;
-use faults::SimFault;
-use progress::Progress;
-use running::{serve_run, serve_run_by};
-use serve::{Form, serve_buffered};
+use sci_serve::{Form, Progress, SimFault, serve_buffered, serve_check, serve_run, serve_run_by};
 use std::alloc::{AllocError, Global};
 use std::fs::File;
 use std::io::{self, BufWriter, ErrorKind, Read, Write};

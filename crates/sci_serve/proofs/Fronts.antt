@@ -1,0 +1,106 @@
+-- A front of what is written of a run is what the run leaves where the writer fails.
+use Rattle.std.proofs.Common.{◌≡◌, ℕ, ◌<◌, Bool, List, [], length, take, refl, sym, ap, ◌∙◌, subst, arith, inl, inr, length-take, take-take, take_all}
+use Rattle.std.proofs.Math.Nat.{min-le_left, min-le_right}
+use Rattle.sci_script.specs.declared.commands.Size.{Size}
+use Rattle.sci_script.specs.declared.commands.Opening.{Opening}
+use Rattle.sci_script.specs.declared.commands.Step.{Step}
+use Rattle.sci_script.specs.declared.refusals.ScriptRefusal.{ScriptRefusal}
+use Rattle.sci_script.specs.declared.refusals.ScriptRefusal.TheVariants.{OutOfMemory, BadCommand, BadNumber, NotDone, WriteFailed}
+use Rattle.sci_script.specs.Event.{Event}
+use Rattle.sci_script.specs.Request.{no_words}
+use Rattle.sci_script.specs.Run.{Leaves, PrintsAll}
+use Rattle.sci_script.specs.Shared.{Shared, shared_is_open, shared_does}
+use Rattle.sci_trace.specs.Traces.{Traces, TraceLeaves, FormLeaves}
+use Rattle.sci_trace.specs.Pages.{page_of}
+use Rattle.sci_serve.specs.declared.faults.SimFault.{SimFault}
+use Rattle.sci_serve.specs.declared.faults.SimFault.TheVariants.{CannotRead, CannotWrite, InputTooLong, Refused, NoDump, Unlawful, NoRun}
+use Rattle.sci_serve.specs.declared.scripts.Form.{Form}
+use Rattle.sci_serve.specs.Serve.{IsWritten, IsLeft, Serves, Stops, StopsRunning}
+
+-- a list that is cut before its end was cut before
+cut_shorter : (n m : ℕ) (text : List ℕ) → n < length (take m text) → (n < m) × (n < length text)
+cut_shorter n m text less =
+    let long = length-take m text in
+    (omega (arith, less, long, min-le_left m (length text)), omega (arith, less, long, min-le_right m (length text)))
+
+-- a front of a front is a front
+front_again : (n m : ℕ) (text written : List ℕ) → n < length written → written ≡ take m text → (n < length text) × (take n written ≡ take n text)
+front_again n m text written less is =
+    let (below, inside) = cut_shorter n m text (subst (λ (l : List ℕ). n < length l) is less) in
+    (inside, ap (take n) is ∙ take-take n m text (omega (arith, below)))
+
+-- of what the run of a script leaves
+script_front : {S : Type 0} (is_open : S → ℕ → Bool) (does : S → Event → S → Type 0) (nodes : ℕ) (s : S) (steps : List Step) (e : ScriptRefusal) (written : List ℕ) (t : S) (n : ℕ)
+    → n < length written → Leaves is_open does nodes s steps e written t → (u : S) × Leaves is_open does nodes s steps WriteFailed (take n written) u
+script_front is_open does nodes s steps OutOfMemory written t n less (k, mid, step, printed, at, stops) = (mid, (k, written, n, printed, less, refl))
+script_front is_open does nodes s steps (BadCommand l) written t n less (k, mid, step, printed, at, stops) = (mid, (k, written, n, printed, less, refl))
+script_front is_open does nodes s steps (BadNumber l) written t n less h = absurd h
+script_front is_open does nodes s steps (NotDone l) written t n less (k, mid, step, printed, at, stops) = (mid, (k, written, n, printed, less, refl))
+script_front is_open does nodes s steps WriteFailed written t n less (k, text, m, printed, short, is) =
+    let (inside, again) = front_again n m text written less is in
+    (t, (k, text, n, printed, inside, again))
+
+-- of what a traced run leaves
+trace_front : (nodes : ℕ) (steps : List Step) (s : Shared) (e : ScriptRefusal) (written : List ℕ) (t : Shared) (n : ℕ) → n < length written → TraceLeaves nodes steps s e written t
+    → TraceLeaves nodes steps s WriteFailed (take n written) t
+trace_front nodes steps s OutOfMemory written t n less (k, mid, so_far) = (k, mid, written, n, so_far, less, refl)
+trace_front nodes steps s (BadCommand l) written t n less (k, mid, step, so_far, at, stops) = (k, mid, written, n, so_far, less, refl)
+trace_front nodes steps s (BadNumber l) written t n less h = absurd h
+trace_front nodes steps s (NotDone l) written t n less (k, mid, step, so_far, at, stops) = (k, mid, written, n, so_far, less, refl)
+trace_front nodes steps s WriteFailed written t n less (k, mid, traced, m, so_far, short, is) =
+    let (inside, again) = front_again n m traced written less is in
+    (k, mid, traced, n, so_far, inside, again)
+
+-- of what is left of a run in some form
+form_front : (form : List ℕ → List ℕ) (nodes : ℕ) (steps : List Step) (s : Shared) (e : ScriptRefusal) (written : List ℕ) (t : Shared) (n : ℕ) → n < length written
+    → FormLeaves form nodes steps s e written t → FormLeaves form nodes steps s WriteFailed (take n written) t
+form_front form nodes steps s OutOfMemory written t n less (traced, so_far, is) =
+    (traced, so_far, (n, subst (λ (x : List ℕ). n < length x) is less, ap (take n) is))
+form_front form nodes steps s (BadCommand l) written t n less (traced, (k, mid, step, so_far, at, stops), is) =
+    (traced, (k, mid, so_far), (n, subst (λ (x : List ℕ). n < length x) is less, ap (take n) is))
+form_front form nodes steps s (BadNumber l) written t n less (traced, stops, is) = absurd stops
+form_front form nodes steps s (NotDone l) written t n less (traced, (k, mid, step, so_far, at, stops), is) =
+    (traced, (k, mid, so_far), (n, subst (λ (x : List ℕ). n < length x) is less, ap (take n) is))
+form_front form nodes steps s WriteFailed written t n less (traced, so_far, (m, short, is)) =
+    let (inside, again) = front_again n m (form traced) written less is in
+    (traced, so_far, (n, inside, again))
+
+front_of_left : (form : Form) (size : Size) (capacity : ℕ) (openings : List Opening) (steps : List Step) (e : ScriptRefusal) (written : List ℕ) (n : ℕ) → n < length written
+    → IsLeft form size capacity openings steps e written → IsLeft form size capacity openings steps WriteFailed (take n written)
+front_of_left Form.Script size capacity openings steps e written n less (s, t, opens, left) =
+    let (u, front) = script_front shared_is_open shared_does size.nodes s steps e written t n less left in
+    (s, u, opens, front)
+front_of_left Form.Trace size capacity openings steps e written n less (s, t, opens, left) = (s, t, opens, trace_front size.nodes steps s e written t n less left)
+front_of_left Form.Draw size capacity openings steps e written n less (s, t, opens, left) = (s, t, opens, form_front page_of size.nodes steps s e written t n less left)
+
+front_of_written : (form : Form) (size : Size) (capacity : ℕ) (openings : List Opening) (steps : List Step) (text : List ℕ) (n : ℕ) → n < length text
+    → IsWritten form size capacity openings steps text → IsLeft form size capacity openings steps WriteFailed (take n text)
+front_of_written Form.Script size capacity openings steps text n less (s, t, opens, printed) =
+    (s, t, opens, (length steps, text, n, subst (λ (l : List Step). PrintsAll shared_is_open shared_does no_words s l text t) (sym (take_all (length steps) steps (omega arith))) printed, less, refl))
+front_of_written Form.Trace size capacity openings steps traced n less (s, t, opens, all, told) =
+    (s, t, opens, (length steps, t, traced, n, subst (λ (l : List Step). Traces l s traced t) (sym (take_all (length steps) steps (omega arith))) all, less, refl))
+front_of_written Form.Draw size capacity openings steps text n less (s, t, traced, opens, all, told, is) =
+    let so_far = subst (λ (l : List Step). Traces l s traced t) (sym (take_all (length steps) steps (omega arith))) all in
+    (s, t, opens, (traced, (length steps, t, so_far), (n, subst (λ (x : List ℕ). n < length x) is less, ap (take n) is)))
+
+front_of_run : (form : Form) (e : ScriptRefusal) (input written : List ℕ) (n : ℕ) → n < length written → StopsRunning form e input written → StopsRunning form WriteFailed input (take n written)
+front_of_run form e input written n less (short, size, capacity, openings, steps, is, left) =
+    (short, size, capacity, openings, steps, is, front_of_left form size capacity openings steps e written n less left)
+
+pub front_of_text : (form : Form) (input text : List ℕ) (n : ℕ) → n < length text → Serves form input text → StopsRunning form WriteFailed input (take n text)
+front_of_text form input text n less (short, size, capacity, openings, steps, is, written) =
+    (short, size, capacity, openings, steps, is, front_of_written form size capacity openings steps text n less written)
+
+front_of_nothing : (written : List ℕ) (n : ℕ) → n < length written → written ≡ [] → ⊥
+front_of_nothing written n less none = let e : length written ≡ 0 = ap (length {A = ℕ}) none in omega arith
+
+-- wherever the command stops, a front of what it wrote is what it leaves where the writer fails
+pub front_of_stop : (form : Form) (e : SimFault) (input written : List ℕ) (n : ℕ) → n < length written → Stops form e input written → Stops form CannotWrite input (take n written)
+front_of_stop form CannotRead input written n less none = absurd (front_of_nothing written n less none)
+front_of_stop form CannotWrite input written n less h = front_of_run form WriteFailed input written n less h
+front_of_stop form InputTooLong input written n less h = absurd (front_of_nothing written n less h.1)
+front_of_stop form (Refused e) input written n less (inl h) = absurd (front_of_nothing written n less h.1)
+front_of_stop form (Refused e) input written n less (inr h) = front_of_run form e input written n less h
+front_of_stop form (NoDump l) input written n less h = absurd h
+front_of_stop form Unlawful input written n less h = absurd h
+front_of_stop form (NoRun e) input written n less h = absurd h

@@ -1,0 +1,22 @@
+use Rattle.std.proofs.Common.{ℕ, ◌<◌, List, length, take, string_bytes, refl, subst, ◌∙◌}
+use Rattle.std.proofs.lemmas.Option.{IfSome_then}
+use Rattle.std.specs.Io.KnownBytes.{Appends}
+use Rattle.sci_serve.specs.Runs.{Runs}
+use Rattle.sci_serve.proofs.running.serve_run_by.Goals as goal
+
+pub returns-in-Ok-clause-ok : goal.returns-in-Ok-clause-ok
+returns-in-Ok-clause-ok g c =
+    let contents = g.W.Write.contents in
+    let text = string_bytes c.in_ok-text.text in
+    let appended = subst (λ (t : List ℕ). Appends (contents c.args.writer.now) (contents c.put.new.out) t) c.as_bytes.ensures.value c.in-Ok.ensures.ok in
+    IfSome_then (g.R.Read.remaining c.args.reader.now) c.in_ok-input.ensures.read
+    (λ input e. (text, subst (λ (i : List ℕ). Runs i text) (c.deref.ensures.value ∙ e) c.in_ok-text.ensures.ok, appended))
+
+pub returns-clause-err : goal.returns-clause-err
+returns-clause-err g c =
+    let contents = g.W.Write.contents in
+    let text = string_bytes c.in_ok-text.text in
+    let Front = λ (t : List ℕ). (n : ℕ) × (n < length t) × Appends (contents c.args.writer.now) (contents c.put.new.out) (take n t) in
+    let (n, less, appended) = subst Front c.as_bytes.ensures.value c.in-Err.ensures.err in
+    IfSome_then (g.R.Read.remaining c.args.reader.now) c.in_ok-input.ensures.read
+    (λ input e. (take n text, (text, n, subst (λ (i : List ℕ). Runs i text) (c.deref.ensures.value ∙ e) c.in_ok-text.ensures.ok, less, refl), appended))

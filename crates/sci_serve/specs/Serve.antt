@@ -1,0 +1,81 @@
+-- What the commands `script`, `trace` and `draw` write. This project's profile.
+use Rattle.std.specs.Prelude.{◌≡◌, ℕ, ◌<◌, ◌≤◌, List, [], length, Option, None, Some, Ok, Err, ◌⊎◌}
+use Rattle.std.specs.Io.KnownBytes.{Appends}
+use Rattle.sci_script.specs.declared.commands.Size.{Size}
+use Rattle.sci_script.specs.declared.commands.Opening.{Opening}
+use Rattle.sci_script.specs.declared.commands.Step.{Step}
+use Rattle.sci_script.specs.declared.refusals.ScriptRefusal.{ScriptRefusal}
+use Rattle.sci_script.specs.declared.refusals.ScriptRefusal.TheVariants.{OutOfMemory, BadCommand, BadNumber, NotDone, WriteFailed}
+use Rattle.sci_serve.specs.declared.faults.SimFault.{SimFault}
+use Rattle.sci_serve.specs.declared.faults.SimFault.TheVariants.{CannotRead, CannotWrite, InputTooLong, Refused, NoDump, Unlawful, NoRun}
+use Rattle.sci_serve.specs.declared.scripts.Form.{Form}
+use Rattle.sci_script.specs.Format.{script_of}
+use Rattle.sci_script.specs.ScriptText.{Opens, IsTextOf, IsLeftOf}
+use Rattle.sci_script.specs.Request.{no_words}
+use Rattle.sci_script.specs.Shared.{Shared}
+use Rattle.sci_trace.specs.Pages.{page_of}
+use Rattle.sci_trace.specs.Telling.{TellsAll}
+use Rattle.sci_trace.specs.Traces.{Traces, TraceLeaves, FormLeaves}
+
+-- what is written of a run: the script's text; that text with the lines of its turns between, one by one; or the page of that
+abbrev pub IsWritten : Form → Size → ℕ → List Opening → List Step → List ℕ → Type 0
+IsWritten Form.Script size capacity openings steps text = IsTextOf size capacity openings steps text
+IsWritten Form.Trace size capacity openings steps text = (s t : Shared) × Opens size capacity openings s × Traces steps s text t × TellsAll no_words s steps text t
+IsWritten Form.Draw size capacity openings steps text =
+    (s t : Shared) × (traced : List ℕ) × Opens size capacity openings s × Traces steps s traced t × TellsAll no_words s steps traced t × (text ≡ page_of traced)
+
+-- what is written of a run that fails
+abbrev pub IsLeft : Form → Size → ℕ → List Opening → List Step → ScriptRefusal → List ℕ → Type 0
+IsLeft Form.Script size capacity openings steps e written = IsLeftOf size capacity openings steps e written
+IsLeft Form.Trace size capacity openings steps e written = (s t : Shared) × Opens size capacity openings s × TraceLeaves size.nodes steps s e written t
+IsLeft Form.Draw size capacity openings steps e written = (s t : Shared) × Opens size capacity openings s × FormLeaves page_of size.nodes steps s e written t
+
+-- where memory runs out before the run, nothing is written
+abbrev pub FailsWith : Form → Size → ℕ → List Opening → List Step → ScriptRefusal → List ℕ → Type 0
+FailsWith form size capacity openings steps e written = ((e ≡ OutOfMemory) × (written ≡ [])) ⊎ IsLeft form size capacity openings steps e written
+
+-- the input is a script, and this is written of its run
+abbrev pub Serves : Form → List ℕ → List ℕ → Type 0
+Serves form input text =
+    (length input ≤ 1048576) × (size : Size) × (capacity : ℕ) × (openings : List Opening) × (steps : List Step) × (script_of input ≡ Ok (size, capacity, openings, steps))
+    × IsWritten form size capacity openings steps text
+
+-- the input is a script, whose run fails and leaves this
+abbrev pub StopsRunning : Form → ScriptRefusal → List ℕ → List ℕ → Type 0
+StopsRunning form e input written =
+    (length input ≤ 1048576) × (size : Size) × (capacity : ℕ) × (openings : List Opening) × (steps : List Step) × (script_of input ≡ Ok (size, capacity, openings, steps))
+    × IsLeft form size capacity openings steps e written
+
+-- the reader of scripts refuses the input, or memory ran out before the run
+abbrev pub IsRefused : ScriptRefusal → List ℕ → Type 0
+IsRefused OutOfMemory input = Unit {0}
+IsRefused (BadCommand n) input = (length input ≤ 1048576) × (script_of input ≡ Err (BadCommand n))
+IsRefused (BadNumber n) input = (length input ≤ 1048576) × (script_of input ≡ Err (BadNumber n))
+IsRefused (NotDone n) input = ⊥
+IsRefused WriteFailed input = ⊥
+
+-- what is written where the command fails; a fault of reading comes before any other
+abbrev pub Stops : Form → SimFault → List ℕ → List ℕ → Type 0
+Stops form CannotRead input written = written ≡ []
+Stops form CannotWrite input written = StopsRunning form WriteFailed input written
+Stops form InputTooLong input written = (1048576 < length input) × (written ≡ [])
+Stops form (Refused e) input written = (IsRefused e input × (written ≡ [])) ⊎ StopsRunning form e input written
+Stops form (NoDump n) input written = ⊥
+Stops form Unlawful input written = ⊥
+Stops form (NoRun e) input written = ⊥
+
+-- a writer that is known to hold no fewer bytes than at first
+abbrev pub LosesNothing : Option (List ℕ) → Option (List ℕ) → Type 0
+LosesNothing None new = ⊥
+LosesNothing (Some xs) None = ⊥
+LosesNothing (Some xs) (Some ys) = length xs ≤ length ys
+
+-- what the writer holds where the command fails through a buffer; nothing is said of a failed writer that loses what it held
+abbrev pub LeavesBehind : Form → SimFault → List ℕ → Option (List ℕ) → Option (List ℕ) → Type 0
+LeavesBehind form CannotRead input old new = (written : List ℕ) × Stops form CannotRead input written × Appends old new written
+LeavesBehind form CannotWrite input old new = LosesNothing old new → (written : List ℕ) × Stops form CannotWrite input written × Appends old new written
+LeavesBehind form InputTooLong input old new = (written : List ℕ) × Stops form InputTooLong input written × Appends old new written
+LeavesBehind form (Refused e) input old new = (written : List ℕ) × Stops form (Refused e) input written × Appends old new written
+LeavesBehind form (NoDump n) input old new = ⊥
+LeavesBehind form Unlawful input old new = ⊥
+LeavesBehind form (NoRun e) input old new = ⊥

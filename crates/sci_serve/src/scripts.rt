@@ -1,0 +1,159 @@
+//! The commands `script`, `trace` and `draw`, from the bytes of a script to what is written of its run.
+
+ghost use Rattle.std.specs.Prelude.{◌≡◌, ◌≤◌, ℕ, List, length, OnOk, IfErr, IfSome};
+ghost use Rattle.std.specs.Io.Buffered.{writer_contents};
+ghost use Rattle.std.specs.Io.KnownBytes.{Appends, IsAtEnd};
+ghost use Rattle.sci_serve.specs.declared.scripts.Form.TheVariants as forms;
+ghost use Rattle.sci_serve.specs.Fault.{fault_of};
+ghost use Rattle.sci_serve.specs.Input.{IsToldInTime};
+ghost use Rattle.sci_serve.specs.Serve.{IsWritten, FailsWith, Serves, Stops, LeavesBehind};
+
+use crate::faults::SimFault;
+use crate::input::read_input;
+use sci_script::{Script, ScriptRefusal, WholeDesk, put, read_script};
+use sci_trace::{TraceDesk, draw, trace};
+use std::alloc::Global;
+use std::io::{BufWriter, Read, Write};
+
+/// The form in which a run is written.
+#[derive(Clone, Copy, Debug, PartialEq, Eq)]
+pub enum Form {
+    /// The script's text.
+    Script,
+    /// That text with a line for each turn.
+    Trace,
+    /// A page of HTML that shows the trace.
+    Draw,
+}
+
+/// Runs a script, and writes its run in this form.
+fn run<W: Write>(
+    alloc: Global,
+    form: Form,
+    script: &Script,
+    writer: &mut W,
+) -> Result<(), ScriptRefusal>
+    ensures ok { OnOk result ((text : List ℕ) × IsWritten form script.now.size script.now.capacity script.now.openings.items script.now.steps.items text
+        × Appends (W.contents writer.old) (W.contents writer.new) text) }
+    ensures err { IfErr result (λ e. (written : List ℕ) × FailsWith form script.now.size script.now.capacity script.now.openings.items script.now.steps.items e written
+        × Appends (W.contents writer.old) (W.contents writer.new) written) }
+{
+    match form {
+        Form::Script => {
+            let mut desk = WholeDesk::open(alloc, script)?;
+            script.run(alloc, &mut desk, writer)
+        }
+        Form::Trace => {
+            let mut desk = TraceDesk::open(alloc, script)?;
+            trace(alloc, script, &mut desk, writer)
+        }
+        Form::Draw => {
+            let mut desk = TraceDesk::open(alloc, script)?;
+            draw(alloc, script, &mut desk, writer)
+        }
+    }
+}
+
+/// Runs the script that an input is.
+fn serve_input<W: Write>(
+    alloc: Global,
+    form: Form,
+    input: &[u8],
+    writer: &mut W,
+) -> Result<(), ScriptRefusal>
+    requires { length input.now ≤ 1048576 }
+    ensures ok { OnOk result ((text : List ℕ) × Serves form input.now text × Appends (W.contents writer.old) (W.contents writer.new) text) }
+    ensures err { IfErr result (λ e. (written : List ℕ) × Stops form (fault_of e) input.now written
+        × Appends (W.contents writer.old) (W.contents writer.new) written) }
+{
+    let script = read_script(alloc, input)?;
+    run(alloc, form, &script, writer)
+}
+
+/// Reads a script to its end, runs it, and writes its run in this form.
+pub fn serve<R: Read, W: Write>(
+    alloc: Global,
+    form: Form,
+    reader: &mut R,
+    writer: &mut W,
+) -> Result<(), SimFault>
+    ensures ok { OnOk result (IfSome (R.remaining reader.old) (λ input. (text : List ℕ) × Serves form input text
+        × Appends (W.contents writer.old) (W.contents writer.new) text)) }
+    ensures err { IfErr result (λ e. IfSome (R.remaining reader.old) (λ input. (written : List ℕ) × Stops form e input written
+        × Appends (W.contents writer.old) (W.contents writer.new) written)) }
+    ensures end { OnOk result (IsAtEnd (R.remaining reader.new)) }
+    ensures in_time { IfErr result (λ e. IsToldInTime e (R.remaining reader.new)) }
+{
+    let input = read_input(alloc, reader)?;
+    serve_input(alloc, form, &input, writer)?;
+    Ok(())
+}
+
+/// Reads a script to its end, runs it, and writes its text.
+pub fn serve_script<R: Read, W: Write>(
+    alloc: Global,
+    reader: &mut R,
+    writer: &mut W,
+) -> Result<(), SimFault>
+    ensures ok { OnOk result (IfSome (R.remaining reader.old) (λ input. (text : List ℕ) × Serves forms.Script input text
+        × Appends (W.contents writer.old) (W.contents writer.new) text)) }
+    ensures err { IfErr result (λ e. IfSome (R.remaining reader.old) (λ input. (written : List ℕ) × Stops forms.Script e input written
+        × Appends (W.contents writer.old) (W.contents writer.new) written)) }
+    ensures end { OnOk result (IsAtEnd (R.remaining reader.new)) }
+    ensures in_time { IfErr result (λ e. IsToldInTime e (R.remaining reader.new)) }
+{
+    serve(alloc, Form::Script, reader, writer)
+}
+
+/// Reads a script to its end, runs it, and writes its text with a line for each turn.
+pub fn serve_trace<R: Read, W: Write>(
+    alloc: Global,
+    reader: &mut R,
+    writer: &mut W,
+) -> Result<(), SimFault>
+    ensures ok { OnOk result (IfSome (R.remaining reader.old) (λ input. (traced : List ℕ) × Serves forms.Trace input traced
+        × Appends (W.contents writer.old) (W.contents writer.new) traced)) }
+    ensures err { IfErr result (λ e. IfSome (R.remaining reader.old) (λ input. (written : List ℕ) × Stops forms.Trace e input written
+        × Appends (W.contents writer.old) (W.contents writer.new) written)) }
+    ensures end { OnOk result (IsAtEnd (R.remaining reader.new)) }
+    ensures in_time { IfErr result (λ e. IsToldInTime e (R.remaining reader.new)) }
+{
+    serve(alloc, Form::Trace, reader, writer)
+}
+
+/// Reads a script to its end, runs it, and writes a page of HTML that shows its trace.
+pub fn serve_draw<R: Read, W: Write>(
+    alloc: Global,
+    reader: &mut R,
+    writer: &mut W,
+) -> Result<(), SimFault>
+    ensures ok { OnOk result (IfSome (R.remaining reader.old) (λ input. (page : List ℕ) × Serves forms.Draw input page
+        × Appends (W.contents writer.old) (W.contents writer.new) page)) }
+    ensures err { IfErr result (λ e. IfSome (R.remaining reader.old) (λ input. (written : List ℕ) × Stops forms.Draw e input written
+        × Appends (W.contents writer.old) (W.contents writer.new) written)) }
+    ensures end { OnOk result (IsAtEnd (R.remaining reader.new)) }
+    ensures in_time { IfErr result (λ e. IsToldInTime e (R.remaining reader.new)) }
+{
+    serve(alloc, Form::Draw, reader, writer)
+}
+
+/// The same through a buffer, which is written out before the writer comes back: what is written of a script that ends or is
+/// refused has gone out whole, and a write that fails comes before a refusal.
+pub fn serve_buffered<R: Read, W: Write + Drop>(
+    alloc: Global,
+    form: Form,
+    reader: &mut R,
+    mut output: BufWriter<W>,
+) -> (W, Result<(), SimFault>)
+    ensures ok { OnOk result.1 (IfSome (R.remaining reader.old) (λ input. (text : List ℕ) × Serves form input text
+        × Appends (writer_contents W.contents output) (W.contents result.0) text)) }
+    ensures err { IfErr result.1 (λ e. IfSome (R.remaining reader.old) (λ input.
+        LeavesBehind form e input (writer_contents W.contents output) (W.contents result.0))) }
+{
+    let served = serve(alloc, form, reader, &mut output);
+    let (mut writer, rest) = output.into_parts();
+    match put(&mut writer, &rest) {
+        Ok(()) => (writer, served),
+        Err(_) => (writer, Err(SimFault::CannotWrite)),
+    }
+}

@@ -1,0 +1,157 @@
+//! The settings of a run, and their reader.
+
+ghost use Rattle.std.specs.Prelude.{◌≡◌, Some, IfOk, IfErr, IsUtf8};
+ghost use Rattle.toml.specs.View.{table_view};
+ghost use Rattle.sci_serve.specs.Settings.{Gives, Fails};
+ghost use Rattle.sci_serve.specs.Settings.{settings_for, settings_in, settings_of};
+
+mod fields;
+mod refusals;
+
+pub use fields::Numbers;
+use fields::{Work, dump_at, has_keys_of, number_at, numbers_at, work_at};
+pub use refusals::SettingsRefusal;
+use std::alloc::Global;
+use toml::{Table, table_from_slice};
+
+/// The settings of a run: its work, with what it works on.
+#[derive(Debug, Drop)]
+pub enum Settings {
+    /// Phases of sums of neighbours, over tiles of seven cells.
+    Stencil {
+        /// 1 to 64 nodes.
+        nodes: u16,
+        /// How many lines a node names, 1 to 1,024.
+        capacity: u16,
+        /// 0 to 1,000,000 phases.
+        phases: u64,
+        /// A multiple of seven of them, 7 to 3,584.
+        cells: Numbers,
+        /// Whether the dump is printed too.
+        dump: bool,
+    },
+    /// Items from one node to another, over a ring of lines.
+    Ring {
+        /// 1 to 1,023 lines.
+        lines: u16,
+        /// How many lines a node names, 1 to 1,024.
+        capacity: u16,
+        /// 0 to 100,000 of them.
+        items: Numbers,
+        /// Whether the dump is printed too.
+        dump: bool,
+    },
+    /// Additions by each node to one word.
+    Count {
+        /// 1 to 64 nodes.
+        nodes: u16,
+        /// 0 to 1,000,000 additions of each node.
+        adds: u64,
+        /// How many lines a node names, 1 to 1,024.
+        capacity: u16,
+        /// Whether the dump is printed too.
+        dump: bool,
+    },
+}
+
+#[tactic(auto, unfolding(crate::specs::Settings::settings_for))]
+fn stencil_in(alloc: Global, table: &Table) -> Result<Settings, SettingsRefusal>
+    ensures { Gives result (settings_for Work.Stencil (table_view table.now)) }
+{
+    let Some(nodes) = number_at(table, "nodes", 1, 64) else {
+        return Err(SettingsRefusal::BadSettings);
+    };
+    let Some(capacity) = number_at(table, "capacity", 1, 1024) else {
+        return Err(SettingsRefusal::BadSettings);
+    };
+    let Some(phases) = number_at(table, "phases", 0, 1_000_000) else {
+        return Err(SettingsRefusal::BadSettings);
+    };
+    let cells = numbers_at(alloc, table, "cells")?;
+    let count = cells.len();
+    if count < 1 || count > 3584 || count % 7 != 0 {
+        return Err(SettingsRefusal::BadSettings);
+    }
+    let Some(dump) = dump_at(table) else {
+        return Err(SettingsRefusal::BadSettings);
+    };
+    Ok(Settings::Stencil {
+        nodes: nodes as u16,
+        capacity: capacity as u16,
+        phases,
+        cells,
+        dump,
+    })
+}
+
+#[tactic(auto, unfolding(crate::specs::Settings::settings_for))]
+fn ring_in(alloc: Global, table: &Table) -> Result<Settings, SettingsRefusal>
+    ensures { Gives result (settings_for Work.Ring (table_view table.now)) }
+{
+    let Some(lines) = number_at(table, "lines", 1, 1023) else {
+        return Err(SettingsRefusal::BadSettings);
+    };
+    let Some(capacity) = number_at(table, "capacity", 1, 1024) else {
+        return Err(SettingsRefusal::BadSettings);
+    };
+    let items = numbers_at(alloc, table, "items")?;
+    if items.len() > 100_000 {
+        return Err(SettingsRefusal::BadSettings);
+    }
+    let Some(dump) = dump_at(table) else {
+        return Err(SettingsRefusal::BadSettings);
+    };
+    Ok(Settings::Ring {
+        lines: lines as u16,
+        capacity: capacity as u16,
+        items,
+        dump,
+    })
+}
+
+#[tactic(auto, unfolding(crate::specs::Settings::settings_for))]
+fn count_in(table: &Table) -> Option<Settings>
+    ensures { result ≡ settings_for Work.Count (table_view table.now) }
+{
+    let nodes = number_at(table, "nodes", 1, 64)?;
+    let adds = number_at(table, "adds", 0, 1_000_000)?;
+    let capacity = number_at(table, "capacity", 1, 1024)?;
+    let dump = dump_at(table)?;
+    Some(Settings::Count {
+        nodes: nodes as u16,
+        adds,
+        capacity: capacity as u16,
+        dump,
+    })
+}
+
+#[tactic(auto, unfolding(crate::specs::Settings::settings_in))]
+fn settings_in(alloc: Global, table: &Table) -> Result<Settings, SettingsRefusal>
+    ensures { Gives result (settings_in (table_view table.now)) }
+{
+    let Some(work) = work_at(table) else {
+        return Err(SettingsRefusal::BadSettings);
+    };
+    if !has_keys_of(work, table) {
+        return Err(SettingsRefusal::BadSettings);
+    }
+    match work {
+        Work::Stencil => stencil_in(alloc, table),
+        Work::Ring => ring_in(alloc, table),
+        Work::Count => count_in(table).ok_or(SettingsRefusal::BadSettings),
+    }
+}
+
+/// Reads settings, in TOML. Refusal 22: the text is no TOML, its keys aren't those of one work, or a value has the wrong type or
+/// is out of its limits. Refusal 7: a growth of memory was refused.
+#[tactic(auto, unfolding(crate::specs::Settings::settings_of))]
+pub fn read_settings(alloc: Global, text: &[u8]) -> Result<Settings, SettingsRefusal>
+    ensures ok { IfOk result (λ s. IsUtf8 text.now × (settings_of text.now ≡ Some s)) }
+    ensures err { IfErr result (λ e. IsUtf8 text.now → Fails e (settings_of text.now)) }
+{
+    match table_from_slice(alloc, text) {
+        Ok(table) => settings_in(alloc, &table),
+        Err(error) if error.is_memory() => Err(SettingsRefusal::OutOfMemory),
+        Err(_) => Err(SettingsRefusal::BadSettings),
+    }
+}

@@ -1,5 +1,0 @@
-use Rattle.std.proofs.Common.{rules, append_assoc}
-use Rattle.sci_sim.proofs.verdicts.unlawful_text.Goals as goal
-
-pub returns : goal.returns
-returns c = let h = rw c.number-number.ensures at c.format.ensures.ok in search (rules, append_assoc, h)
