@@ -7,8 +7,6 @@ mod ports;
 mod refusals;
 mod requests;
 mod tables;
-#[cfg(test)]
-mod tests;
 mod waiting;
 
 pub use calls::OpenCall;

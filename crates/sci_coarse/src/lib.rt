@@ -12,8 +12,6 @@ mod regions;
 mod seats;
 mod standing;
 mod stepping;
-#[cfg(test)]
-mod tests;
 mod views;
 
 pub use bank::{CoarseBank, SeatOfAnother};

@@ -78,6 +78,3 @@ impl<K: Keeps> Whole<K> {
         }
     }
 }
-
-#[cfg(test)]
-mod tests;

@@ -15,8 +15,6 @@ mod rows;
 mod stages;
 mod stepping;
 mod table;
-#[cfg(test)]
-mod tests;
 mod whole;
 
 pub use closing::Closed;

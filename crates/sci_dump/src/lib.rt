@@ -8,8 +8,6 @@ mod ranges;
 mod reader;
 mod refusals;
 mod rows;
-#[cfg(test)]
-mod tests;
 mod texts;
 
 pub use checking::{Rule, Verdict, check};

@@ -13,8 +13,6 @@ mod port;
 mod seats;
 mod standing;
 mod stepping;
-#[cfg(test)]
-mod tests;
 mod views;
 
 pub use bank::{FineBank, SeatOfAnother};

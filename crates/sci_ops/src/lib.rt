@@ -7,8 +7,6 @@ mod found;
 mod goals;
 mod ops;
 mod refusals;
-#[cfg(test)]
-mod tests;
 mod turns;
 
 pub use alone::Steps;

@@ -8,8 +8,6 @@ mod port;
 pub mod recording;
 mod solo;
 mod solo_bank;
-#[cfg(test)]
-mod tests;
 
 pub use at::At;
 pub use bank::Bank;

@@ -12,8 +12,6 @@ mod numbers;
 mod reader;
 mod refusals;
 mod running;
-#[cfg(test)]
-mod tests;
 mod texts;
 mod watching;
 mod wholes;

@@ -9,7 +9,7 @@ use std::io::Write;
 
 /// How a text is written.
 #[derive(Clone, Copy, Debug, PartialEq, Eq)]
-pub(crate) enum Coding {
+pub enum Coding {
     /// As it is.
     Plain,
     /// So that a browser shows it as text.
@@ -43,7 +43,7 @@ fn put_escaped<W: Write>(out: &mut W, bytes: &[u8]) -> Result<(), WriteFailed>
 }
 
 /// Writes the bytes in this way; on a failure it has written a front of that, and not all.
-pub(crate) fn put_coded<W: Write>(
+pub fn put_coded<W: Write>(
     out: &mut W,
     coding: Coding,
     bytes: &[u8],

@@ -15,11 +15,17 @@ mod running;
 mod short;
 mod steps;
 mod tag_names;
-#[cfg(test)]
-mod tests;
 mod texts;
 mod words;
 
 pub use desk::TraceDesk;
 pub use drawing::draw;
 pub use running::trace;
+
+/// What the calls of this crate are made of. It is public for the tests alone, which stand in a crate above.
+#[doc(hidden)]
+pub mod parts {
+    pub use crate::coding::{Coding, put_coded};
+    pub use crate::note_text::NoteText;
+    pub use crate::page::{END, FRONT};
+}

@@ -136,7 +136,7 @@ impl NoteText {
     ghost use Rattle.sci_trace.specs.NoteText.{note_bytes};
 
     /// No text.
-    pub(crate) fn new(alloc: Global) -> NoteText
+    pub fn new(alloc: Global) -> NoteText
         ensures { note_bytes result ≡ [] }
     {
         NoteText {
@@ -165,14 +165,14 @@ impl NoteText {
     }
 
     /// The text, but for what waits.
-    pub(crate) fn front(&self) -> &[u8]
+    pub fn front(&self) -> &[u8]
         ensures { result.now ≡ self.now.front.items }
     {
         &self.front
     }
 
     /// What waits behind it.
-    pub(crate) fn waiting(&self) -> &[u8]
+    pub fn waiting(&self) -> &[u8]
         ensures { result.now ≡ take self.now.waiting self.now.room }
     {
         &self.room[..self.waiting]
@@ -189,7 +189,7 @@ impl NoteText {
     }
 
     /// Adds a piece of any length.
-    pub(crate) fn push_bytes(&mut self, piece: &[u8]) -> Result<(), AllocError>
+    pub fn push_bytes(&mut self, piece: &[u8]) -> Result<(), AllocError>
         ensures { OnOk result (note_bytes self.new ≡ note_bytes self.old ++ piece.now) }
     {
         let end = self.waiting + piece.len();

@@ -9,7 +9,7 @@ use std::sync::atomic::{AtomicBool, Ordering};
 
 /// A worker's door: its node, the number of its next call, and what may keep it from that call.
 #[derive(Drop)]
-pub(crate) struct Door<'w, G> {
+pub struct Door<'w, G> {
     gate: &'w G,
     stop: &'w AtomicBool,
     node: u16,
@@ -17,7 +17,7 @@ pub(crate) struct Door<'w, G> {
 }
 
 impl<'w, G: Gate> Door<'w, G> {
-    pub(crate) fn new(gate: &'w G, stop: &'w AtomicBool, node: u16) -> Door<'w, G>
+    pub fn new(gate: &'w G, stop: &'w AtomicBool, node: u16) -> Door<'w, G>
         ensures node { result.node ≡ node }
         ensures call { result.call ≡ 0 }
     {
@@ -30,7 +30,7 @@ impl<'w, G: Gate> Door<'w, G> {
     }
 
     /// Asks until the next call may start. Refusal 25 where the stop mark is raised, 20 at the gate's limit.
-    pub(crate) fn enter(&self) -> Result<(), WorkRefusal>
+    pub fn enter(&self) -> Result<(), WorkRefusal>
         ensures { IfErr result ComesInCall }
     {
         let backoff = Backoff::new();
@@ -56,7 +56,7 @@ impl<'w, G: Gate> Door<'w, G> {
     }
 
     /// Says that the call has ended. The next one has the next number, up to the greatest.
-    pub(crate) fn leave(&mut self)
+    pub fn leave(&mut self)
         ensures node { self.new.node ≡ self.old.node }
         ensures next { self.old.call + 1 < 2 ^ 64 → self.new.call ≡ self.old.call + 1 }
         ensures last { self.old.call + 1 ≡ 2 ^ 64 → self.new.call ≡ self.old.call }
@@ -66,12 +66,12 @@ impl<'w, G: Gate> Door<'w, G> {
     }
 
     /// Raises the stop mark: no node begins another call.
-    pub(crate) fn raise(&self) {
+    pub fn raise(&self) {
         self.stop.store(true, Ordering::SeqCst);
     }
 
     /// Raises the stop mark where the worker has refused.
-    pub(crate) fn told<T>(&self, ended: Result<T, WorkRefusal>) -> Result<T, WorkRefusal>
+    pub fn told<T>(&self, ended: Result<T, WorkRefusal>) -> Result<T, WorkRefusal>
         ensures { result ≡ ended }
     {
         if ended.is_err() {

@@ -13,8 +13,6 @@ mod rings;
 mod seating;
 mod starting;
 mod stencils;
-#[cfg(test)]
-mod tests;
 mod values;
 
 pub use counting::count;
@@ -23,3 +21,15 @@ pub use gates::{Gate, OpenGate};
 pub use refusals::WorkRefusal;
 pub use rings::{consume, produce, ring};
 pub use stencils::stencil;
+
+/// What the calls of this crate are made of. It is public for the tests alone, which stand in a crate above.
+#[doc(hidden)]
+pub mod parts {
+    pub use crate::doors::Door;
+    pub use crate::lines::opened;
+    pub use crate::programs::Program;
+    pub use crate::seating::dealt;
+    pub use crate::starting::{run_all, share_of};
+    pub use crate::stencils::Work;
+    pub use crate::values::value_of;
+}

@@ -57,7 +57,7 @@ fn extended<K: Keeps>(
 }
 
 /// So many lines of zeros under one fact, numbered from 0, and each node's hand.
-pub(crate) fn opened<K: Keeps>(
+pub fn opened<K: Keeps>(
     alloc: Global,
     nodes: u16,
     count: u16,
@@ -113,7 +113,7 @@ fn last_seats<K: Keeps>(
 }
 
 /// The lines, closed.
-pub(crate) fn closed<K: Keeps>(
+pub fn closed<K: Keeps>(
     alloc: Global,
     lines: Vec<FineLine<K>>,
     hands: Vec<Hand<K>>,

@@ -20,7 +20,7 @@ use std::sync::Wait;
 
 /// A workload's program. Each node runs it with its own number, and gives its share of the result.
 #[derive(Clone, Copy)]
-pub(crate) enum Program<'a> {
+pub enum Program<'a> {
     /// Adds 1 to word 0 of line 0, so often.
     Count { adds: u64 },
     /// The items of a ring on so many lines: node 0 writes them, and node 1 reads them.
@@ -54,7 +54,7 @@ fn counted<R: Wait, G: Gate, B: Bank>(
 
 /// The node's part. It ends with no call open.
 #[tactic(auto, using(crate::proofs::Refusing::part_of_call, crate::proofs::Refusing::part_of_work))]
-pub(crate) fn run<R: Wait, G: Gate, B: Bank>(
+pub fn run<R: Wait, G: Gate, B: Bank>(
     rt: &R,
     alloc: Global,
     door: &mut Door<'_, G>,

@@ -9,13 +9,13 @@ use sci_fine::{FineLine, Seat};
 use std::alloc::Global;
 
 /// A node's seats, one at each line, in order.
-pub(crate) type Hand<K> = Vec<Seat<K>>;
+pub type Hand<K> = Vec<Seat<K>>;
 
 /// What a node's thread ends with: its seats, all Idle, and its share.
 #[derive(Drop)]
-pub(crate) struct Done<K: Keeps, S> {
-    pub(crate) hand: Hand<K>,
-    pub(crate) share: Result<S, WorkRefusal>,
+pub struct Done<K: Keeps, S> {
+    pub hand: Hand<K>,
+    pub share: Result<S, WorkRefusal>,
 }
 
 // A hand of one seat.
@@ -43,7 +43,7 @@ fn seat_of<K: Keeps>(hand: Hand<K>) -> Seat<K>
 }
 
 /// Each node's seat at the one line.
-pub(crate) fn dealt<K: Keeps>(
+pub fn dealt<K: Keeps>(
     alloc: Global,
     line: &FineLine<K>,
     seats: Vec<Seat<K>>,
@@ -67,7 +67,7 @@ pub(crate) fn dealt<K: Keeps>(
 }
 
 /// The seats at the one line, in the order of the nodes.
-pub(crate) fn gathered<K: Keeps>(
+pub fn gathered<K: Keeps>(
     alloc: Global,
     line: &FineLine<K>,
     hands: Vec<Hand<K>>,

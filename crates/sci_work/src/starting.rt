@@ -40,7 +40,7 @@ impl<'s, 'a, K: Keeps> Promise<Done<K, Vec<u64>>> for PartOf<'s, 'a, K> {
 type Running<'s, 'a, K> = PromisedHandle<Done<K, Vec<u64>>, PartOf<'s, 'a, K>>;
 
 /// The program, run by a node that names no line yet.
-pub(crate) fn share_of<R: Wait, G: Gate, B: Bank>(
+pub fn share_of<R: Wait, G: Gate, B: Bank>(
     rt: &R,
     alloc: Global,
     door: &mut Door<'_, G>,
@@ -277,7 +277,7 @@ fn parted<K: Keeps>(
 /// refusals: 7 before the first start, then that of the first node whose refusal isn't 25, then 26 where a node's thread
 /// couldn't be started.
 #[tactic(auto, using(crate::proofs::Refusing::of_memory))]
-pub(crate) fn run_all<R: Threads + Wait + Sync, G: Gate, K: Keeps + Send + Sync>(
+pub fn run_all<R: Threads + Wait + Sync, G: Gate, K: Keeps + Send + Sync>(
     rt: &R,
     alloc: Global,
     gate: &G,

@@ -5,4 +5,5 @@ mod tiles;
 mod worker;
 
 pub use running::stencil;
-pub(crate) use worker::{Work, worked};
+pub use worker::Work;
+pub(crate) use worker::worked;

@@ -1,7 +1,7 @@
 //! The end of a page, with what draws its pictures.
 
 /// What stands behind the text.
-pub(crate) const END: &str = r##"</pre>
+pub const END: &str = r##"</pre>
 <script>
 "use strict";
 // The trace is read as text, each turn is done over again on tags, and the list that comes of it is compared with the trace's.

@@ -19,11 +19,11 @@ use std::sync::Wait;
 
 /// What all nodes work on.
 #[derive(Clone, Copy)]
-pub(crate) struct Work<'a> {
-    pub(crate) cells: &'a [u64],
-    pub(crate) phases: u64,
-    pub(crate) tiles: u16,
-    pub(crate) nodes: u16,
+pub struct Work<'a> {
+    pub cells: &'a [u64],
+    pub phases: u64,
+    pub tiles: u16,
+    pub nodes: u16,
 }
 
 /// The words of a tile once it stands at this phase. Refusal 19 where it is found at a later one.

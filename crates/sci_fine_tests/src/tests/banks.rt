@@ -1,0 +1,82 @@
+//! Seats that make no bank.
+ghost use Rattle.std.specs.Prelude.{◌≡◌, IfSome};
+ghost use Rattle.sci_fine.specs.Banks.{IsLine};
+ghost use Rattle.sci_fine.specs.Seats.{IsSeatOf};
+
+use crate::tests::same;
+use sci_fine::{FineBank, FineLine, Seat};
+use sci_core::{AnyWords, Line};
+use sci_words::LineNo;
+use std::alloc::Global;
+use std::test::Fail;
+
+// A line of two nodes, with its seats.
+pub(super) fn pair_of(
+    alloc: Global,
+    number: LineNo,
+    keep: AnyWords,
+) -> Option<(FineLine<AnyWords>, Seat<AnyWords>, Seat<AnyWords>)>
+    ensures line { IfSome result (λ r. IsLine 2 keep number r.0) }
+    ensures seats { IfSome result (λ r. IsSeatOf r.0 r.1 × IsSeatOf r.0 r.2) }
+{
+    let Ok((line, mut seats)) = FineLine::new(alloc, 2, number, Line::ZERO, keep) else {
+        return None;
+    };
+    let one = seats.pop()?;
+    let zero = seats.pop()?;
+    Some((line, zero, one))
+}
+
+#[test]
+#[tactic(auto, using(sci_fine::proofs::TwoLines::two_lines))]
+fn seats_of_two_nodes_make_no_bank(rt: HostRuntime) -> Result<(), Fail> {
+    let (first, zero, _) = pair_of(rt.alloc(), 0, AnyWords).ok_or("no line")?;
+    let (second, _, one) = pair_of(rt.alloc(), 1, AnyWords).ok_or("no line")?;
+    let lines = [first, second];
+    let seats = vec![in rt.alloc(); zero, one]?;
+    let Err(refused) = FineBank::new(lines.as_slice(), seats) else {
+        panic!(rt; "it is no bank")
+    };
+    same(&rt, &refused.number(), &9);
+    same(&rt, &refused.seats.len(), &2);
+    for (number, seat) in [0, 1].iter().zip(refused.seats.iter()) {
+        same(
+            &rt,
+            &(seat.number(), seat.node().get()),
+            &(*number, *number),
+        );
+    }
+    Ok(())
+}
+
+#[test]
+#[tactic(auto, using(sci_fine::proofs::TwoLines::two_lines))]
+fn seats_in_another_order_make_no_bank(rt: HostRuntime) -> Result<(), Fail> {
+    let (first, seat, _) = pair_of(rt.alloc(), 0, AnyWords).ok_or("no line")?;
+    let (second, other, _) = pair_of(rt.alloc(), 1, AnyWords).ok_or("no line")?;
+    let lines = [first, second];
+    let seats = vec![in rt.alloc(); other, seat]?;
+    let Err(refused) = FineBank::new(lines.as_slice(), seats) else {
+        panic!(rt; "it is no bank")
+    };
+    same(&rt, &refused.number(), &9);
+    same(&rt, &refused.seats.len(), &2);
+    for (number, seat) in [1, 0].iter().zip(refused.seats.iter()) {
+        same(&rt, &(seat.number(), seat.node().get()), &(*number, 0));
+    }
+    Ok(())
+}
+
+#[test]
+#[tactic(auto, using(sci_fine::proofs::TwoLines::one_line))]
+fn no_seats_make_no_bank(rt: HostRuntime) -> Result<(), Fail> {
+    let (line, _, _) = pair_of(rt.alloc(), 0, AnyWords).ok_or("no line")?;
+    let lines = [line];
+    let seats: Vec<Seat<AnyWords>> = Vec::new(rt.alloc());
+    let Err(refused) = FineBank::new(lines.as_slice(), seats) else {
+        panic!(rt; "it is no bank")
+    };
+    same(&rt, &refused.number(), &9);
+    same(&rt, &refused.seats.len(), &0);
+    Ok(())
+}

@@ -1,0 +1,140 @@
+//! Ports to a line that is lent, event by event.
+ghost use Rattle.std.specs.Prelude.{◌≡◌, ◌<◌};
+
+mod memory;
+
+use sci_port::recording::{Recorder, Trace};
+use sci_port::*;
+use sci_core::{Event, Line, Outcome, Pending, Whole};
+use sci_words::{Kind, MemState, NodeId, Tag};
+use std::fmt::Debug;
+use std::process::Abort;
+use std::test::Fail;
+
+const LINE: Line = Line {
+    words: [1, 2, 3, 4, 5, 6, 7, 8],
+    stamp: 40,
+};
+
+/// Both are the same. Each `assert_eq!` is proved by itself; this one is proved once.
+fn same<T: Debug + PartialEq>(rt: &impl Abort, left: &T, right: &T) {
+    assert_eq!(rt; left, right);
+}
+
+fn node(number: u16) -> NodeId
+    requires { number < 255 }
+    ensures { result ≡ number }
+{
+    match NodeId::new(number) {
+        Some(node) => node,
+        None => unreachable!(),
+    }
+}
+
+fn fresh(forw: Option<NodeId>) -> Tag {
+    Tag {
+        kind: Kind::Fresh,
+        held: false,
+        forw,
+        back: None,
+    }
+}
+
+/// One event of a node through a port that records it, if there is that node and its step allows it.
+#[tactic(auto, using(sci_core::proofs::Fitting::any_event_fits))]
+fn step(
+    whole: &mut Whole<AnyWords>,
+    trace: &mut Trace,
+    number: u16,
+    event: Event,
+) -> Option<Outcome> {
+    let node = NodeId::new(number)?;
+    if node.get() >= whole.nodes() {
+        return None;
+    }
+    let mut solo = Solo::new(whole, node);
+    let mut port = Recorder::new(&mut solo, trace);
+    if port.pending().allows(node, port.nodes(), &event) {
+        Some(port.step(event))
+    } else {
+        None
+    }
+}
+
+// A reader who turns to a writer, until a second reader comes in before it.
+fn two_readers() -> [(u16, Event, Outcome); 8] {
+    [
+        (0, Event::Queue(None), Outcome::Done(None)),
+        (0, Event::PrependValid, Outcome::Done(None)),
+        (0, Event::ReturnMemory, Outcome::Done(None)),
+        (0, Event::Settle, Outcome::Done(Some(LINE))),
+        (0, Event::Convert(fresh(None)), Outcome::Done(None)),
+        (1, Event::Queue(Some(node(0))), Outcome::Done(None)),
+        (1, Event::PrependValid, Outcome::Done(None)),
+        (0, Event::FreshToGone, Outcome::Missed(0x111)),
+    ]
+}
+
+#[test]
+fn steps_two_readers(rt: HostRuntime) -> Result<(), Fail> {
+    let mut whole = Whole::open(rt.alloc(), 2, 0, LINE, AnyWords)?;
+    let mut trace = Trace::new(Vec::with_capacity(rt.alloc(), 16)?);
+    for (number, event, outcome) in two_readers() {
+        let answer = step(&mut whole, &mut trace, number, event);
+        same(&rt, &answer, &Some(outcome));
+    }
+    for (number, event, outcome) in [
+        (1, Event::Settle, None),
+        (0, Event::Unconverted, Some(Outcome::Done(None))),
+        (0, Event::Look, Some(Outcome::Done(None))),
+    ] {
+        same(&rt, &step(&mut whole, &mut trace, number, event), &outcome);
+    }
+    let events = trace.events().ok_or("no room")?;
+    same(&rt, &events.len(), &10);
+    same(&rt, &events.get(7), &Some(&(node(0), Event::FreshToGone)));
+    same(&rt, &events.get(8), &Some(&(node(0), Event::Unconverted)));
+    Ok(())
+}
+
+#[test]
+fn loads_the_words_that_stand(rt: HostRuntime) -> Result<(), Fail> {
+    let mut whole = Whole::open(rt.alloc(), 3, 7, LINE, AnyWords)?;
+    let mut trace = Trace::new(Vec::with_capacity(rt.alloc(), 16)?);
+    let first = node(2);
+    if first.get() < whole.nodes() {
+        let mut port = Solo::new(&mut whole, first);
+        same(&rt, &port.node().get(), &2);
+        same(&rt, &port.nodes(), &3);
+        same(&rt, &port.number(), &7);
+        same(&rt, &port.pending(), &Pending::Idle);
+        same(&rt, &port.mem().map(|mem| mem.state), &Some(MemState::Home));
+        let mut recorder = Recorder::new(&mut port, &mut trace);
+        same(
+            &rt,
+            &recorder.own().map(|tag| tag.kind),
+            &Some(Kind::Invalid),
+        );
+        same(
+            &rt,
+            &recorder.tag(node(1)).map(|tag| tag.kind),
+            &Some(Kind::Invalid),
+        );
+    }
+    let events = trace.events().ok_or("no room")?;
+    same(&rt, &events.get(0), &Some(&(first, Event::Look)));
+    same(&rt, &events.len(), &1);
+    Ok(())
+}
+
+#[test]
+fn a_trace_without_room_is_cut(rt: HostRuntime) -> Result<(), Fail> {
+    let mut whole = Whole::open(rt.alloc(), 2, 0, LINE, AnyWords)?;
+    let mut trace = Trace::new(Vec::with_capacity(rt.alloc(), 3)?);
+    for (place, (number, event, outcome)) in two_readers().iter().enumerate() {
+        let answer = step(&mut whole, &mut trace, *number, *event);
+        same(&rt, &answer, &Some(*outcome));
+        same(&rt, &trace.events().is_some(), &(place < 3));
+    }
+    Ok(())
+}

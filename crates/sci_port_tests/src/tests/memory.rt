@@ -1,0 +1,132 @@
+//! Ports, banks and recorders take no memory. tools/allocations runs this test with the allocation of its last line refused,
+//! and wants it to fail there, and there alone.
+ghost use Rattle.std.specs.Prelude.{IsTrue};
+ghost use Rattle.sci_core.specs.declared.keeps.AnyWords.{AnyWords};
+ghost use Rattle.sci_port.specs.Banks.{AreLinesOf};
+
+use super::{LINE, fresh, same};
+use sci_port::recording::{Recorder, Trace};
+use sci_port::{AnyWords, At, Bank, Port, SoloBank};
+use sci_core::{Event, Outcome, Whole};
+use sci_words::{LineNo, NodeId};
+use std::alloc::Global;
+
+const ROUNDS: u32 = 10_000;
+
+/// A node that is alone reads a line and leaves it. One exchange among these finds another tag.
+fn events() -> [Event; 11] {
+    [
+        Event::Queue(None),
+        Event::PrependValid,
+        Event::ReturnMemory,
+        Event::Settle,
+        Event::Hold(fresh(NodeId::new(1))),
+        Event::Hold(fresh(None)),
+        Event::Unhold,
+        Event::Leave(fresh(None)),
+        Event::Look,
+        Event::ReturnHomeFresh,
+        Event::Left,
+    ]
+}
+
+/// Two lines of two nodes.
+fn opened(alloc: Global) -> Option<Vec<Whole<AnyWords>>> {
+    let mut wholes = Vec::with_capacity(alloc, 2).ok()?;
+    for number in 0..2 {
+        let whole = Whole::open(alloc, 2, number, LINE, AnyWords).ok()?;
+        wholes.push(whole).ok()?;
+    }
+    Some(wholes)
+}
+
+/// Whether these are a memory's lines, numbered from 0, and each has the node.
+fn are_lines_of(wholes: &[Whole<AnyWords>], me: NodeId) -> bool
+    ensures { IsTrue result → (keep : AnyWords) × AreLinesOf keep me wholes.now }
+{
+    if wholes.is_empty() || wholes.len() > 1024 {
+        return false;
+    }
+    for (line, whole) in wholes.iter().enumerate() {
+        if usize::from(whole.number()) != line || me.get() >= whole.nodes() {
+            return false;
+        }
+    }
+    true
+}
+
+/// An event through a bank, if there is the line and the event is in turn, behind a look and loads.
+#[tactic(auto, using(sci_core::proofs::Fitting::any_event_fits))]
+fn step_in(bank: &mut SoloBank<AnyWords>, line: LineNo, event: Event) -> Option<Outcome> {
+    if line >= bank.lines() {
+        return None;
+    }
+    let me = bank.node();
+    let _ = (bank.own(line)?, bank.mem(line)?, bank.tag(line, me)?);
+    if bank.number(line) == line && bank.pending(line).allows(me, bank.nodes(line), &event) {
+        Some(bank.step(line, event))
+    } else {
+        None
+    }
+}
+
+/// The same through a recorder of the port to the line.
+#[tactic(auto, using(sci_core::proofs::Fitting::any_event_fits))]
+fn step_at(
+    bank: &mut SoloBank<AnyWords>,
+    trace: &mut Trace,
+    line: LineNo,
+    event: Event,
+) -> Option<Outcome> {
+    if line >= bank.lines() {
+        return None;
+    }
+    let mut at = At::new(bank, line);
+    let mut port = Recorder::new(&mut at, trace);
+    let me = port.node();
+    let _ = (port.own()?, port.mem()?, port.tag(me)?);
+    if port.number() == line && port.pending().allows(me, port.nodes(), &event) {
+        Some(port.step(event))
+    } else {
+        None
+    }
+}
+
+/// Rounds of the events on both lines, one through the bank and one through its port: how many exchanges missed.
+fn rounds(bank: &mut SoloBank<AnyWords>, trace: &mut Trace) -> Option<u32> {
+    let mut missed: u32 = 0;
+    for _ in 0..ROUNDS {
+        for event in events() {
+            let outcomes = (step_in(bank, 0, event)?, step_at(bank, trace, 1, event)?);
+            if outcomes.0 != outcomes.1 {
+                return None;
+            }
+            if let (Outcome::Missed(_), _) = outcomes {
+                missed = missed.saturating_add(1);
+            }
+        }
+    }
+    Some(missed)
+}
+
+#[test]
+fn ports_and_banks_take_no_memory(rt: HostRuntime) {
+    // Two lines take three each, their list one, and the room of a trace one.
+    let (Some(wholes), Some(me)) = (opened(rt.alloc()), NodeId::new(0)) else {
+        panic!(rt; "no lines")
+    };
+    let Ok(room) = Vec::with_capacity(rt.alloc(), 16) else {
+        panic!(rt; "no room")
+    };
+    if !are_lines_of(&wholes, me) {
+        panic!(rt; "no lines of the node")
+    }
+    let mut bank = SoloBank::new(wholes, me);
+    let mut trace = Trace::new(room);
+    same(&rt, &rounds(&mut bank, &mut trace), &Some(ROUNDS));
+    same(&rt, &trace.events(), &None);
+    bank.seat(me);
+    same(&rt, &bank.into_wholes().len(), &2);
+    let last = Vec::<u8>::with_capacity(rt.alloc(), 1);
+    assert!(rt; last.is_ok(), "allocation 9 is refused");
+}

@@ -1,0 +1,160 @@
+//! Scripts with their exact texts, worked out by hand from the tables of rows and turns.
+use super::{Case, SHARED, SHARERS, check};
+use sci_script::refusals::ScriptRefusal;
+
+/// Reads, writes, exits, nodes that come late, and a bounded cache: each is run over whole lines, and over lines that threads share.
+pub const ROWS: &[Case] = &[
+    (SHARERS, None, SHARED),
+    ("memory 1 1", None, ""),
+    ("memory 1 1\nlist 0\n", None, "line 0 HOME\n"),
+    (
+        "memory 2 1\nstore 0 0 0 7\ndone 0\nload 1 0 0\ndone 1\nlist 0\n",
+        None,
+        "node 0 wrote stamp 1\nnode 1 read 7 stamp 1\nline 0 GONE 1: 1 HEAD_DIRTY, 0 TAIL_VALID\n",
+    ),
+    (
+        "memory 2 1\nstore 0 0 0 7\ndone 0\nevict 0 0\ndone 0\nlist 0\nload 1 0 0\ndone 1\n",
+        None,
+        "node 0 wrote stamp 1\nnode 0 out\nline 0 HOME\nnode 1 read 7 stamp 1\n",
+    ),
+    (
+        "memory 3 1\nload 0 0 0\ndone 0\nload 1 0 0\ndone 1\nload 2 0 0\ndone 2\nstore 2 0 0 5\nturn 2\n\
+         list 0\nturn 2\nlist 0\nturn 2\nlist 0\nturn 2\nlist 0\nturn 2\nlist 0\nturn 2\nlist 0\n\
+         turn 2\nlist 0\nturn 2\nlist 0\nturn 2\nlist 0\nturn 2\nlist 0\n",
+        None,
+        "node 0 read 0 stamp 0\nnode 1 read 0 stamp 0\nnode 2 read 0 stamp 0\n\
+         line 0 FRESH 2: 2 CONVERT, 1 MID_VALID, 0 TAIL_VALID\n\
+         line 0 GONE 2: 2 CONVERT, 1 MID_VALID, 0 TAIL_VALID\n\
+         line 0 GONE 2: 2 PURGING, 1 MID_VALID, 0 TAIL_VALID\n\
+         line 0 GONE 2: 2 PURGING, 1 PURGED, 0 TAIL_VALID\nline 0 GONE 2: 2 PURGING, 0 TAIL_VALID\n\
+         line 0 GONE 2: 2 PURGING, 0 TAIL_VALID\nline 0 GONE 2: 2 PURGING, 0 PURGED\n\
+         line 0 GONE 2: 2 PURGING\nline 0 GONE 2: 2 PURGING\nnode 2 wrote stamp 1\n\
+         line 0 GONE 2: 2 ONLY_DIRTY\n",
+    ),
+    (
+        "memory 3 1\nstore 0 0 0 5\ndone 0\nstore 0 0 0 6\nturn 0\nload 1 0 0\nturn 1\nturn 1\n\
+         load 2 0 0\nturn 2\nturn 2\nlist 0\nturn 2\nturn 1\nturn 0\ndone 1\ndone 2\nlist 0\n",
+        None,
+        "node 0 wrote stamp 1\nline 0 GONE 2: 2 QUEUED, 1 QUEUED, 0 PURGING\nnode 2 waits\n\
+         node 1 waits\nnode 0 wrote stamp 2\nnode 1 read 6 stamp 2\nnode 2 read 6 stamp 2\n\
+         line 0 GONE 2: 2 HEAD_DIRTY, 1 MID_VALID, 0 TAIL_VALID\n",
+    ),
+    (
+        "memory 1 1\nopen 0 18446744073709551615 0 0 0 0 0 0 0 0\nstore 0 0 0 5\ndone 0\nlist 0\n\
+         load 0 0 0\ndone 0\n",
+        None,
+        "node 0 refused 11\nline 0 GONE 0: 0 ONLY_DIRTY\nnode 0 read 0 stamp 18446744073709551615\n",
+    ),
+    (
+        "memory 1 1\nopen 0 18446744073709551614 0 0 0 0 0 0 0 0\nstore 0 0 0 5\ndone 0\nstore 0 0 0 6\n\
+         done 0\nload 0 0 0\ndone 0\n",
+        None,
+        "node 0 wrote stamp 18446744073709551615\nnode 0 refused 11\n\
+         node 0 read 5 stamp 18446744073709551615\n",
+    ),
+    (
+        "memory 1 1\nload 0 0 0\ndone 0\nlist 0\nevict 0 0\ndone 0\nlist 0\nevict 0 0\ndone 0\n",
+        None,
+        "node 0 read 0 stamp 0\nline 0 FRESH 0: 0 ONLY_FRESH\nnode 0 out\nline 0 HOME\nnode 0 out\n",
+    ),
+    (
+        "memory 3 1\nload 0 0 0\ndone 0\nload 1 0 0\ndone 1\nload 2 0 0\ndone 2\nstore 0 0 0 5\ndone 0\n\
+         list 0\nload 1 0 0\ndone 1\n",
+        None,
+        "node 0 read 0 stamp 0\nnode 1 read 0 stamp 0\nnode 2 read 0 stamp 0\nnode 0 wrote stamp 1\n\
+         line 0 GONE 0: 0 ONLY_DIRTY\nnode 1 read 5 stamp 1\n",
+    ),
+    (
+        "memory 3 1\nload 0 0 0\ndone 0\nload 1 0 0\ndone 1\nload 2 0 0\ndone 2\nstore 0 0 0 5\n\
+         turn 0\nturn 0\nturn 0\nturn 0\nturn 0\nturn 0\nturn 0\nturn 0\nturn 0\nturn 0\nturn 0\n\
+         turn 0\nturn 0\nturn 0\nturn 0\nturn 0\nturn 0\nlist 0\nturn 0\nlist 0\n",
+        None,
+        "node 0 read 0 stamp 0\nnode 1 read 0 stamp 0\nnode 2 read 0 stamp 0\nline 0 GONE 0: 0 PURGING\n\
+         node 0 wrote stamp 1\nline 0 GONE 0: 0 ONLY_DIRTY\n",
+    ),
+    (
+        "memory 3 1\nload 0 0 0\ndone 0\nload 1 0 0\ndone 1\nload 2 0 0\ndone 2\nevict 1 0\nturn 1\n\
+         evict 0 0\nturn 0\nlist 0\nturn 1\nturn 0\nlist 0\nturn 0\nturn 1\nturn 1\nlist 0\n",
+        None,
+        "node 0 read 0 stamp 0\nnode 1 read 0 stamp 0\nnode 2 read 0 stamp 0\n\
+         line 0 FRESH 2: 2 HEAD_FRESH, 1 ROLL, 0 ROLL\nnode 1 waits\n\
+         line 0 FRESH 2: 2 HEAD_FRESH, 1 ROLL\nnode 0 out\nnode 1 out\nline 0 FRESH 2: 2 ONLY_FRESH\n",
+    ),
+    (
+        "memory 4 1\nload 0 0 0\ndone 0\nload 1 0 0\ndone 1\nload 2 0 0\ndone 2\nload 3 0 0\ndone 3\n\
+         evict 1 0\nturn 1\nturn 1\ntag 0 0\nstore 3 0 0 9\nturn 3\nturn 3\nturn 3\nturn 3\nturn 3\n\
+         turn 3\nlist 0\ntag 0 1\nturn 3\ntag 0 1\nturn 3\nturn 1\nlist 0\nturn 1\ndone 3\nlist 0\n",
+        None,
+        "node 0 read 0 stamp 0\nnode 1 read 0 stamp 0\nnode 2 read 0 stamp 0\nnode 3 read 0 stamp 0\n\
+         tag 0 0 TAIL_VALID forw - back 2\nline 0 GONE 3: 3 PURGING, 1 ROLL, 0 TAIL_VALID\n\
+         tag 0 1 ROLL forw 0 back 2\ntag 0 1 ROLL forw 0 back 3\nnode 3 waits\n\
+         line 0 GONE 3: 3 PURGING, 0 TAIL_VALID\nnode 1 out\nnode 3 wrote stamp 1\n\
+         line 0 GONE 3: 3 ONLY_DIRTY\n",
+    ),
+    (
+        "memory 2 1\nload 0 0 0\ndone 0\nstore 0 0 0 5\nturn 0\nload 1 0 0\nturn 1\nturn 1\nturn 1\n\
+         list 0\nturn 1\nturn 0\nlist 0\nturn 0\nturn 1\nturn 1\nlist 0\ndone 0\nlist 0\n",
+        None,
+        "node 0 read 0 stamp 0\nline 0 FRESH 1: 1 QUEUED, 0 CONVERT\nnode 1 waits\n\
+         line 0 FRESH 1: 1 QUEUED, 0 ONLY_FRESH\nnode 0 waits\nnode 1 read 0 stamp 0\n\
+         line 0 FRESH 1: 1 HEAD_FRESH, 0 TAIL_VALID\nnode 0 wrote stamp 1\nline 0 GONE 0: 0 ONLY_DIRTY\n",
+    ),
+    (
+        "memory 3 1\nstore 0 0 0 7\ndone 0\nload 1 0 0\ndone 1\nevict 1 0\nturn 1\nturn 1\nlist 0\n\
+         store 0 0 0 9\ndone 0\nload 2 0 0\nturn 2\nturn 2\nturn 1\nlist 0\nturn 2\nturn 1\nturn 1\n\
+         turn 1\nturn 1\ndone 2\ndone 1\nlist 0\n",
+        None,
+        "node 0 wrote stamp 1\nnode 1 read 7 stamp 1\nline 0 GONE 1: 1 LEAVING, 0 ONLY_DIRTY\n\
+         node 0 wrote stamp 2\nline 0 GONE 2: 2 QUEUED, 1 QUEUED, 0 ONLY_DIRTY\nnode 2 waits\n\
+         node 1 waits\nnode 2 read 9 stamp 2\nnode 1 out\nline 0 GONE 2: 2 HEAD_DIRTY, 0 TAIL_VALID\n",
+    ),
+    (
+        "memory 2 1\nstore 0 0 0 7\ndone 0\nevict 0 0\nturn 0\nload 1 0 0\nturn 1\nturn 1\nturn 0\n\
+         list 0\nturn 0\ndone 1\ndone 0\nlist 0\n",
+        None,
+        "node 0 wrote stamp 1\nline 0 GONE 1: 1 QUEUED, 0 ONLY_DIRTY\nnode 0 waits\n\
+         node 1 read 7 stamp 1\nnode 0 out\nline 0 GONE 1: 1 ONLY_DIRTY\n",
+    ),
+    (
+        "memory 1 2\ncapacity 1\nload 0 0 0\ndone 0\nload 0 1 0\ndone 0\nlist 0\nlist 1\nresidents 0\n",
+        None,
+        "node 0 read 0 stamp 0\nnode 0 read 0 stamp 0\nline 0 HOME\nline 1 FRESH 0: 0 ONLY_FRESH\n\
+         node 0 residents 1\n",
+    ),
+];
+
+#[test]
+fn rows_over_whole_lines(rt: HostRuntime) {
+    check(&rt, rt.alloc(), ROWS);
+}
+
+#[test]
+fn refusals(rt: HostRuntime) {
+    let command = |line| Some(ScriptRefusal::BadCommand(line));
+    let number = |line| Some(ScriptRefusal::BadNumber(line));
+    check(
+        &rt,
+        rt.alloc(),
+        &[
+            ("", command(1), ""),
+            ("\n", command(2), ""),
+            ("memory 0 1", number(1), ""),
+            ("memory 1 1\nlode 0 0 0", command(2), ""),
+            ("memory 1 1\nload 0 0 8", number(2), ""),
+            ("memory 1 1\nturn 0", command(2), ""),
+            ("memory 1 1\ndone 0", command(2), ""),
+            ("memory 1 1\nlist 0\nturn 0", command(3), "line 0 HOME\n"),
+            ("memory 1 1\nload 0 0 0\nload 0 0 0", command(3), ""),
+            (
+                "memory 1 1\nlist 0\nopen 0 0 0 0 0 0 0 0 0 0",
+                command(3),
+                "",
+            ),
+            (
+                "memory 2 1\nstore 0 0 0 5\ndone 0\nstore 0 0 0 6\nturn 0\nload 1 0 0\ndone 1\n",
+                Some(ScriptRefusal::NotDone(7)),
+                "node 0 wrote stamp 1\n",
+            ),
+        ],
+    );
+}

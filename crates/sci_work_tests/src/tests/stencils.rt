@@ -1,0 +1,116 @@
+//! Nodes that work on a stencil.
+ghost use Rattle.std.specs.Prelude.{All};
+ghost use Rattle.sci_core.specs.Closed.{IsExactClosed};
+
+use crate::tests::meeting::MeetingGate;
+use crate::tests::same;
+use sci_work::parts::value_of;
+use sci_work::{Gate, OpenGate, WorkRefusal, stencil};
+use sci_core::Closed;
+use std::alloc::{AllocError, Global};
+use std::test::Fail;
+
+// Word 0 of what each line holds.
+fn first_words(alloc: Global, lines: &[Closed]) -> Result<Vec<u64>, AllocError>
+    requires { All IsExactClosed lines.now }
+{
+    let mut words = Vec::new(alloc);
+    for line in lines {
+        words.push(value_of(line).words[0])?;
+    }
+    Ok(words)
+}
+
+#[test]
+fn cells_take_in_their_neighbours(rt: HostRuntime) -> Result<(), Fail> {
+    let mut cells = [0; 21];
+    cells[10] = 1;
+    let mut ends = [0; 21];
+    ends[5..16].copy_from_slice(&[1, 5, 15, 30, 45, 51, 45, 30, 15, 5, 1]);
+    for (nodes, capacity, phases, wanted, words) in [
+        (3, 2, 0, cells, [1, 0, 1, 0, 1, 0]),
+        (3, 2, 5, ends, [5, 6, 5, 6, 5, 6]),
+        (64, 1, 5, ends, [5, 6, 5, 6, 5, 6]),
+    ] {
+        let (found, closed) = stencil(&rt, rt.alloc(), &cells, phases, nodes, capacity, &OpenGate)?;
+        same(&rt, &found.as_slice(), &wanted.as_slice());
+        same(
+            &rt,
+            &first_words(rt.alloc(), &closed)?.as_slice(),
+            &words.as_slice(),
+        );
+    }
+    Ok(())
+}
+
+#[test]
+fn the_most_cells_are_taken_in(rt: HostRuntime) -> Result<(), Fail> {
+    let cells = vec![in rt.alloc(); 1; 3584]?;
+    let (found, closed) = stencil(&rt, rt.alloc(), &cells, 0, 64, 1024, &OpenGate)?;
+    same(&rt, &found, &cells);
+    same(&rt, &closed.len(), &1024);
+    Ok(())
+}
+
+#[test]
+fn nodes_in_threads_of_their_own_meet(rt: HostRuntime) -> Result<(), Fail> {
+    let gate = MeetingGate::new(1_000_000);
+    let (cells, _) = stencil(&rt, rt.alloc(), &[0; 14], 1, 2, 2, &gate)?;
+    same(&rt, &cells.as_slice(), &[0; 14].as_slice());
+    assert!(rt; gate.has_met());
+    Ok(())
+}
+
+#[test]
+fn a_node_that_meets_none_is_20(rt: HostRuntime) {
+    let gate = MeetingGate::new(10);
+    let refused = stencil(&rt, rt.alloc(), &[0; 14], 1, 1, 2, &gate);
+    assert!(rt; matches!(refused, Err(WorkRefusal::Stalled)));
+    assert!(rt; !gate.has_met());
+}
+
+// Lets the calls of the nodes below one start, and no other's.
+#[derive(Clone, Copy)]
+struct Below {
+    node: u16,
+}
+
+impl Gate for Below {
+    fn may_start(&self, node: u16, _call: u64) -> bool {
+        node < self.node
+    }
+
+    fn ended(&self, _node: u16, _call: u64) {}
+
+    fn limit(&self) -> u64 {
+        3
+    }
+}
+
+#[test]
+fn a_gate_that_stays_shut_is_20(rt: HostRuntime) {
+    for node in 0..3 {
+        let gate = Below { node };
+        let refused = stencil(&rt, rt.alloc(), &[0; 21], 1, 3, 1, &gate);
+        assert!(rt; matches!(refused, Err(WorkRefusal::Stalled)));
+    }
+}
+
+#[test]
+fn numbers_outside_the_limits_are_22(rt: HostRuntime) -> Result<(), Fail> {
+    for (count, phases, nodes, capacity) in [
+        (0, 1, 1, 1),
+        (20, 1, 1, 1),
+        (3591, 1, 1, 1),
+        (7, 1_000_001, 1, 1),
+        (7, 1, 0, 1),
+        (7, 1, 65, 1),
+        (7, 1, 1, 0),
+        (7, 1, 1, 1025),
+    ] {
+        let cells = vec![in rt.alloc(); 0; count]?;
+        let refused = stencil(&rt, rt.alloc(), &cells, phases, nodes, capacity, &OpenGate);
+        assert!(rt; matches!(refused, Err(WorkRefusal::BadSettings)));
+    }
+    Ok(())
+}
