@@ -2,11 +2,11 @@
 //! With ample memory this test passes. tools/allocations runs it once for each growth of its table, with that one refused, and
 //! the test ends by saying which call answered it.
 use super::{ALONE, LINE, node, run, same};
-use sci_core::closing::Closed;
-use sci_core::events::Event;
-use sci_core::keeps::AnyWords;
-use sci_core::outcomes::OpenRefusal;
-use sci_core::whole::Whole;
+use sci_core::Closed;
+use sci_core::Event;
+use sci_core::AnyWords;
+use sci_core::OpenRefusal;
+use sci_core::Whole;
 use sci_words::{MemState, NodeId, Tag};
 use std::alloc::Global;
 use std::process::Abort;

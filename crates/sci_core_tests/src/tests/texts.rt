@@ -1,6 +1,6 @@
 //! Pending steps as they are told: the stage, and the line that it keeps, where it keeps one.
 use super::{LINE, same};
-use sci_core::pending::Pending;
+use sci_core::Pending;
 use std::test::Fail;
 
 #[test]

@@ -1,6 +1,6 @@
 //! A run of several nodes, whose recorded events are done once more on another line.
-use sci_ops::answers::{Answer, Turn};
-use sci_ops::ops::Op;
+use sci_ops::{Answer, Turn};
+use sci_ops::Op;
 use crate::tests::same;
 use sci_core::{AnyWords, Event, Line, Whole};
 use sci_port::Solo;

@@ -1,7 +1,7 @@
 //! A desk whose words are not to be had, or whose lists or calls don't end; and one whose words and ends come late.
 ghost use Rattle.std.specs.Prelude.{◌≡◌};
 
-use sci_script::commands::Size;
+use sci_script::Size;
 use crate::tests::same;
 use sci_script::{Desk, ScriptRefusal, read_script};
 use sci_cache::Request;

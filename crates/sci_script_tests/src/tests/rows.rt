@@ -1,6 +1,6 @@
 //! Scripts with their exact texts, worked out by hand from the tables of rows and turns.
 use super::{Case, SHARED, SHARERS, check};
-use sci_script::refusals::ScriptRefusal;
+use sci_script::ScriptRefusal;
 
 /// Reads, writes, exits, nodes that come late, and a bounded cache: each is run over whole lines, and over lines that threads share.
 pub const ROWS: &[Case] = &[
