@@ -9,8 +9,8 @@ mod memory;
 mod recorded;
 mod replays;
 
-use sci_coarse::*;
 use crossbeam_utils::Backoff;
+use sci_coarse::*;
 use sci_core::{AnyWords, Closed, Line, Pending};
 use sci_ops::{Op, Turn};
 use sci_words::{Kind, Mem, MemState, Tag};

@@ -4,8 +4,8 @@ ghost use Rattle.std.specs.Prelude.{◌<◌};
 mod growths;
 mod memory;
 
-use sci_dump::*;
 use sci_core::{AnyWords, Closed, Event, Line, Pending, Whole};
+use sci_dump::*;
 use sci_words::{Kind, NodeId, Tag};
 use std::alloc::{AllocError, Global};
 use std::fmt::Debug;

@@ -10,9 +10,9 @@ mod recorded;
 mod replays;
 mod threads;
 
-use sci_fine::*;
 use crossbeam_utils::Backoff;
 use sci_core::{AnyWords, Closed, Line, Pending};
+use sci_fine::*;
 use sci_ops::{Answer, Op, Turn};
 use sci_words::{Kind, Mem, MemState, Tag};
 use std::alloc::Global;

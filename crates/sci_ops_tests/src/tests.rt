@@ -6,8 +6,8 @@ ghost use Rattle.sci_ops.specs.Alone.{IsAtRest};
 mod memory;
 mod replays;
 
-use sci_ops::*;
 use sci_core::{AnyWords, Line, OpenRefusal, Whole};
+use sci_ops::*;
 use sci_port::Solo;
 use sci_words::NodeId;
 use std::alloc::Global;

@@ -3,9 +3,9 @@ ghost use Rattle.std.specs.Prelude.{◌≡◌, ◌<◌};
 
 mod memory;
 
+use sci_core::{Event, Line, Outcome, Pending, Whole};
 use sci_port::recording::{Recorder, Trace};
 use sci_port::*;
-use sci_core::{Event, Line, Outcome, Pending, Whole};
 use sci_words::{Kind, MemState, NodeId, Tag};
 use std::fmt::Debug;
 use std::process::Abort;

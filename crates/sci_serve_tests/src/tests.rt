@@ -9,9 +9,8 @@ mod settings;
 mod tracing;
 mod works;
 
-use sci_serve::SimFault;
-use sci_serve::{Form, serve, serve_buffered, serve_script};
 use sci_script::ScriptRefusal;
+use sci_serve::{Form, SimFault, serve, serve_buffered, serve_script};
 use sci_work::WorkRefusal;
 use std::alloc::{AllocError, Global};
 use std::fmt::Debug;

@@ -43,11 +43,7 @@ fn put_escaped<W: Write>(out: &mut W, bytes: &[u8]) -> Result<(), WriteFailed>
 }
 
 /// Writes the bytes in this way; on a failure it has written a front of that, and not all.
-pub fn put_coded<W: Write>(
-    out: &mut W,
-    coding: Coding,
-    bytes: &[u8],
-) -> Result<(), WriteFailed>
+pub fn put_coded<W: Write>(out: &mut W, coding: Coding, bytes: &[u8]) -> Result<(), WriteFailed>
     ensures ok { OnOk result (Appends (W.contents out.old) (W.contents out.new) (coded coding bytes.now)) }
     ensures err { OnErr result ((n : ℕ) × (n < length (coded coding bytes.now)) × Appends (W.contents out.old) (W.contents out.new) (take n (coded coding bytes.now))) }
 {

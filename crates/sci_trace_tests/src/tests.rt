@@ -4,8 +4,8 @@ mod growths;
 mod pages;
 mod walks;
 
-use sci_trace::*;
 use sci_script::{ScriptRefusal, read_script};
+use sci_trace::*;
 use std::alloc::Global;
 use std::io::Write;
 use std::process::Abort;

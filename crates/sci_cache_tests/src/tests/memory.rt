@@ -2,10 +2,10 @@
 //! allocation of its last line refused, and wants it to fail there, and there alone.
 ghost use Rattle.std.specs.Prelude.{◌≡◌};
 
-use super::{done, opened, same};
+use super::{done, made, opened, same};
 use sci_cache::{Node, Request};
 use sci_core::{AnyWords, Line, Whole};
-use sci_words::{LineNo, NodeId};
+use sci_words::LineNo;
 use std::test::Fail;
 
 const ROUNDS: u32 = 2_000;
@@ -55,18 +55,30 @@ fn rounds(
     Some(lines)
 }
 
+/// Each node names a line, and then the first puts line 0 out, whose eviction comes behind the last allocation: how many turns
+/// that took, and the lines.
+fn filled(
+    first: &mut Node,
+    second: &mut Node,
+    wholes: Vec<Whole<AnyWords>>,
+) -> Option<(u32, Vec<Whole<AnyWords>>)>
+    requires { (first.old.lines ≡ 3) × (second.old.lines ≡ 3) }
+    ensures { (first.new.lines ≡ 3) × (second.new.lines ≡ 3) }
+{
+    let (_, _, wholes) = done(first, wholes, Request::Load { line: 0 })?;
+    let load = Request::Load { line: 1 };
+    let (_, _, wholes) = done(second, wholes, load)?;
+    let (turns, _, wholes) = done(first, wholes, load)?;
+    Some((turns, wholes))
+}
+
 #[test]
 fn turns_take_no_memory(rt: HostRuntime) -> Result<(), Fail> {
     // The lines take ten, a node six, and the first line that it names one.
     let wholes = opened(rt.alloc(), 2, 3, Line::ZERO)?;
-    let (zero, one) = NodeId::new(0).zip(NodeId::new(1)).ok_or("no node")?;
-    let mut first = Node::new(rt.alloc(), zero, 3, 1)?;
-    let mut second = Node::new(rt.alloc(), one, 3, 1)?;
-    let load = |line| Request::Load { line };
-    let (_, _, wholes) = done(&mut first, wholes, load(0)).ok_or("no end")?;
-    let (_, _, wholes) = done(&mut second, wholes, load(1)).ok_or("no end")?;
-    // Line 0 is put out: its eviction comes behind the last allocation.
-    let (turns, _, wholes) = done(&mut first, wholes, load(1)).ok_or("no end")?;
+    let mut first = made(rt.alloc(), 0, 1)?;
+    let mut second = made(rt.alloc(), 1, 1)?;
+    let (turns, wholes) = filled(&mut first, &mut second, wholes).ok_or("no end")?;
     same(&rt, &turns, &8);
     let wholes = rounds(&mut first, &mut second, wholes).ok_or("no end")?;
     let evict = Request::Evict { line: 1 };

@@ -4,8 +4,8 @@ ghost use Rattle.sci_coarse.specs.Banks.{IsLine};
 ghost use Rattle.sci_coarse.specs.Seats.{IsSeatOf};
 
 use crate::tests::same;
-use sci_coarse::{CoarseBank, CoarseLine, Seat};
 use sci_cache::Node;
+use sci_coarse::{CoarseBank, CoarseLine, Seat};
 use sci_core::{AnyWords, Line};
 use sci_ops::Answer;
 use sci_port::Bank;

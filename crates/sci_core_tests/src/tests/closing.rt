@@ -84,7 +84,7 @@ struct Shown {
 }
 
 // One event of a node; if there are those nodes.
-#[tactic(auto, using(crate::proofs::Fitting::any_event_fits))]
+#[tactic(auto, using(sci_core::proofs::Fitting::any_event_fits))]
 fn step(whole: &mut Whole<AnyWords>, node: NodeId, other: NodeId, event: Event) -> Option<Shown> {
     if node.get() >= whole.nodes() || other.get() >= whole.nodes() {
         return None;

@@ -2,11 +2,7 @@
 //! With ample memory this test passes. tools/allocations runs it once for each growth of its table, with that one refused, and
 //! the test ends by saying which call answered it.
 use super::{ALONE, LINE, node, run, same};
-use sci_core::Closed;
-use sci_core::Event;
-use sci_core::AnyWords;
-use sci_core::OpenRefusal;
-use sci_core::Whole;
+use sci_core::{AnyWords, Closed, Event, OpenRefusal, Whole};
 use sci_words::{MemState, NodeId, Tag};
 use std::alloc::Global;
 use std::process::Abort;

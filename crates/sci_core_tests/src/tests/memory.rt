@@ -2,11 +2,7 @@
 //! was taken before. tools/allocations runs each of these tests with the allocation of its last line refused, and wants it to
 //! fail there, and there alone.
 use super::{ALONE, LINE, node, run, same, step};
-use sci_core::Event;
-use sci_core::AnyWords;
-use sci_core::Line;
-use sci_core::Outcome;
-use sci_core::Whole;
+use sci_core::{AnyWords, Event, Line, Outcome, Whole};
 use sci_words::{NodeId, Tag};
 
 /// How many nodes work on a line.

@@ -4,8 +4,8 @@ ghost use Rattle.sci_fine.specs.Banks.{IsLine};
 ghost use Rattle.sci_fine.specs.Seats.{IsSeatOf};
 
 use crate::tests::same;
-use sci_fine::{FineBank, FineLine, Seat};
 use sci_core::{AnyWords, Line};
+use sci_fine::{FineBank, FineLine, Seat};
 use sci_words::LineNo;
 use std::alloc::Global;
 use std::test::Fail;

@@ -2,8 +2,8 @@
 //! this test passes. tools/allocations runs it once for each growth of its table, with that one refused, and the test ends by
 //! saying which call answered it.
 use super::{HOME, OPENING, is_idle, same};
-use sci_fine::{FineLine, FinishRefusal, Seat};
 use sci_core::{AnyWords, Closed, OpenRefusal};
+use sci_fine::{FineLine, FinishRefusal, Seat};
 use std::alloc::Global;
 use std::process::Abort;
 use std::test::Fail;

@@ -5,8 +5,8 @@ ghost use Rattle.sci_fine.specs.Seats.{IsSeatOf};
 
 use super::banks::pair_of;
 use super::{opened, same, turn};
-use sci_fine::{FineBank, FineLine, FinePort, Seat};
 use sci_core::{AnyWords, Event, Line, Outcome};
+use sci_fine::{FineBank, FineLine, FinePort, Seat};
 use sci_ops::{Op, Turn};
 use sci_port::{At, Bank, Port};
 use sci_words::LineNo;

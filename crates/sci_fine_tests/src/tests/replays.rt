@@ -6,8 +6,8 @@ mod crowds;
 mod rows;
 
 use super::{closed, opened, same};
-use sci_fine::{FineLine, FinePort, Seat};
 use sci_core::{AnyWords, Closed, Event, Line, Outcome, Whole};
+use sci_fine::{FineLine, FinePort, Seat};
 use sci_port::Port;
 use sci_words::NodeId;
 use std::alloc::Global;

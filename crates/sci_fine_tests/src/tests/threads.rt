@@ -3,8 +3,8 @@ ghost use Rattle.std.specs.Prelude.{◌≡◌, All};
 ghost use Rattle.sci_fine.specs.Seats.{IsSeatOf};
 
 use super::{closed, finish, opened, same};
-use sci_fine::{FineLine, Seat};
 use sci_core::{AnyWords, Closed, Line};
+use sci_fine::{FineLine, Seat};
 use sci_ops::{Answer, Op};
 use sci_words::Kind;
 use std::process::Abort;

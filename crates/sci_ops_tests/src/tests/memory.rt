@@ -2,9 +2,8 @@
 //! its last line refused, and wants it to fail there, and there alone.
 use super::replays::turn;
 use super::{answers_alone, opened};
-use sci_ops::Turn;
-use sci_ops::Op;
 use sci_core::{AnyWords, Line, Whole};
+use sci_ops::{Op, Turn};
 use sci_port::recording::Trace;
 use sci_words::{NodeId, mem_name, name, read_mem, read_tag, write_mem, write_tag};
 use std::marker::Brand;

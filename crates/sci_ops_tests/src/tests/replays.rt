@@ -1,8 +1,7 @@
 //! A run of several nodes, whose recorded events are done once more on another line.
-use sci_ops::{Answer, Turn};
-use sci_ops::Op;
-use crate::tests::same;
+use super::same;
 use sci_core::{AnyWords, Event, Line, Whole};
+use sci_ops::{Answer, Op, Turn};
 use sci_port::Solo;
 use sci_port::recording::{Recorder, Trace};
 use sci_words::NodeId;

@@ -5,9 +5,9 @@ ghost use Rattle.sci_core.specs.declared.keeps.AnyWords.{AnyWords};
 ghost use Rattle.sci_port.specs.Banks.{AreLinesOf};
 
 use super::{LINE, fresh, same};
+use sci_core::{Event, Outcome, Whole};
 use sci_port::recording::{Recorder, Trace};
 use sci_port::{AnyWords, At, Bank, Port, SoloBank};
-use sci_core::{Event, Outcome, Whole};
 use sci_words::{LineNo, NodeId};
 use std::alloc::Global;
 

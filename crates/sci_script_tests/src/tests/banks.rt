@@ -5,11 +5,11 @@ ghost use Rattle.sci_script.specs.Dealt.{ArePiled, AreShared};
 
 use super::rows::ROWS;
 use super::shared::{Shared, hand_of, opened};
-use sci_script::{BankDesk, Script, ScriptRefusal, read_script};
 use sci_coarse::{CoarseBank, CoarseLine};
 use sci_core::AnyWords;
 use sci_fine::{FineBank, FineLine};
 use sci_port::Bank;
+use sci_script::{BankDesk, Script, ScriptRefusal, read_script};
 use std::alloc::Global;
 use std::process::Abort;
 use std::test::Fail;

@@ -1,11 +1,10 @@
 //! A desk whose words are not to be had, or whose lists or calls don't end; and one whose words and ends come late.
 ghost use Rattle.std.specs.Prelude.{◌≡◌};
 
-use sci_script::Size;
 use crate::tests::same;
-use sci_script::{Desk, ScriptRefusal, read_script};
 use sci_cache::Request;
 use sci_ops::{Answer, Turn};
+use sci_script::{Desk, ScriptRefusal, Size, read_script};
 use sci_words::{Kind, LineNo, Mem, MemState, NodeId, Tag};
 use std::alloc::{AllocError, Global};
 use std::test::Fail;

@@ -3,10 +3,10 @@
 ghost use Rattle.std.specs.Prelude.{◌≡◌, ◌<◌, false, None};
 ghost use Rattle.sci_cache.specs.Requests.{line_of, has_bad_word};
 
-use sci_script::running::is_end;
 use crate::tests::same;
-use sci_script::{Desk, Script, WholeDesk, put, read_script};
 use sci_cache::Request;
+use sci_script::running::is_end;
+use sci_script::{Desk, Script, WholeDesk, put, read_script};
 use sci_words::{LineNo, NodeId};
 use std::io;
 use std::io::{ErrorKind, Write};

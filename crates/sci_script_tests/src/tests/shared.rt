@@ -2,10 +2,10 @@
 ghost use Rattle.std.specs.Prelude.{◌≡◌, ℕ, length, vec_items, IfSome};
 ghost use Rattle.sci_script.specs.Dealt.{AreDealt, ArePiled, AreSeats, AreShared};
 
-use sci_script::Script;
 use sci_coarse::CoarseLine;
 use sci_core::{AnyWords, Line};
 use sci_fine::FineLine;
+use sci_script::Script;
 use sci_words::LineNo;
 use std::alloc::Global;
 

@@ -5,9 +5,9 @@ ghost use Rattle.sci_port.specs.Owes.{Owes};
 
 use super::banks::run_over;
 use super::node;
-use sci_script::{ScriptRefusal, read_script};
 use sci_core::{AnyWords, Event, Outcome, Pending, Stage};
 use sci_port::Bank;
+use sci_script::{ScriptRefusal, read_script};
 use sci_words::{LineNo, Mem, NodeId, Tag};
 use std::test::Fail;
 

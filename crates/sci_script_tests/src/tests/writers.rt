@@ -2,8 +2,8 @@
 ghost use Rattle.std.specs.Prelude.{Some};
 
 use super::{SHARED, SHARERS, node, run_text, same, tag};
-use sci_script::{ScriptRefusal, WholeDesk, list_text, read_script, tag_text};
 use sci_core::Line;
+use sci_script::{ScriptRefusal, WholeDesk, list_text, read_script, tag_text};
 use sci_words::{Kind, Mem, MemState};
 use std::io;
 use std::io::{ErrorKind, Write};

@@ -1,8 +1,7 @@
 //! Dumps that `scisim check` reads, and what it writes.
 
 use super::{Broken, Narrow, OneByte, same};
-use sci_serve::serve_check;
-use sci_serve::SimFault;
+use sci_serve::{SimFault, serve_check};
 use std::alloc::Global;
 use std::test::Fail;
 

@@ -1,9 +1,7 @@
 //! A reader that fails once, and would then go on: the input can't be read.
 use super::runs::ALONE;
 use super::{OneByte, SHARERS};
-use sci_serve::SimFault;
-use sci_serve::serve_run;
-use sci_serve::serve_script;
+use sci_serve::{SimFault, serve_run, serve_script};
 use std::io;
 use std::io::{ErrorKind, Read};
 

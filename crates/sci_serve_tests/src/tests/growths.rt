@@ -7,13 +7,11 @@ ghost use Rattle.std.specs.Prelude.{None};
 
 use super::checks::{LAWFUL, SHARED};
 use super::runs::{ALONE, ALONE_COUNTED};
-use sci_serve::serve_check;
-use sci_serve::SimFault;
-use sci_serve::serve_run;
-use sci_serve::serve_trace;
-use sci_serve::{Settings, SettingsRefusal, read_settings};
 use crate::tests::same;
 use sci_script::ScriptRefusal;
+use sci_serve::{
+    Settings, SettingsRefusal, SimFault, read_settings, serve_check, serve_run, serve_trace,
+};
 use sci_work::WorkRefusal;
 use std::alloc::Global;
 use std::io;

@@ -1,9 +1,7 @@
 //! Settings that `scisim run` runs, and what it writes.
 
 use super::{Broken, Narrow, OneByte, same};
-use sci_serve::serve_check;
-use sci_serve::SimFault;
-use sci_serve::serve_run;
+use sci_serve::{SimFault, serve_check, serve_run};
 use sci_work::WorkRefusal;
 use std::alloc::{AllocError, Global};
 use std::process::Abort;

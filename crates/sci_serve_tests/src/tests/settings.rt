@@ -1,7 +1,7 @@
 //! Settings that are read, and settings that are refused.
 
-use sci_serve::{Settings, SettingsRefusal, read_settings};
 use crate::tests::same;
+use sci_serve::{Settings, SettingsRefusal, read_settings};
 use std::alloc::{AllocError, Global};
 use std::process::Abort;
 use std::test::Fail;

@@ -1,8 +1,7 @@
 //! The command `trace`: what it says of a script's turns, and that it does else what `script` does.
 
 use super::{SHARERS, same};
-use sci_serve::SimFault;
-use sci_serve::{serve_script, serve_trace};
+use sci_serve::{SimFault, serve_script, serve_trace};
 use std::alloc::{AllocError, Global};
 use std::test::Fail;
 

@@ -4,9 +4,9 @@
 //! answers Ok.
 ghost use Rattle.std.specs.Prelude.{None};
 
+use sci_script::{Script, ScriptRefusal, read_script};
 use sci_trace::parts::NoteText;
 use sci_trace::{TraceDesk, trace};
-use sci_script::{Script, ScriptRefusal, read_script};
 use std::alloc::Global;
 use std::io;
 use std::io::Write;

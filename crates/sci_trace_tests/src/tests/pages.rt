@@ -1,9 +1,8 @@
 //! Pages: what is escaped, and what stands round the trace.
 
-use sci_trace::parts::{Coding, put_coded};
-use sci_trace::parts::{END, FRONT};
-use sci_trace::{TraceDesk, draw, trace};
 use sci_script::{ScriptRefusal, read_script};
+use sci_trace::parts::{Coding, END, FRONT, put_coded};
+use sci_trace::{TraceDesk, draw, trace};
 use std::alloc::Global;
 use std::process::Abort;
 use std::test::Fail;

@@ -5,11 +5,11 @@ ghost use Rattle.sci_work.specs.Ring.{FitsRing};
 
 use crate::tests::rings::opened;
 use crate::tests::same;
-use sci_work::{Gate, RingFact, WorkRefusal, consume, produce};
 use sci_cache::{Node, NodeRefusal};
 use sci_ops::Answer;
 use sci_port::Bank;
 use sci_words::NodeId;
+use sci_work::{Gate, RingFact, WorkRefusal, consume, produce};
 use std::alloc::Global;
 use std::sync::Wait;
 use std::sync::atomic::{AtomicBool, AtomicU64, Ordering};

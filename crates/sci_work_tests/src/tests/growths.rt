@@ -3,9 +3,9 @@
 //! with that one refused, and the test ends by saying which call answered it.
 use crate::tests::rings::opened;
 use crate::tests::same;
-use sci_work::{OpenGate, RingFact, WorkRefusal, consume, count, produce, ring, stencil};
 use sci_cache::Node;
 use sci_words::NodeId;
+use sci_work::{OpenGate, RingFact, WorkRefusal, consume, count, produce, ring, stencil};
 use std::alloc::Global;
 use std::process::Abort;
 use std::sync::Wait;

@@ -1,12 +1,10 @@
 //! Of two nodes that both refuse, in either order, the lower one's refusal is the answer.
-use sci_work::parts::Program;
-use sci_work::parts::dealt;
-use sci_work::parts::run_all;
 use crate::tests::same;
-use sci_work::{Gate, WorkRefusal};
 use crossbeam_utils::Backoff;
 use sci_core::{AnyWords, Line};
 use sci_fine::FineLine;
+use sci_work::parts::{Program, dealt, run_all};
+use sci_work::{Gate, WorkRefusal};
 use std::alloc::Global;
 use std::slice;
 use std::sync::Wait;

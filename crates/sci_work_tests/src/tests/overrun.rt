@@ -1,12 +1,9 @@
 //! A node of a stencil that finds its neighbour's tile at a later phase than the one awaited.
 ghost use Rattle.std.specs.Prelude.{◌≡◌, ◌*◌, ◌<◌, ◌≤◌, length};
 
-use sci_work::parts::opened;
-use sci_work::parts::Program;
-use sci_work::parts::run_all;
-use sci_work::parts::Work;
 use crate::tests::same;
 use crate::tests::threads::Holds;
+use sci_work::parts::{Program, Work, opened, run_all};
 use sci_work::{OpenGate, StencilFact, WorkRefusal};
 use std::alloc::Global;
 use std::sync::Wait;

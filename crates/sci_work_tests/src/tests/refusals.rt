@@ -1,6 +1,6 @@
 //! The numbers of the refusals.
-use sci_work::WorkRefusal;
 use crate::tests::same;
+use sci_work::WorkRefusal;
 
 #[test]
 fn refusals_have_their_numbers(rt: HostRuntime) {

@@ -4,11 +4,11 @@ ghost use Rattle.sci_work.specs.Ring.{FitsRing};
 
 use crate::tests::meeting::MeetingGate;
 use crate::tests::same;
-use sci_work::{Gate, OpenGate, RingFact, WorkRefusal, consume, produce};
 use sci_cache::Node;
 use sci_core::{Line, Whole};
 use sci_port::SoloBank;
 use sci_words::NodeId;
+use sci_work::{Gate, OpenGate, RingFact, WorkRefusal, consume, produce};
 use std::alloc::Global;
 use std::sync::Wait;
 use std::sync::atomic::{AtomicBool, Ordering};

@@ -4,9 +4,9 @@ ghost use Rattle.sci_core.specs.Closed.{IsExactClosed};
 
 use crate::tests::meeting::MeetingGate;
 use crate::tests::same;
+use sci_core::Closed;
 use sci_work::parts::value_of;
 use sci_work::{Gate, OpenGate, WorkRefusal, stencil};
-use sci_core::Closed;
 use std::alloc::{AllocError, Global};
 use std::test::Fail;
 

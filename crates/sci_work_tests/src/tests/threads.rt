@@ -1,8 +1,8 @@
 //! What the nodes of a workload do in threads of their own: each asks for its calls, and works on all its tiles.
 use crate::tests::doors::Hears;
 use crate::tests::same;
-use sci_work::{Gate, OpenGate, count, ring, stencil};
 use sci_words::Kind;
+use sci_work::{Gate, OpenGate, count, ring, stencil};
 use std::sync::atomic::{AtomicU64, Ordering};
 use std::test::Fail;
 

@@ -1,8 +1,8 @@
 //! Nodes whose calls take turns by a gate: a call is told to have ended once it has, and not before.
 use crate::tests::same;
-use sci_work::{Gate, count, ring};
 use crossbeam_utils::Backoff;
 use sci_words::Kind;
+use sci_work::{Gate, count, ring};
 use std::sync::atomic::{AtomicU64, Ordering};
 use std::test::Fail;
 

@@ -1,4 +1,4 @@
-use Rattle.std.proofs.Common.{◌≡◌, ℕ, ◌<◌, get_or}
+use Rattle.std.proofs.Common.{ℕ, ◌<◌, get_or}
 use Rattle.sci_core.specs.declared.keeps.AnyWords.{AnyWords}
 use Rattle.sci_port.specs.Banks.{IsLineOf}
 use Rattle.sci_cache_tests.proofs.tests.are_lines_of.Given as goal
