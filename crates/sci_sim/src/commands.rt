@@ -202,7 +202,7 @@ fn draw<'a>(rt: &impl AllocGlobal) -> Result<Command<'a>, AllocError> {
 fn run<'a>(rt: &impl AllocGlobal) -> Result<Command<'a>, AllocError> {
     let about = "Runs a workload, each node in a thread of its own, and prints its result";
     let file = "the settings; without it standard input is read";
-    reader_of(rt, "run", about, SETTINGS, file)
+    reader_of(rt, "run", about, SETTINGS, file)?.arg(progress(rt))
 }
 
 fn check<'a>(rt: &impl AllocGlobal) -> Result<Command<'a>, AllocError> {
@@ -211,14 +211,28 @@ fn check<'a>(rt: &impl AllocGlobal) -> Result<Command<'a>, AllocError> {
     reader_of(rt, "check", about, DUMPS, file)
 }
 
-/// Adds the commands: those that run a script, the one that runs a workload, and the one that checks a dump.
-fn with_all<'a>(rt: &impl AllocGlobal, program: Command<'a>) -> Result<Command<'a>, AllocError> {
-    program
-        .subcommand(script(rt)?)?
-        .subcommand(trace(rt)?)?
-        .subcommand(draw(rt)?)?
-        .subcommand(run(rt)?.arg(progress(rt))?)?
-        .subcommand(check(rt)?)
+/// The program with one more command.
+fn with<'a>(
+    program: Command<'a>,
+    command: Result<Command<'a>, AllocError>,
+) -> Result<Command<'a>, AllocError> {
+    program.subcommand(command?)
+}
+
+/// Adds the commands that run a script.
+fn with_scripts<'a>(
+    rt: &impl AllocGlobal,
+    program: Command<'a>,
+) -> Result<Command<'a>, AllocError> {
+    let program = with(program, script(rt))?;
+    let program = with(program, trace(rt))?;
+    with(program, draw(rt))
+}
+
+/// Adds the commands that run a workload, and check a dump.
+fn with_works<'a>(rt: &impl AllocGlobal, program: Command<'a>) -> Result<Command<'a>, AllocError> {
+    let program = with(program, run(rt))?;
+    with(program, check(rt))
 }
 
 /// The program's commands.
@@ -229,5 +243,6 @@ pub fn commands<'a>(rt: &impl AllocGlobal) -> Result<Command<'a>, AllocError> {
         .about(ABOUT)
         .after_help(STATUSES)
         .subcommand_required(true);
-    with_all(rt, program)
+    let program = with_scripts(rt, program)?;
+    with_works(rt, program)
 }
