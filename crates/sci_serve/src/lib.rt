@@ -21,5 +21,4 @@ pub use progress::Progress;
 pub use running::{serve_run, serve_run_by};
 pub use scripts::{Form, serve, serve_buffered, serve_draw, serve_script, serve_trace};
 pub use settings::{Numbers, Settings, SettingsRefusal, read_settings};
-pub use verdicts::verdict_text;
 pub use works::{cells_text, count_text, items_text};

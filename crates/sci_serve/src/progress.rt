@@ -16,6 +16,7 @@ pub struct Progress<'c, C> {
 }
 
 impl<'c, C> Progress<'c, C> {
+    /// A gate that tells this console, from 0 calls on.
     pub fn new(console: &'c C) -> Progress<'c, C> {
         Progress {
             console,
