@@ -39,7 +39,7 @@ pub const ALONE: Tag = Tag {
 };
 
 /// Both are the same. Each `assert_eq!` is proved by itself; this one is proved once.
-pub fn same<T: Debug + PartialEq>(rt: &impl Abort, left: &T, right: &T) {
+pub(crate) fn same<T: Debug + PartialEq>(rt: &impl Abort, left: &T, right: &T) {
     assert_eq!(rt; left, right);
 }
 

@@ -146,7 +146,7 @@ fn replay_all(
 }
 
 // A line of so many nodes with this opening, and its seats.
-pub fn opened(
+pub(crate) fn opened(
     alloc: Global,
     nodes: u16,
     opening: Line,

@@ -24,7 +24,7 @@ pub type Ops = [Op; 4];
 
 // One turn, with its events recorded. Some(true): the operation has ended.
 #[tactic(auto, using(sci_ops::proofs::Storing::any_store_fits))]
-pub fn turn(
+pub(crate) fn turn(
     whole: &mut Whole<AnyWords>,
     trace: &mut Trace,
     node: NodeId,
@@ -67,7 +67,7 @@ fn carry_out(
 }
 
 /// Carries the nodes' commands out, with the events recorded. None: a node is not there.
-pub fn record(
+pub(crate) fn record(
     whole: &mut Whole<AnyWords>,
     trace: &mut Trace,
     ops: &mut Ops,

@@ -31,7 +31,7 @@ fn is_bank<B: Bank>(script: &Script, bank: &B, number: u16) -> bool
 }
 
 /// Whether they are the banks of the script's nodes, in order.
-pub fn are_banks<B: Bank>(script: &Script, banks: &[B]) -> bool
+pub(crate) fn are_banks<B: Bank>(script: &Script, banks: &[B]) -> bool
     requires { (b : B) (line : ℕ) (words : List ℕ) → B.Keep.fits (B.keep b) line words }
     ensures { IsTrue result → AreBanksOf B.way B.nodes_on (λ b line words. B.Keep.fits (B.keep b) line words) script.now.size banks.now }
 {
@@ -47,7 +47,7 @@ pub fn are_banks<B: Bank>(script: &Script, banks: &[B]) -> bool
 }
 
 /// Runs a script over these banks. None: they are not its banks, before it or behind it, or there is no memory.
-pub fn run_over<B: Bank + Drop>(
+pub(crate) fn run_over<B: Bank + Drop>(
     alloc: Global,
     script: &Script,
     banks: Vec<B>,
@@ -66,7 +66,7 @@ pub fn run_over<B: Bank + Drop>(
 }
 
 /// The banks of the script's nodes over these lines. None: there is no memory, or they make no banks.
-pub fn coarse_banks<'a>(
+pub(crate) fn coarse_banks<'a>(
     alloc: Global,
     script: &Script,
     lines: &'a [CoarseLine<AnyWords>],
@@ -90,7 +90,7 @@ pub fn coarse_banks<'a>(
 }
 
 /// The banks of the script's nodes over these lines. None: there is no memory, or they make no banks.
-pub fn fine_banks<'a>(
+pub(crate) fn fine_banks<'a>(
     alloc: Global,
     script: &Script,
     lines: &'a [FineLine<AnyWords>],

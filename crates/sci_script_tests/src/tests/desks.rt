@@ -1,13 +1,23 @@
 //! A desk whose words are not to be had, or whose lists or calls don't end; and one whose words and ends come late.
 ghost use Rattle.std.specs.Prelude.{◌≡◌};
 
-use crate::tests::same;
+use super::same;
 use sci_cache::Request;
 use sci_ops::{Answer, Turn};
-use sci_script::{Desk, ScriptRefusal, Size, read_script};
+use sci_script::{Desk, Script, ScriptRefusal, Size, read_script};
 use sci_words::{Kind, LineNo, Mem, MemState, NodeId, Tag};
 use std::alloc::{AllocError, Global};
 use std::test::Fail;
+
+/// How many nodes and lines the script's memory has.
+fn size_of(script: &Script) -> Size
+    ensures { result ≡ script.now.size }
+{
+    Size {
+        nodes: script.nodes(),
+        lines: script.lines(),
+    }
+}
 
 /// Each tag that it gives names its own node behind it.
 #[derive(Drop)]
@@ -78,7 +88,7 @@ fn what_is_not_to_be_had(rt: HostRuntime) -> Result<(), Fail> {
     ] {
         let script = read_script(rt.alloc(), text.as_bytes())?;
         let mut odd = Odd {
-            size: script.size,
+            size: size_of(&script),
             has_mem,
             has_tags,
             has_call: false,
@@ -182,7 +192,7 @@ fn a_hundred_thousand_tries(rt: HostRuntime) -> Result<(), Fail> {
             (100_000, Err(ScriptRefusal::NotDone(line)), ""),
         ] {
             let mut late = Late {
-                size: script.size,
+                size: size_of(&script),
                 left,
                 has_call: false,
             };

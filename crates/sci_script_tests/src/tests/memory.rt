@@ -3,9 +3,9 @@
 ghost use Rattle.std.specs.Prelude.{◌≡◌, ◌<◌, false, None};
 ghost use Rattle.sci_cache.specs.Requests.{line_of, has_bad_word};
 
-use crate::tests::same;
+use super::same;
 use sci_cache::Request;
-use sci_script::running::is_end;
+use sci_ops::Turn;
 use sci_script::{Desk, Script, WholeDesk, put, read_script};
 use sci_words::{LineNo, NodeId};
 use std::io;
@@ -105,7 +105,7 @@ fn turns<D: Desk>(script: &Script, desk: &mut D, count: u32) -> Option<u32>
         }
         if !desk.open(node) {
             desk.begin(node, request(chance >> 20)).ok()?;
-        } else if is_end(desk.turn(node)) {
+        } else if matches!(desk.turn(node), Turn::Done(_)) {
             ended = ended.saturating_add(1);
         }
         let _ = (desk.mem(LINE)?, desk.tag(LINE, node)?);

@@ -77,7 +77,7 @@ impl Shared for FineLine<AnyWords> {
 }
 
 /// The lines of a script as it opens them, and the seats of each, in a pile for each line.
-pub fn opened<L: Shared + Drop>(
+pub(crate) fn opened<L: Shared + Drop>(
     alloc: Global,
     script: &Script,
 ) -> Option<(Vec<L>, Vec<Vec<L::Seat>>)>
@@ -100,7 +100,7 @@ pub fn opened<L: Shared + Drop>(
 }
 
 /// The last node that still has its seats: its seat at each line. None: there is no memory, or a pile has no seat.
-pub fn hand_of<L: Shared>(
+pub(crate) fn hand_of<L: Shared>(
     alloc: Global,
     lines: &[L],
     piles: &mut Vec<Vec<L::Seat>>,

@@ -87,7 +87,7 @@ impl Bank for Unheard {
 }
 
 /// A bank of so many lines.
-pub fn unheard_bank(lines: u16) -> Unheard {
+pub(crate) fn unheard_bank(lines: u16) -> Unheard {
     Unheard {
         lines,
         step: Pending::Idle,
