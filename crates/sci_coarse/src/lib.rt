@@ -12,6 +12,8 @@ mod regions;
 mod seats;
 mod standing;
 mod stepping;
+#[cfg(test)]
+mod tests;
 mod views;
 
 pub use bank::{CoarseBank, SeatOfAnother};

@@ -1,6 +1,7 @@
 //! Steps and runs worked out by hand from the table of exchanges.
-ghost use Rattle.std.specs.Prelude.{◌≡◌, ◌<◌, All};
-ghost use Rattle.sci_core.specs.Whole.{nodes_of};
+ghost use Rattle.std.specs.Prelude.{◌≡◌, ℕ, ◌<◌, All, IfOk};
+ghost use Rattle.sci_core.specs.declared.pending.Pending.TheVariants.{Idle};
+ghost use Rattle.sci_core.specs.Whole.{nodes_of, state_of};
 
 mod answers;
 mod closing;
@@ -9,7 +10,7 @@ mod memory;
 mod texts;
 
 use sci_core::*;
-use sci_words::{Kind, MemState, NodeId, Tag};
+use sci_words::{Kind, LineNo, MemState, NodeId, Tag};
 use std::alloc::Global;
 use std::fmt::Debug;
 use std::process::Abort;
@@ -41,6 +42,33 @@ pub const ALONE: Tag = Tag {
 /// Both are the same. Each `assert_eq!` is proved by itself; this one is proved once.
 pub(crate) fn same<T: Debug + PartialEq>(rt: &impl Abort, left: &T, right: &T) {
     assert_eq!(rt; left, right);
+}
+
+/// Both are the same. The message names the row.
+fn same_at<R: Debug, T: Debug + PartialEq>(rt: &impl Abort, row: &R, left: &T, right: &T) {
+    assert_eq!(rt; left, right, "at {row:?}");
+}
+
+/// A line that nobody has used.
+fn opened(
+    alloc: Global,
+    nodes: u16,
+    number: LineNo,
+    line: Line,
+) -> Result<Whole<AnyWords>, OpenRefusal>
+    ensures { IfOk result (λ w. (i : ℕ) → i < nodes_of w → (state_of w).steps i ≡ Idle) }
+{
+    Whole::open(alloc, nodes, number, line, AnyWords)
+}
+
+/// The numbers of the nodes on the line's list, from its head.
+fn numbers(alloc: Global, whole: &Whole<AnyWords>) -> Result<Vec<u16>, Fail> {
+    let numbers = whole
+        .chain(alloc)?
+        .iter()
+        .map(|node| node.get())
+        .collect(alloc)?;
+    Ok(numbers)
 }
 
 /// One event of a node, if there is that node.
@@ -75,13 +103,13 @@ fn opens_with_1_to_64_nodes(rt: HostRuntime) -> Result<(), Fail> {
         let opened = Whole::open(rt.alloc(), nodes, 7, LINE, AnyWords);
         match opened {
             Ok(whole) => {
-                assert!(rt; !refused, "with {nodes}");
+                same_at(&rt, &nodes, &refused, &false);
                 same(&rt, &whole.nodes(), &nodes);
                 same(&rt, &whole.number(), &7);
                 same(&rt, &whole.mem().state, &MemState::Home);
             }
             Err(refusal) => {
-                assert!(rt; refused, "with {nodes}");
+                same_at(&rt, &nodes, &refused, &true);
                 same(&rt, &refusal.number(), &6);
             }
         }
@@ -89,27 +117,40 @@ fn opens_with_1_to_64_nodes(rt: HostRuntime) -> Result<(), Fail> {
     Ok(())
 }
 
+/// One node after the other reads the line, and is its list's new head.
+fn all_read(rt: &impl Abort, whole: &mut Whole<AnyWords>, nodes: u16) {
+    let mut head = None;
+    for number in 0..nodes {
+        for event in [Event::Queue(head), Event::PrependValid, Event::ReturnMemory] {
+            let outcome = step(whole, number, event);
+            let is_done = matches!(outcome, Some(Ok(Outcome::Done(_))));
+            same_at(rt, &nodes, &is_done, &true);
+        }
+        head = NodeId::new(number);
+    }
+}
+
+/// The line's list has all nodes, the last one first.
+fn lists_all(
+    rt: &impl Abort,
+    alloc: Global,
+    whole: &Whole<AnyWords>,
+    nodes: u16,
+) -> Result<(), Fail> {
+    let chain = numbers(alloc, whole)?;
+    let want: Vec<u16> = (0..nodes).rev().collect(alloc)?;
+    same_at(rt, &nodes, &chain.as_slice(), &want.as_slice());
+    Ok(())
+}
+
 #[test]
 fn closes_and_lists_1_to_64_nodes(rt: HostRuntime) -> Result<(), Fail> {
     for nodes in 1..65 {
-        let mut whole = Whole::open(rt.alloc(), nodes, 7, LINE, AnyWords)?;
+        let mut whole = opened(rt.alloc(), nodes, 7, LINE)?;
         let closed = whole.closed(rt.alloc())?;
         same(&rt, &closed.tags.len(), &usize::from(nodes));
-        let mut head = None;
-        for number in 0..nodes {
-            for event in [Event::Queue(head), Event::PrependValid, Event::ReturnMemory] {
-                let outcome = step(&mut whole, number, event);
-                assert!(rt; matches!(outcome, Some(Ok(Outcome::Done(_)))), "of {nodes}");
-            }
-            head = NodeId::new(number);
-        }
-        let chain: Vec<u16> = whole
-            .chain(rt.alloc())?
-            .iter()
-            .map(|node| node.get())
-            .collect(rt.alloc())?;
-        let want: Vec<u16> = (0..nodes).rev().collect(rt.alloc())?;
-        same(&rt, &(nodes, chain.as_slice()), &(nodes, want.as_slice()));
+        all_read(&rt, &mut whole, nodes);
+        lists_all(&rt, rt.alloc(), &whole, nodes)?;
     }
     Ok(())
 }
@@ -127,6 +168,16 @@ fn two_read(zero: NodeId, one: NodeId, alone: Tag) -> [(NodeId, Event); 7] {
     ]
 }
 
+// What further events come to, after those.
+fn then() -> [(u16, Event, Result<Outcome, NotInTurn>); 4] {
+    [
+        (0, Event::FreshToGone, Ok(Outcome::Missed(0x111))),
+        (1, Event::Settle, Err(NotInTurn)),
+        (0, Event::Unconverted, Ok(Outcome::Done(None))),
+        (0, Event::Look, Ok(Outcome::Done(None))),
+    ]
+}
+
 #[test]
 fn runs_two_readers(rt: HostRuntime) -> Result<(), Fail> {
     let mut whole = Whole::open(rt.alloc(), 2, 0, LINE, AnyWords)?;
@@ -135,18 +186,9 @@ fn runs_two_readers(rt: HostRuntime) -> Result<(), Fail> {
         &run(&mut whole, &two_read(node(0), node(1), ALONE)),
         &Some(Ok(7)),
     );
-    let chain: Vec<u16> = whole
-        .chain(rt.alloc())?
-        .iter()
-        .map(|node| node.get())
-        .collect(rt.alloc())?;
+    let chain = numbers(rt.alloc(), &whole)?;
     same(&rt, &chain.as_slice(), &[1, 0].as_slice());
-    for (number, event, outcome) in [
-        (0, Event::FreshToGone, Ok(Outcome::Missed(0x111))),
-        (1, Event::Settle, Err(NotInTurn)),
-        (0, Event::Unconverted, Ok(Outcome::Done(None))),
-        (0, Event::Look, Ok(Outcome::Done(None))),
-    ] {
+    for (number, event, outcome) in then() {
         same(&rt, &step(&mut whole, number, event), &Some(outcome));
     }
     Ok(())

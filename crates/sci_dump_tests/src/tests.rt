@@ -86,6 +86,16 @@ fn same<T: Debug + PartialEq>(rt: &impl Abort, left: &T, right: &T) {
     assert_eq!(rt; left, right);
 }
 
+/// Both are the same, and otherwise the message tells the row.
+fn same_at<Row: Debug, T: Debug + PartialEq>(rt: &impl Abort, row: &Row, left: &T, right: &T) {
+    assert_eq!(rt; left, right, "at {row:?}");
+}
+
+/// This is so, and otherwise the message tells the row.
+fn is_so_at<Row: Debug>(rt: &impl Abort, row: &Row, is_so: bool) {
+    assert!(rt; is_so, "at {row:?}");
+}
+
 // The text of a dump.
 fn text_of(alloc: Global, lines: &Dump) -> Result<String, AllocError> {
     dump(alloc, &lines.lines)
@@ -99,6 +109,19 @@ fn fault_of(alloc: Global, text: &[u8]) -> Option<u64> {
     }
 }
 
+// The line of the fault that a text has with one change.
+fn fault_with(alloc: Global, text: &str, old: &str, new: &str) -> Result<Option<u64>, AllocError> {
+    let changed = text.replacen(alloc, old, new, 1)?;
+    Ok(fault_of(alloc, changed.as_bytes()))
+}
+
+// The verdict of a dump with one change.
+fn verdict_with(alloc: Global, text: &str, old: &str, new: &str) -> Result<Verdict, Fail> {
+    let changed = text.replacen(alloc, old, new, 1)?;
+    let read = read_dump(alloc, changed.as_bytes())?;
+    Ok(check(&read))
+}
+
 // The line of text behind a byte of this line.
 fn line_behind(line: u64, byte: u8) -> u64 {
     if byte == b'\n' {
@@ -108,13 +131,23 @@ fn line_behind(line: u64, byte: u8) -> u64 {
     }
 }
 
+// SHARED with one change has this verdict, and is written as it was read.
+fn judges(
+    rt: &impl Abort,
+    alloc: Global,
+    (old, new, verdict): &(&str, &str, Verdict),
+) -> Result<(), Fail> {
+    let text = SHARED.replacen(alloc, old, new, 1)?;
+    let read = read_dump(alloc, text.as_bytes())?;
+    same_at(rt, new, &check(&read), verdict);
+    same(rt, &text_of(alloc, &read)?, &text);
+    Ok(())
+}
+
 #[test]
 fn verdicts(rt: HostRuntime) -> Result<(), Fail> {
-    for (old, new, verdict) in &CHANGED {
-        let text = SHARED.replacen(rt.alloc(), old, new, 1)?;
-        let read = read_dump(rt.alloc(), text.as_bytes())?;
-        assert_eq!(rt; check(&read), *verdict, "with {new}");
-        same(&rt, &text_of(rt.alloc(), &read)?, &text);
+    for row in &CHANGED {
+        judges(&rt, rt.alloc(), row)?;
     }
     Ok(())
 }
@@ -126,22 +159,27 @@ const TWO_LINES: &str = "scidump 1 2 2\n\
     tag 1 1 0000000000ffff03 1 18446744073709551615 0 0 0 0 0 0 0\n\
     end\n";
 
+// TWO_LINES is a lawful dump of two nodes, and is written as it was read.
+fn two_lines_are_lawful(rt: &impl Abort, alloc: Global) -> Result<(), Fail> {
+    let read = read_dump(alloc, TWO_LINES.as_bytes())?;
+    same(rt, &check(&read), &Verdict::Lawful);
+    same(rt, &read.nodes, &2);
+    assert!(rt; text_of(alloc, &read)?.as_str() == TWO_LINES);
+    Ok(())
+}
+
 #[test]
 fn the_first_line_that_breaks_a_rule(rt: HostRuntime) -> Result<(), Fail> {
-    let read = read_dump(rt.alloc(), TWO_LINES.as_bytes())?;
-    same(&rt, &check(&read), &Verdict::Lawful);
-    same(&rt, &read.nodes, &2);
-    assert!(rt; text_of(rt.alloc(), &read)?.as_str() == TWO_LINES);
-    let (old, new) = ("0000000000000102", "000000000000ff02");
-    let text = TWO_LINES.replacen(rt.alloc(), old, new, 1)?;
-    same(&rt, &fault_of(rt.alloc(), text.as_bytes()), &Some(3));
-    let text = TWO_LINES.replacen(rt.alloc(), old, "0000000000000101", 1)?;
-    let read = read_dump(rt.alloc(), text.as_bytes())?;
+    two_lines_are_lawful(&rt, rt.alloc())?;
+    let old = "0000000000000102";
+    let fault = fault_with(rt.alloc(), TWO_LINES, old, "000000000000ff02")?;
+    same(&rt, &fault, &Some(3));
+    let verdict = verdict_with(rt.alloc(), TWO_LINES, old, "0000000000000101")?;
     let unlawful = Verdict::Unlawful {
         line: 1,
         rule: Rule::Suited,
     };
-    same(&rt, &check(&read), &unlawful);
+    same(&rt, &verdict, &unlawful);
     Ok(())
 }
 
@@ -151,7 +189,7 @@ fn cut_at_each_byte(rt: HostRuntime) -> Result<(), Fail> {
     let mut line = 1;
     let mut cut = Vec::new(rt.alloc());
     for byte in SHARED.as_bytes() {
-        assert_eq!(rt; fault_of(rt.alloc(), &cut), Some(line), "behind {line}");
+        same_at(&rt, &line, &fault_of(rt.alloc(), &cut), &Some(line));
         cut.push(*byte)?;
         line = line_behind(line, *byte);
     }
@@ -186,9 +224,8 @@ const FAULTS: [(&str, &str, u64); 16] = [
 #[test]
 fn faults(rt: HostRuntime) -> Result<(), Fail> {
     for (old, new, line) in &FAULTS {
-        let text = SHARED.replacen(rt.alloc(), old, new, 1)?;
-        let fault = fault_of(rt.alloc(), text.as_bytes());
-        assert_eq!(rt; fault, Some(*line), "with {new}");
+        let fault = fault_with(rt.alloc(), SHARED, old, new)?;
+        same_at(&rt, new, &fault, &Some(*line));
     }
     Ok(())
 }
@@ -209,30 +246,52 @@ fn fault_behind(place: usize, line: u64, byte: u8) -> u64 {
     }
 }
 
+// SHARED with this byte in this place.
+fn with_byte(alloc: Global, place: usize, byte: u8) -> Result<Vec<u8>, AllocError> {
+    let mut text = Vec::from_slice(alloc, SHARED.as_bytes())?;
+    if let Some(changed) = text.get_mut(place) {
+        *changed = byte;
+    }
+    Ok(text)
+}
+
+// The text, changed in this place, is refused at that line; or it is a dump, and is written as it was read.
+fn is_read_back_or_refused(
+    rt: &impl Abort,
+    alloc: Global,
+    place: usize,
+    text: &[u8],
+    fault: u64,
+) -> Result<(), Fail> {
+    match read_dump(alloc, text) {
+        Ok(read) => is_so_at(rt, &place, text_of(alloc, &read)?.as_bytes() == text),
+        Err(refusal) => same_at(rt, &place, &refusal, &DumpRefusal::DumpFault(fault)),
+    }
+    Ok(())
+}
+
 /// A dump with one byte changed, to any other, is refused at that byte's line, but for the changes above; or it is a dump.
 #[test]
 fn changed_in_each_byte(rt: HostRuntime) -> Result<(), Fail> {
     let mut line = 1;
     for (place, old) in SHARED.as_bytes().iter().enumerate() {
         for byte in 0..=u8::MAX {
-            let mut text = Vec::from_slice(rt.alloc(), SHARED.as_bytes())?;
-            if let Some(changed) = text.get_mut(place) {
-                *changed = byte;
-            }
-            match read_dump(rt.alloc(), &text) {
-                Ok(read) => {
-                    let again = text_of(rt.alloc(), &read)?;
-                    assert!(rt; again.as_bytes() == text.as_slice(), "byte {place}");
-                }
-                Err(refusal) => {
-                    let fault = fault_behind(place, line, byte);
-                    assert_eq!(rt; refusal, DumpRefusal::DumpFault(fault), "byte {place}");
-                }
-            }
+            let text = with_byte(rt.alloc(), place, byte)?;
+            let fault = fault_behind(place, line, byte);
+            is_read_back_or_refused(&rt, rt.alloc(), place, &text, fault)?;
         }
         line = line_behind(line, *old);
     }
     Ok(())
+}
+
+fn node(number: u16) -> NodeId
+    requires { number < 255 }
+{
+    match NodeId::new(number) {
+        Some(node) => node,
+        None => unreachable!(),
+    }
 }
 
 fn fresh(forw: Option<NodeId>) -> Tag {
@@ -255,42 +314,60 @@ fn closed_of(alloc: Global, whole: &Whole<AnyWords>) -> Result<Closed, Fail> {
     Ok(whole.closed(alloc)?)
 }
 
-// Makes these steps of a node.
+// Makes a step of a node.
 #[tactic(auto, using(sci_core::proofs::Fitting::any_event_fits))]
-fn take(whole: &mut Whole<AnyWords>, node: NodeId, events: &[Event]) -> Result<(), Fail> {
-    for event in events {
-        if node.get() >= whole.nodes() || whole.step(node, *event).is_err() {
-            return Err(Fail::new("the event is not in turn"));
-        }
+fn take(whole: &mut Whole<AnyWords>, node: NodeId, event: Event) -> Result<(), Fail> {
+    if node.get() >= whole.nodes() || whole.step(node, event).is_err() {
+        return Err(Fail::new("the event is not in turn"));
     }
     Ok(())
 }
 
+// A node has found this head, enters the list in front of it, and has memory's bytes.
+fn enter(whole: &mut Whole<AnyWords>, node: NodeId, head: Option<NodeId>) -> Result<(), Fail> {
+    take(whole, node, Event::Queue(head))?;
+    take(whole, node, Event::PrependValid)?;
+    take(whole, node, Event::ReturnMemory)
+}
+
+// A node loads, in front of this head, whose entry names that node behind it.
+fn load(
+    whole: &mut Whole<AnyWords>,
+    node: NodeId,
+    head: NodeId,
+    behind: Option<NodeId>,
+) -> Result<(), Fail> {
+    enter(whole, node, Some(head))?;
+    take(whole, node, Event::AttachFresh(fresh(behind)))?;
+    take(whole, node, Event::Settle)
+}
+
 // The line that nodes 0, 1 and 2 have loaded, in this order.
 fn shared(alloc: Global) -> Result<Closed, Fail> {
-    let zero = NodeId::new(0).ok_or("node 0")?;
-    let one = NodeId::new(1).ok_or("node 1")?;
-    let two = NodeId::new(2).ok_or("node 2")?;
+    let (zero, one, two) = (node(0), node(1), node(2));
     let mut whole = Whole::open(alloc, 3, 0, Line::ZERO, AnyWords)?;
-    let enter = [Event::PrependValid, Event::ReturnMemory];
-    take(&mut whole, zero, &[Event::Queue(None)])?;
-    take(&mut whole, zero, &enter)?;
-    take(&mut whole, zero, &[Event::Settle])?;
-    take(&mut whole, one, &[Event::Queue(Some(zero))])?;
-    take(&mut whole, one, &enter)?;
-    take(
-        &mut whole,
-        one,
-        &[Event::AttachFresh(fresh(None)), Event::Settle],
-    )?;
-    take(&mut whole, two, &[Event::Queue(Some(one))])?;
-    take(&mut whole, two, &enter)?;
-    take(
-        &mut whole,
-        two,
-        &[Event::AttachFresh(fresh(Some(zero))), Event::Settle],
-    )?;
+    enter(&mut whole, zero, None)?;
+    take(&mut whole, zero, Event::Settle)?;
+    load(&mut whole, one, zero, None)?;
+    load(&mut whole, two, one, Some(zero))?;
     closed_of(alloc, &whole)
+}
+
+// The same line again.
+fn same_line(rt: &impl Abort, line: &Closed, back: &Closed) {
+    same(rt, &line.mem, &back.mem);
+    same(rt, &line.memory, &back.memory);
+    same(rt, &line.tags.as_slice(), &back.tags.as_slice());
+    same(rt, &line.lines.as_slice(), &back.lines.as_slice());
+}
+
+// The dump of this line of three nodes.
+fn is_read(rt: &impl Abort, lines: &[Closed], read: &Dump) {
+    same(rt, &read.nodes, &3);
+    same(rt, &read.lines.len(), &1);
+    for (line, back) in lines.iter().zip(read.lines.iter()) {
+        same_line(rt, line, back);
+    }
 }
 
 #[test]
@@ -302,14 +379,7 @@ fn a_closed_line_is_dumped_and_read_back(rt: HostRuntime) -> Result<(), Fail> {
     let text = dump(rt.alloc(), &lines)?;
     assert!(rt; text.as_str() == SHARED);
     let read = read_dump(rt.alloc(), text.as_bytes())?;
-    same(&rt, &read.nodes, &3);
-    same(&rt, &read.lines.len(), &1);
-    for (line, back) in lines.iter().zip(read.lines.iter()) {
-        same(&rt, &line.mem, &back.mem);
-        same(&rt, &line.memory, &back.memory);
-        same(&rt, &line.tags.as_slice(), &back.tags.as_slice());
-        same(&rt, &line.lines.as_slice(), &back.lines.as_slice());
-    }
+    is_read(&rt, &lines, &read);
     Ok(())
 }
 
@@ -324,28 +394,40 @@ fn word_of(node: u64) -> u64
     }
 }
 
+// A line that 64 nodes share.
+fn write_line(text: &mut String, line: u64) -> Result<(), Fail> {
+    write!(text, "line {line} 0000000000003f01 0 0 0 0 0 0 0 0 0\n")?;
+    for node in 0..64u64 {
+        let word = word_of(node);
+        write!(text, "tag {line} {node} {word:016x} 0 0 0 0 0 0 0 0 0\n")?;
+    }
+    Ok(())
+}
+
 // The dump of so many lines that 64 nodes share.
 fn shared_by_all(alloc: Global, lines: u64) -> Result<String, Fail> {
     let mut text = format!(in alloc; "scidump 1 64 {lines}\n")?;
     for line in 0..lines {
-        write!(text, "line {line} 0000000000003f01 0 0 0 0 0 0 0 0 0\n")?;
-        for node in 0..64u64 {
-            let word = word_of(node);
-            write!(text, "tag {line} {node} {word:016x} 0 0 0 0 0 0 0 0 0\n")?;
-        }
+        write_line(&mut text, line)?;
     }
     text.push_str("end\n")?;
     Ok(text)
 }
 
+// The dump of so many lines that 64 nodes share is lawful, and is written as it was read.
+fn dumps_lines_of_64_nodes(rt: &impl Abort, alloc: Global, lines: u64) -> Result<(), Fail> {
+    let text = shared_by_all(alloc, lines)?;
+    let read = read_dump(alloc, text.as_bytes())?;
+    same(rt, &check(&read), &Verdict::Lawful);
+    let again = text_of(alloc, &read)?;
+    is_so_at(rt, &lines, again.as_str() == text.as_str());
+    Ok(())
+}
+
 #[test]
 fn dumps_of_64_nodes(rt: HostRuntime) -> Result<(), Fail> {
     for lines in [1, 340, 1024] {
-        let text = shared_by_all(rt.alloc(), lines)?;
-        let read = read_dump(rt.alloc(), text.as_bytes())?;
-        same(&rt, &check(&read), &Verdict::Lawful);
-        let again = text_of(rt.alloc(), &read)?;
-        assert!(rt; again.as_str() == text.as_str(), "of {lines} lines");
+        dumps_lines_of_64_nodes(&rt, rt.alloc(), lines)?;
     }
     Ok(())
 }

@@ -1,8 +1,9 @@
 //! Two nodes on one line: what stands is shown, in a slot or in a hand, and at rest it is closed.
-use super::{ALONE, same};
+use super::{ALONE, node, opened, same, same_at};
 use sci_core::{AnyWords, Closed, Event, Line, NotInTurn, Outcome, Pending, Whole};
 use sci_words::{Kind, Mem, MemState, NodeId, Tag};
 use std::alloc::Global;
+use std::process::Abort;
 use std::test::Fail;
 
 const OPENING: Line = Line {
@@ -34,15 +35,21 @@ fn mem(state: MemState, forw: Option<NodeId>) -> Mem {
     }
 }
 
+// The line is closed with this memory word, these tags and these lines, and memory has its first bytes.
+fn is_closed(rt: &impl Abort, closed: &Closed, mem: &Mem, tags: [Tag; 2], lines: [Line; 2]) {
+    same(rt, &closed.mem, mem);
+    same(rt, &closed.memory, &OPENING);
+    same(rt, &closed.tags.as_slice(), &tags.as_slice());
+    same(rt, &closed.lines.as_slice(), &lines.as_slice());
+}
+
 #[test]
 fn closes_an_unused_line(rt: HostRuntime) -> Result<(), Fail> {
-    let whole = Whole::open(rt.alloc(), 2, 0, OPENING, AnyWords)?;
+    let whole = opened(rt.alloc(), 2, 0, OPENING)?;
     let closed = whole.closed(rt.alloc())?;
+    let home = mem(MemState::Home, None);
     let invalid = tag(Kind::Invalid, None, None);
-    same(&rt, &closed.mem, &mem(MemState::Home, None));
-    same(&rt, &closed.memory, &OPENING);
-    same(&rt, &closed.tags.as_slice(), &[invalid; 2].as_slice());
-    same(&rt, &closed.lines.as_slice(), &[OPENING; 2].as_slice());
+    is_closed(&rt, &closed, &home, [invalid; 2], [OPENING; 2]);
     Ok(())
 }
 
@@ -54,25 +61,30 @@ const WRITER: Tag = Tag {
 };
 
 // A node's events that store on its own, and the bytes that it shows after each. None: they are open.
-const STORES: [(Event, Option<Line>); 9] = [
-    (Event::Queue(None), None),
-    (Event::PrependValid, Some(OPENING)),
-    (Event::ReturnMemory, Some(OPENING)),
-    (Event::Settle, Some(OPENING)),
-    (Event::Convert(ALONE), Some(OPENING)),
-    (Event::FreshToGone, Some(OPENING)),
-    (Event::Converted, Some(OPENING)),
-    (Event::Look, Some(OPENING)),
-    (Event::Written(Some(WORDS)), Some(WRITTEN)),
-];
+fn stores() -> [(Event, Option<Line>); 9] {
+    [
+        (Event::Queue(None), None),
+        (Event::PrependValid, Some(OPENING)),
+        (Event::ReturnMemory, Some(OPENING)),
+        (Event::Settle, Some(OPENING)),
+        (Event::Convert(ALONE), Some(OPENING)),
+        (Event::FreshToGone, Some(OPENING)),
+        (Event::Converted, Some(OPENING)),
+        (Event::Look, Some(OPENING)),
+        (Event::Written(Some(WORDS)), Some(WRITTEN)),
+    ]
+}
 
 // Another copies from that writer.
-const COPIES: [(Event, Option<Line>); 4] = [
-    (Event::PrependGone, None),
-    (Event::AttachDirty(WRITER), Some(WRITTEN)),
-    (Event::ReturnCopy, Some(WRITTEN)),
-    (Event::Settle, Some(WRITTEN)),
-];
+fn copies(writer: NodeId) -> [(Event, Option<Line>); 5] {
+    [
+        (Event::Queue(Some(writer)), None),
+        (Event::PrependGone, None),
+        (Event::AttachDirty(WRITER), Some(WRITTEN)),
+        (Event::ReturnCopy, Some(WRITTEN)),
+        (Event::Settle, Some(WRITTEN)),
+    ]
+}
 
 /// What an event of a node comes to, and the bytes that it, another node and memory show after it.
 #[derive(Clone, Copy)]
@@ -115,6 +127,21 @@ fn shows(
         && shown.memory == OPENING
 }
 
+// A node takes these steps, while another shows those bytes.
+fn all_show(
+    rt: &impl Abort,
+    whole: &mut Whole<AnyWords>,
+    node: NodeId,
+    other: NodeId,
+    bytes: Line,
+    steps: &[(Event, Option<Line>)],
+) {
+    for step in steps {
+        let shows = shows(whole, node, other, bytes, *step);
+        same_at(rt, &step.0, &shows, &true);
+    }
+}
+
 // A line of two nodes, closed. None: a node is in a step, or memory ran out.
 fn closed(alloc: Global, whole: &Whole<AnyWords>) -> Option<Closed> {
     let (zero, one) = (NodeId::new(0)?, NodeId::new(1)?);
@@ -131,25 +158,14 @@ fn closed(alloc: Global, whole: &Whole<AnyWords>) -> Option<Closed> {
 // Node 0 stores on its own, and then node 1 copies from it.
 #[test]
 fn shows_lines_in_hands(rt: HostRuntime) -> Result<(), Fail> {
-    let writer = NodeId::new(0).ok_or("node 0")?;
-    let reader = NodeId::new(1).ok_or("node 1")?;
+    let (writer, reader) = (node(0), node(1));
     let mut whole = Whole::open(rt.alloc(), 2, 0, OPENING, AnyWords)?;
-    for step in STORES {
-        let shows = shows(&mut whole, writer, reader, OPENING, step);
-        assert!(rt; shows, "after {:?}", step.0);
-    }
-    let queue = (Event::Queue(Some(writer)), None);
-    assert!(rt; shows(&mut whole, reader, writer, WRITTEN, queue));
-    for step in COPIES {
-        let shows = shows(&mut whole, reader, writer, WRITTEN, step);
-        assert!(rt; shows, "after {:?}", step.0);
-    }
+    all_show(&rt, &mut whole, writer, reader, OPENING, &stores());
+    all_show(&rt, &mut whole, reader, writer, WRITTEN, &copies(writer));
     let closed = closed(rt.alloc(), &whole).ok_or("a node is in a step")?;
+    let gone = mem(MemState::Gone, Some(reader));
     let head = tag(Kind::Dirty, Some(writer), None);
     let tail = tag(Kind::Valid, None, Some(reader));
-    same(&rt, &closed.mem, &mem(MemState::Gone, Some(reader)));
-    same(&rt, &closed.memory, &OPENING);
-    same(&rt, &closed.tags.as_slice(), &[tail, head].as_slice());
-    same(&rt, &closed.lines.as_slice(), &[WRITTEN; 2].as_slice());
+    is_closed(&rt, &closed, &gone, [tail, head], [WRITTEN; 2]);
     Ok(())
 }

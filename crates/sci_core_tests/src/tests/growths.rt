@@ -1,7 +1,11 @@
 //! Each growth may be refused: its call then answers 7 or an `AllocError`, all is as before, and a second try has the memory.
 //! With ample memory this test passes. tools/allocations runs it once for each growth of its table, with that one refused, and
 //! the test ends by saying which call answered it.
-use super::{ALONE, LINE, node, run, same};
+ghost use Rattle.std.specs.Prelude.{◌≡◌, ℕ, ◌<◌};
+ghost use Rattle.sci_core.specs.declared.pending.Pending.TheVariants.{Idle};
+ghost use Rattle.sci_core.specs.Whole.{nodes_of, state_of};
+
+use super::{ALONE, LINE, node, opened, run, same};
 use sci_core::{AnyWords, Closed, Event, OpenRefusal, Whole};
 use sci_words::{MemState, NodeId, Tag};
 use std::alloc::Global;
@@ -51,6 +55,20 @@ fn is_unused(rt: &impl Abort, closed: &Closed) {
     same(rt, &closed.lines.as_slice(), &[LINE; 2].as_slice());
 }
 
+// Closes a line that nobody has used.
+fn closes(rt: &impl Abort, whole: &Whole<AnyWords>, alloc: Global) -> Result<(), Fail>
+    requires { (i : ℕ) → i < nodes_of whole.now → (state_of whole.now).steps i ≡ Idle }
+{
+    let before = shown(whole);
+    if let Ok(closed) = whole.closed(alloc) {
+        is_unused(rt, &closed);
+        return Ok(());
+    }
+    assert!(rt; shown(whole) == before);
+    is_unused(rt, &whole.closed(alloc)?);
+    Err(Fail::new("closed answered 7"))
+}
+
 // A second try to open has the memory.
 fn opens_again(rt: &impl Abort, alloc: Global, refusal: OpenRefusal) -> Result<(), Fail> {
     same(rt, &refusal, &OpenRefusal::OutOfMemory);
@@ -74,19 +92,11 @@ fn reads(zero: NodeId, one: NodeId, alone: Tag) -> [(NodeId, Event); 7] {
 }
 
 fn refuses(rt: &impl Abort, alloc: Global) -> Result<(), Fail> {
-    let mut whole = match Whole::open(alloc, 2, 7, LINE, AnyWords) {
+    let mut whole = match opened(alloc, 2, 7, LINE) {
         Ok(whole) => whole,
         Err(refusal) => return opens_again(rt, alloc, refusal),
     };
-    let before = shown(&whole);
-    match whole.closed(alloc) {
-        Ok(closed) => is_unused(rt, &closed),
-        Err(_) => {
-            assert!(rt; shown(&whole) == before);
-            is_unused(rt, &whole.closed(alloc)?);
-            return Err(Fail::new("closed answered 7"));
-        }
-    }
+    closes(rt, &whole, alloc)?;
     lists(rt, &whole, alloc, &[])?;
     same(
         rt,

@@ -1,9 +1,15 @@
 //! Steps and readers take no memory, as a walk by chance through all rows shows, nor do runs, nor does closing in room that
 //! was taken before. tools/allocations runs each of these tests with the allocation of its last line refused, and wants it to
 //! fail there, and there alone.
-use super::{ALONE, LINE, node, run, same, step};
-use sci_core::{AnyWords, Event, Line, Outcome, Whole};
+ghost use Rattle.std.specs.Prelude.{◌≡◌, ℕ, ◌<◌};
+ghost use Rattle.sci_core.specs.declared.pending.Pending.TheVariants.{Idle};
+ghost use Rattle.sci_core.specs.Whole.{nodes_of, state_of};
+
+use super::{ALONE, LINE, node, opened, run, same, same_at, step};
+use sci_core::{AnyWords, Closed, Event, Line, Outcome, Whole};
 use sci_words::{NodeId, Tag};
+use std::alloc::Global;
+use std::process::Abort;
 
 /// How many nodes work on a line.
 const NODES: u16 = 3;
@@ -93,17 +99,30 @@ fn walk(whole: &mut Whole<AnyWords>) -> Option<[bool; EVENTS]> {
     Some(done)
 }
 
+/// A line that nobody has used. It takes three allocations.
+fn line_of(rt: &impl Abort, alloc: Global, nodes: u16) -> Whole<AnyWords>
+    ensures { (i : ℕ) → i < nodes_of result → (state_of result).steps i ≡ Idle }
+{
+    let Ok(whole) = opened(alloc, nodes, 7, LINE) else {
+        panic!(rt; "`open` takes more than three allocations")
+    };
+    whole
+}
+
+/// Makes one allocation. Where that is refused, this is said.
+fn allocates(rt: &impl Abort, alloc: Global, said: &str) {
+    let last = Vec::<u8>::with_capacity(alloc, 1);
+    assert!(rt; last.is_ok(), "{said}");
+}
+
 #[test]
 fn steps_take_no_memory(rt: HostRuntime) {
     // `open` takes three, and is called for two numbers of nodes.
     for nodes in [NODES, MOST] {
-        let Ok(mut whole) = Whole::open(rt.alloc(), nodes, 7, LINE, AnyWords) else {
-            panic!(rt; "`open` takes more than three allocations")
-        };
-        assert!(rt; walk(&mut whole) == Some([true; EVENTS]), "with {nodes}");
+        let mut whole = line_of(&rt, rt.alloc(), nodes);
+        same_at(&rt, &nodes, &walk(&mut whole), &Some([true; EVENTS]));
     }
-    let last = Vec::<u8>::with_capacity(rt.alloc(), 1);
-    assert!(rt; last.is_ok(), "allocation 7 is refused");
+    allocates(&rt, rt.alloc(), "allocation 7 is refused");
 }
 
 /// Three events of a first reader.
@@ -127,31 +146,42 @@ fn then(zero: NodeId, one: NodeId, alone: Tag) -> [(NodeId, Event); 6] {
     ]
 }
 
+/// Closes a line in room that was taken before, with two allocations.
+fn closed_in_room(rt: &impl Abort, alloc: Global, whole: &Whole<AnyWords>) -> Closed
+    requires { (i : ℕ) → i < nodes_of whole.now → (state_of whole.now).steps i ≡ Idle }
+{
+    let nodes = usize::from(whole.nodes());
+    let (Ok(tags), Ok(lines)) = (
+        Vec::with_capacity(alloc, nodes),
+        Vec::with_capacity(alloc, nodes),
+    ) else {
+        panic!(rt; "no room")
+    };
+    whole.closed_in(tags, lines)
+}
+
+/// It is closed with so many tags and lines, and nobody has written.
+fn is_unused(rt: &impl Abort, closed: &Closed, nodes: usize) {
+    same(rt, &closed.tags.len(), &nodes);
+    same(rt, &closed.lines.len(), &nodes);
+    assert!(rt; closed.lines.iter().all(|line| *line == LINE));
+}
+
+/// Runs of two nodes.
+fn runs(rt: &impl Abort, whole: &mut Whole<AnyWords>) {
+    let (zero, one) = (node(0), node(1));
+    same(rt, &run(whole, &first(zero)), &Some(Ok(3)));
+    same(rt, &run(whole, &then(zero, one, ALONE)), &Some(Err(5)));
+}
+
 #[test]
 fn runs_and_closing_take_no_memory(rt: HostRuntime) {
     // `open` takes three, and the room two, for two numbers of nodes.
-    let (zero, one) = (node(0), node(1));
     for nodes in [NODES, MOST] {
-        let Ok(mut whole) = Whole::open(rt.alloc(), nodes, 7, LINE, AnyWords) else {
-            panic!(rt; "`open` takes more than three allocations")
-        };
-        let (Ok(tags), Ok(lines)) = (
-            Vec::with_capacity(rt.alloc(), usize::from(nodes)),
-            Vec::with_capacity(rt.alloc(), usize::from(nodes)),
-        ) else {
-            panic!(rt; "no room")
-        };
-        let closed = whole.closed_in(tags, lines);
-        same(&rt, &closed.tags.len(), &usize::from(nodes));
-        same(&rt, &closed.lines.len(), &usize::from(nodes));
-        assert!(rt; closed.lines.iter().all(|line| *line == LINE));
-        same(&rt, &run(&mut whole, &first(zero)), &Some(Ok(3)));
-        same(
-            &rt,
-            &run(&mut whole, &then(zero, one, ALONE)),
-            &Some(Err(5)),
-        );
+        let mut whole = line_of(&rt, rt.alloc(), nodes);
+        let closed = closed_in_room(&rt, rt.alloc(), &whole);
+        is_unused(&rt, &closed, usize::from(nodes));
+        runs(&rt, &mut whole);
     }
-    let last = Vec::<u8>::with_capacity(rt.alloc(), 1);
-    assert!(rt; last.is_ok(), "allocation 11 is refused");
+    allocates(&rt, rt.alloc(), "allocation 11 is refused");
 }

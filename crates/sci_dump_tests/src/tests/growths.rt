@@ -1,8 +1,8 @@
 //! Each growth may be refused: its call then answers 7 or an `AllocError`, and a second try has the memory. With ample memory
 //! this test passes. tools/allocations runs it once for each growth of its table, with that one refused, and the test ends by
 //! saying which call answered it.
-use super::{SHARED, same};
-use sci_dump::{Dump, DumpRefusal, Verdict, check, dump, read_dump};
+use super::{SHARED, same, text_of};
+use sci_dump::{Dump, DumpRefusal, Verdict, check, read_dump};
 use std::alloc::Global;
 use std::process::Abort;
 use std::test::Fail;
@@ -20,11 +20,11 @@ fn reads(rt: &impl Abort, alloc: Global) -> Result<Dump, Fail> {
 }
 
 fn writes(rt: &impl Abort, alloc: Global, read: &Dump) -> Result<(), Fail> {
-    if let Ok(text) = dump(alloc, &read.lines) {
+    if let Ok(text) = text_of(alloc, read) {
         assert!(rt; text.as_str() == SHARED);
         return Ok(());
     }
-    assert!(rt; dump(alloc, &read.lines)?.as_str() == SHARED);
+    assert!(rt; text_of(alloc, read)?.as_str() == SHARED);
     Err(Fail::new("dump answered 7"))
 }
 
