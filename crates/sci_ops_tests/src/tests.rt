@@ -27,6 +27,11 @@ fn same<T: Debug + PartialEq>(rt: &impl Abort, left: &T, right: &T) {
     assert_eq!(rt; left, right);
 }
 
+/// Both are the same. The message names the row.
+fn same_at<R: Debug, T: Debug + PartialEq>(rt: &impl Abort, row: &R, left: &T, right: &T) {
+    assert_eq!(rt; left, right, "at {row:?}");
+}
+
 // One turn, if there is that node.
 #[tactic(auto, using(sci_ops::proofs::Storing::any_store_fits))]
 fn turn(whole: &mut Whole<AnyWords>, node: NodeId, op: &mut Op) -> Option<Turn> {
@@ -78,50 +83,40 @@ fn writes_a_line_and_adds(rt: HostRuntime) -> Result<(), Fail> {
     Ok(())
 }
 
+// Each of three nodes reads the line.
+fn all_load(rt: &impl Abort, whole: &mut Whole<AnyWords>) {
+    for (number, turns) in [(0, 4), (1, 5), (2, 5)] {
+        let seen = take(whole, number, Ok(Op::load()), turns);
+        same_at(rt, &number, &seen, &Some(SEEN));
+    }
+}
+
+// A node leaves the line.
+fn leaves(rt: &impl Abort, whole: &mut Whole<AnyWords>, number: u16, turns: usize) {
+    let left = take(whole, number, Ok(Op::evict()), turns);
+    same(rt, &left, &Some(Answer::Out));
+}
+
 #[test]
 fn writes_from_the_tail_in_18_turns(rt: HostRuntime) -> Result<(), Fail> {
     let mut whole = Whole::open(rt.alloc(), 3, 0, Line::ZERO, AnyWords)?;
-    for (number, turns) in [(0, 4), (1, 5), (2, 5)] {
-        assert_eq!(rt;
-            take(&mut whole, number, Ok(Op::load()), turns),
-            Some(SEEN),
-            "by {number}"
-        );
-    }
+    all_load(&rt, &mut whole);
     let before = [0; 8];
     let wrote = take(&mut whole, 0, Op::store(0, 5), 18);
     same(&rt, &wrote, &Some(Answer::Wrote { before, stamp: 1 }));
     let words = [5, 0, 0, 0, 0, 0, 0, 0];
     let seen = take(&mut whole, 1, Ok(Op::load()), 5);
     same(&rt, &seen, &Some(Answer::Seen { words, stamp: 1 }));
-    same(
-        &rt,
-        &take(&mut whole, 0, Ok(Op::evict()), 3),
-        &Some(Answer::Out),
-    );
-    same(
-        &rt,
-        &take(&mut whole, 1, Ok(Op::evict()), 4),
-        &Some(Answer::Out),
-    );
-    same(
-        &rt,
-        &take(&mut whole, 1, Ok(Op::evict()), 1),
-        &Some(Answer::Out),
-    );
+    leaves(&rt, &mut whole, 0, 3);
+    leaves(&rt, &mut whole, 1, 4);
+    leaves(&rt, &mut whole, 1, 1);
     Ok(())
 }
 
 #[test]
 fn writes_from_the_head_in_10_turns(rt: HostRuntime) -> Result<(), Fail> {
     let mut whole = Whole::open(rt.alloc(), 3, 0, Line::ZERO, AnyWords)?;
-    for (number, turns) in [(0, 4), (1, 5), (2, 5)] {
-        assert_eq!(rt;
-            take(&mut whole, number, Ok(Op::load()), turns),
-            Some(SEEN),
-            "by {number}"
-        );
-    }
+    all_load(&rt, &mut whole);
     let before = [0; 8];
     let wrote = take(&mut whole, 2, Op::store(0, 5), 10);
     same(&rt, &wrote, &Some(Answer::Wrote { before, stamp: 1 }));
@@ -178,20 +173,36 @@ fn answers_alone<L: Ledger>(
     [first, second, third, wrote, seen, out, last]
 }
 
-#[test]
-fn ends_alone(rt: HostRuntime) -> Result<(), Fail> {
-    let mut whole = opened(rt.alloc())?;
-    let store = Op::write_line([5, 0, 0, 0, 0, 0, 0, 0]);
+// The same on a line that nobody has used, with its steps counted in a ledger of its own.
+fn answers_of(alloc: Global, store: Op) -> Result<[Option<Answer>; 7], OpenRefusal>
+    requires { store.answer ≡ None }
+{
+    let mut whole = opened(alloc)?;
     let answers = answers_alone::<Brand>(&mut whole, store, Blank::new(1));
+    Ok(answers)
+}
+
+// The answers where the write stores 5, and then zeros.
+fn wanted_alone() -> [Answer; 7] {
     let before = [0; 8];
     let words = [5, 0, 0, 0, 0, 0, 0, 0];
     let read = Answer::Seen { words, stamp: 1 };
     let wrote = Answer::Wrote { before, stamp: 1 };
     let out = Answer::Out;
-    let wanted = [SEEN, SEEN, SEEN, wrote, read, out, out];
+    [SEEN, SEEN, SEEN, wrote, read, out, out]
+}
+
+fn are_answers(rt: &impl Abort, answers: &[Option<Answer>], wanted: &[Answer]) {
     for (answer, wanted) in answers.iter().zip(wanted.iter()) {
-        same(&rt, answer, &Some(*wanted));
+        same(rt, answer, &Some(*wanted));
     }
+}
+
+#[test]
+fn ends_alone(rt: HostRuntime) -> Result<(), Fail> {
+    let store = Op::write_line([5, 0, 0, 0, 0, 0, 0, 0]);
+    let answers = answers_of(rt.alloc(), store)?;
+    are_answers(&rt, &answers, &wanted_alone());
     Ok(())
 }
 

@@ -1,13 +1,13 @@
 //! Turns, ports, words and operations alone take no memory. tools/allocations runs each of these tests with the allocation of
 //! its last line refused, and wants it to fail there, and there alone.
 use super::replays::turn;
-use super::{answers_alone, opened};
-use sci_core::{AnyWords, Line, Whole};
-use sci_ops::{Op, Turn};
+use super::{answers_of, opened};
+use sci_core::{AnyWords, Whole};
+use sci_ops::{Answer, Op, Turn};
 use sci_port::recording::Trace;
 use sci_words::{NodeId, mem_name, name, read_mem, read_tag, write_mem, write_tag};
-use std::marker::Brand;
-use std::sync::ledger::Blank;
+use std::alloc::Global;
+use std::process::Abort;
 
 const TURNS: u32 = 100_000;
 
@@ -58,29 +58,45 @@ fn turns(whole: &mut Whole<AnyWords>, trace: &mut Trace) -> Option<u32> {
     Some(ended)
 }
 
-#[test]
-fn turns_take_no_memory(rt: HostRuntime) {
-    // A line takes three allocations, and the room of a trace one.
-    let Ok(mut whole) = Whole::open(rt.alloc(), 3, 0, Line::ZERO, AnyWords) else {
+/// A line that nobody has used. It takes three allocations.
+fn line(rt: &impl Abort, alloc: Global) -> Whole<AnyWords> {
+    let Ok(whole) = opened(alloc) else {
         panic!(rt; "no line")
     };
-    let Ok(room) = Vec::with_capacity(rt.alloc(), 16) else {
+    whole
+}
+
+/// A trace with room for 16 events. It takes one allocation.
+fn trace(rt: &impl Abort, alloc: Global) -> Trace {
+    let Ok(room) = Vec::with_capacity(alloc, 16) else {
         panic!(rt; "no room")
     };
-    let ended = turns(&mut whole, &mut Trace::new(room));
+    Trace::new(room)
+}
+
+/// Makes one allocation. Where that is refused, this is said.
+fn allocates(rt: &impl Abort, alloc: Global, said: &str) {
+    let last = Vec::<u8>::with_capacity(alloc, 1);
+    assert!(rt; last.is_ok(), "{said}");
+}
+
+#[test]
+fn turns_take_no_memory(rt: HostRuntime) {
+    let mut whole = line(&rt, rt.alloc());
+    let ended = turns(&mut whole, &mut trace(&rt, rt.alloc()));
     assert!(rt; matches!(ended, Some(1_000..)));
-    let last = Vec::<u8>::with_capacity(rt.alloc(), 1);
-    assert!(rt; last.is_ok(), "allocation 5 is refused");
+    allocates(&rt, rt.alloc(), "allocation 5 is refused");
+}
+
+fn are_given(answers: &[Option<Answer>]) -> bool {
+    answers.iter().all(Option::is_some)
 }
 
 #[test]
 fn operations_alone_take_no_memory(rt: HostRuntime) {
-    let Ok(mut whole) = opened(rt.alloc()) else {
+    let Ok(answers) = answers_of(rt.alloc(), Op::write_line([5; 8])) else {
         panic!(rt; "no line")
     };
-    let store = Op::write_line([5; 8]);
-    let answers = answers_alone::<Brand>(&mut whole, store, Blank::new(1));
-    assert!(rt; answers.iter().all(Option::is_some));
-    let last = Vec::<u8>::with_capacity(rt.alloc(), 1);
-    assert!(rt; last.is_ok(), "allocation 4 is refused");
+    assert!(rt; are_given(&answers));
+    allocates(&rt, rt.alloc(), "allocation 4 is refused");
 }

@@ -1,10 +1,11 @@
 //! A run of several nodes, whose recorded events are done once more on another line.
-use super::same;
+use super::{same, same_at};
 use sci_core::{AnyWords, Event, Line, Whole};
-use sci_ops::{Answer, Op, Turn};
+use sci_ops::{Answer, BadWord, Op, Turn};
 use sci_port::Solo;
 use sci_port::recording::{Recorder, Trace};
 use sci_words::NodeId;
+use std::process::Abort;
 use std::test::Fail;
 
 // One turn of a node's operation, through a port that records it.
@@ -53,35 +54,67 @@ fn is_same(one: &Whole<AnyWords>, other: &Whole<AnyWords>) -> bool {
     one.mem() == other.mem() && one.memory_line() == other.memory_line()
 }
 
+// An operation for each of three nodes, four times.
+fn operations() -> Result<[[Op; 3]; 4], BadWord> {
+    Ok([
+        [Op::load(), Op::load(), Op::load()],
+        [Op::add(0, 5)?, Op::evict(), Op::load()],
+        [Op::evict(), Op::load(), Op::write_line([3; 8])],
+        [Op::add(1, 4)?, Op::add(1, 4)?, Op::evict()],
+    ])
+}
+
+// One turn of a node, recorded. Its events are done once more on the other line, which then is the same.
+fn take_turn(
+    rt: &impl Abort,
+    whole: &mut Whole<AnyWords>,
+    trace: &mut Trace,
+    again: &mut Whole<AnyWords>,
+    number: u16,
+    op: &mut Op,
+) -> Result<(), Fail> {
+    let replayed = trace.events().ok_or("no room")?.len();
+    assert!(rt; turn(whole, trace, number, op).is_some());
+    let events = trace.events().ok_or("no room")?;
+    assert!(rt; replay(again, events, replayed));
+    same_at(rt, &events.len(), &is_same(whole, again), &true);
+    Ok(())
+}
+
+// Forty turns of each node, each node with an operation.
+fn take_turns(
+    rt: &impl Abort,
+    whole: &mut Whole<AnyWords>,
+    trace: &mut Trace,
+    again: &mut Whole<AnyWords>,
+    ops: &mut [Op; 3],
+) -> Result<(), Fail> {
+    for _ in 0..40 {
+        for (number, op) in (0..3).zip(ops.iter_mut()) {
+            take_turn(rt, whole, trace, again, number, op)?;
+        }
+    }
+    Ok(())
+}
+
+// Node 2 reads these words in its sixth turn, after four writes.
+fn sees(rt: &impl Abort, whole: &mut Whole<AnyWords>, trace: &mut Trace, words: [u64; 8]) {
+    let seen = Turn::Done(Answer::Seen { words, stamp: 4 });
+    let mut op = Op::load();
+    for _ in 0..5 {
+        assert!(rt; turn(whole, trace, 2, &mut op) != Some(Turn::Waiting));
+    }
+    same(rt, &turn(whole, trace, 2, &mut op), &Some(seen));
+}
+
 #[test]
 fn replays_what_a_recorder_kept(rt: HostRuntime) -> Result<(), Fail> {
     let mut whole = Whole::open(rt.alloc(), 3, 0, Line::ZERO, AnyWords)?;
     let mut again = Whole::open(rt.alloc(), 3, 0, Line::ZERO, AnyWords)?;
     let mut trace = Trace::new(Vec::with_capacity(rt.alloc(), 1_000)?);
-    let mut replayed = 0;
-    for ops in [
-        [Op::load(), Op::load(), Op::load()],
-        [Op::add(0, 5)?, Op::evict(), Op::load()],
-        [Op::evict(), Op::load(), Op::write_line([3; 8])],
-        [Op::add(1, 4)?, Op::add(1, 4)?, Op::evict()],
-    ] {
-        let mut ops = ops;
-        for _ in 0..40 {
-            for (number, op) in (0..3).zip(ops.iter_mut()) {
-                assert!(rt; turn(&mut whole, &mut trace, number, op).is_some());
-                let events = trace.events().ok_or("no room")?;
-                assert!(rt; replay(&mut again, events, replayed));
-                assert!(rt; is_same(&whole, &again), "after {} events", events.len());
-                replayed = events.len();
-            }
-        }
+    for mut ops in operations()? {
+        take_turns(&rt, &mut whole, &mut trace, &mut again, &mut ops)?;
     }
-    let words = [3, 11, 3, 3, 3, 3, 3, 3];
-    let seen = Turn::Done(Answer::Seen { words, stamp: 4 });
-    let mut op = Op::load();
-    for _ in 0..5 {
-        assert!(rt; turn(&mut again, &mut trace, 2, &mut op) != Some(Turn::Waiting));
-    }
-    same(&rt, &turn(&mut again, &mut trace, 2, &mut op), &Some(seen));
+    sees(&rt, &mut again, &mut trace, [3, 11, 3, 3, 3, 3, 3, 3]);
     Ok(())
 }

@@ -1,15 +1,16 @@
 //! Ports, banks and recorders take no memory. tools/allocations runs this test with the allocation of its last line refused,
 //! and wants it to fail there, and there alone.
-ghost use Rattle.std.specs.Prelude.{IsTrue};
+ghost use Rattle.std.specs.Prelude.{◌<◌, IsTrue};
 ghost use Rattle.sci_core.specs.declared.keeps.AnyWords.{AnyWords};
 ghost use Rattle.sci_port.specs.Banks.{AreLinesOf};
 
-use super::{LINE, fresh, same};
+use super::{LINE, fresh, same, step_of};
 use sci_core::{Event, Outcome, Whole};
 use sci_port::recording::{Recorder, Trace};
 use sci_port::{AnyWords, At, Bank, Port, SoloBank};
 use sci_words::{LineNo, NodeId};
 use std::alloc::Global;
+use std::test::Fail;
 
 const ROUNDS: u32 = 10_000;
 
@@ -55,23 +56,57 @@ fn are_lines_of(wholes: &[Whole<AnyWords>], me: NodeId) -> bool
     true
 }
 
-/// An event through a bank, if there is the line and the event is in turn, behind a look and loads.
-#[tactic(auto, using(sci_core::proofs::Fitting::any_event_fits))]
-fn step_in(bank: &mut SoloBank<AnyWords>, line: LineNo, event: Event) -> Option<Outcome> {
-    if line >= bank.lines() {
-        return None;
+/// The bank of node 0 over two lines.
+fn seated(alloc: Global) -> Result<SoloBank<AnyWords>, Fail> {
+    let wholes = opened(alloc).ok_or("no lines")?;
+    let me = NodeId::new(0).ok_or("no node")?;
+    if !are_lines_of(&wholes, me) {
+        return Err(Fail::new("no lines of the node"));
     }
-    let me = bank.node();
-    let _ = (bank.own(line)?, bank.mem(line)?, bank.tag(line, me)?);
-    if bank.number(line) == line && bank.pending(line).allows(me, bank.nodes(line), &event) {
+    Ok(SoloBank::new(wholes, me))
+}
+
+/// An event on a line through a bank, if the event is in turn.
+#[tactic(auto, using(sci_core::proofs::Fitting::any_event_fits))]
+fn step_on<B: Bank<Keep = AnyWords>>(bank: &mut B, line: LineNo, event: Event) -> Option<Outcome>
+    requires { line < (B.way bank.old).lines }
+{
+    let allows = bank
+        .pending(line)
+        .allows(bank.node(), bank.nodes(line), &event);
+    if allows {
         Some(bank.step(line, event))
     } else {
         None
     }
 }
 
-/// The same through a recorder of the port to the line.
-#[tactic(auto, using(sci_core::proofs::Fitting::any_event_fits))]
+/// An event through a bank, if there is the line and the event is in turn, behind a look and loads.
+fn step_in<B: Bank<Keep = AnyWords>>(bank: &mut B, line: LineNo, event: Event) -> Option<Outcome> {
+    if line >= bank.lines() {
+        return None;
+    }
+    let me = bank.node();
+    let _ = (bank.own(line)?, bank.mem(line)?, bank.tag(line, me)?);
+    if bank.number(line) == line {
+        step_on(bank, line, event)
+    } else {
+        None
+    }
+}
+
+/// A look and loads of a port, if it is to that line.
+fn load_all<P: Port>(port: &mut P, line: LineNo) -> Option<()> {
+    let me = port.node();
+    let _ = (port.own()?, port.mem()?, port.tag(me)?);
+    if port.number() == line {
+        Some(())
+    } else {
+        None
+    }
+}
+
+/// The same as `step_in` through a recorder of the port to the line.
 fn step_at(
     bank: &mut SoloBank<AnyWords>,
     trace: &mut Trace,
@@ -83,13 +118,8 @@ fn step_at(
     }
     let mut at = At::new(bank, line);
     let mut port = Recorder::new(&mut at, trace);
-    let me = port.node();
-    let _ = (port.own()?, port.mem()?, port.tag(me)?);
-    if port.number() == line && port.pending().allows(me, port.nodes(), &event) {
-        Some(port.step(event))
-    } else {
-        None
-    }
+    load_all(&mut port, line)?;
+    step_of(&mut port, event)
 }
 
 /// Rounds of the events on both lines, one through the bank and one through its port: how many exchanges missed.
@@ -110,23 +140,16 @@ fn rounds(bank: &mut SoloBank<AnyWords>, trace: &mut Trace) -> Option<u32> {
 }
 
 #[test]
-fn ports_and_banks_take_no_memory(rt: HostRuntime) {
+fn ports_and_banks_take_no_memory(rt: HostRuntime) -> Result<(), Fail> {
     // Two lines take three each, their list one, and the room of a trace one.
-    let (Some(wholes), Some(me)) = (opened(rt.alloc()), NodeId::new(0)) else {
-        panic!(rt; "no lines")
-    };
-    let Ok(room) = Vec::with_capacity(rt.alloc(), 16) else {
-        panic!(rt; "no room")
-    };
-    if !are_lines_of(&wholes, me) {
-        panic!(rt; "no lines of the node")
-    }
-    let mut bank = SoloBank::new(wholes, me);
-    let mut trace = Trace::new(room);
+    let mut bank = seated(rt.alloc())?;
+    let mut trace = Trace::new(Vec::with_capacity(rt.alloc(), 16)?);
     same(&rt, &rounds(&mut bank, &mut trace), &Some(ROUNDS));
     same(&rt, &trace.events(), &None);
+    let me = bank.node();
     bank.seat(me);
     same(&rt, &bank.into_wholes().len(), &2);
     let last = Vec::<u8>::with_capacity(rt.alloc(), 1);
     assert!(rt; last.is_ok(), "allocation 9 is refused");
+    Ok(())
 }
