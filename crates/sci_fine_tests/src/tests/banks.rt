@@ -5,9 +5,10 @@ ghost use Rattle.sci_fine.specs.Seats.{IsSeatOf};
 
 use crate::tests::same;
 use sci_core::{AnyWords, Line};
-use sci_fine::{FineBank, FineLine, Seat};
+use sci_fine::{FineBank, FineLine, Seat, SeatOfAnother};
 use sci_words::LineNo;
 use std::alloc::Global;
+use std::process::Abort;
 use std::test::Fail;
 
 // A line of two nodes, with its seats.
@@ -27,6 +28,15 @@ pub(super) fn pair_of(
     Some((line, zero, one))
 }
 
+/// The refusal is 9, and hands back seats of these lines and nodes.
+fn hands_back(rt: &impl Abort, refused: &SeatOfAnother<AnyWords>, wanted: &[(LineNo, u16)]) {
+    same(rt, &refused.number(), &9);
+    same(rt, &refused.seats.len(), &wanted.len());
+    for (seat, want) in refused.seats.iter().zip(wanted.iter()) {
+        same(rt, &(seat.number(), seat.node().get()), want);
+    }
+}
+
 #[test]
 #[tactic(auto, using(sci_fine::proofs::TwoLines::two_lines))]
 fn seats_of_two_nodes_make_no_bank(rt: HostRuntime) -> Result<(), Fail> {
@@ -37,15 +47,7 @@ fn seats_of_two_nodes_make_no_bank(rt: HostRuntime) -> Result<(), Fail> {
     let Err(refused) = FineBank::new(lines.as_slice(), seats) else {
         panic!(rt; "it is no bank")
     };
-    same(&rt, &refused.number(), &9);
-    same(&rt, &refused.seats.len(), &2);
-    for (number, seat) in [0, 1].iter().zip(refused.seats.iter()) {
-        same(
-            &rt,
-            &(seat.number(), seat.node().get()),
-            &(*number, *number),
-        );
-    }
+    hands_back(&rt, &refused, &[(0, 0), (1, 1)]);
     Ok(())
 }
 
@@ -59,11 +61,7 @@ fn seats_in_another_order_make_no_bank(rt: HostRuntime) -> Result<(), Fail> {
     let Err(refused) = FineBank::new(lines.as_slice(), seats) else {
         panic!(rt; "it is no bank")
     };
-    same(&rt, &refused.number(), &9);
-    same(&rt, &refused.seats.len(), &2);
-    for (number, seat) in [1, 0].iter().zip(refused.seats.iter()) {
-        same(&rt, &(seat.number(), seat.node().get()), &(*number, 0));
-    }
+    hands_back(&rt, &refused, &[(1, 0), (0, 0)]);
     Ok(())
 }
 
@@ -76,7 +74,6 @@ fn no_seats_make_no_bank(rt: HostRuntime) -> Result<(), Fail> {
     let Err(refused) = FineBank::new(lines.as_slice(), seats) else {
         panic!(rt; "it is no bank")
     };
-    same(&rt, &refused.number(), &9);
-    same(&rt, &refused.seats.len(), &0);
+    hands_back(&rt, &refused, &[]);
     Ok(())
 }
