@@ -1,6 +1,6 @@
 //! Seats, their ports and banks of them take no memory, as turns by chance show. tools/allocations runs each of these tests
 //! with the allocation of its last line refused, and wants it to fail there, and there alone.
-ghost use Rattle.std.specs.Prelude.{◌≡◌, All};
+ghost use Rattle.std.specs.Prelude.{◌≡◌, ◌<◌, All};
 ghost use Rattle.sci_coarse.specs.Seats.{IsSeatOf};
 
 use super::banks::line_of;
@@ -138,24 +138,44 @@ fn calls_on_a_taken_line_take_no_memory(rt: HostRuntime) {
     assert!(rt; last.is_ok(), "allocation 8 is refused");
 }
 
-/// One turn on a line of a bank, behind a look and loads. None: there is no such line, or the bank says something else of it.
-#[tactic(auto, using(sci_core::proofs::Fitting::any_event_fits, sci_ops::proofs::Storing::any_store_fits))]
-fn turn_in(bank: &mut CoarseBank<'_, AnyWords>, line: LineNo, op: &mut Op) -> Option<Turn> {
-    if line >= bank.lines() {
-        return None;
-    }
+/// A look by a step, on a line of a bank.
+#[tactic(auto, using(sci_core::proofs::Fitting::any_event_fits))]
+fn look_on<B: Bank<Keep = AnyWords>>(bank: &mut B, line: LineNo) -> Outcome
+    requires { line < (B.way bank.old).lines }
+    ensures { B.way bank.new ≡ B.way bank.old }
+{
+    bank.step(line, Event::Look)
+}
+
+/// Whether a bank says of a line of one node what it is, and the same of its step behind loads. None: a load wasn't to be had.
+fn says_the_same<B: Bank>(bank: &mut B, line: LineNo) -> Option<bool>
+    requires { line < (B.way bank.old).lines }
+    ensures { B.way bank.new ≡ B.way bank.old }
+{
     let node = bank.node();
     let pending = bank.pending(line);
     let _ = (bank.mem(line)?, bank.tag(line, node)?);
-    let is_same = bank.number(line) == line && bank.nodes(line) == 1;
-    if !is_same || pending != bank.pending(line) {
+    Some(bank.number(line) == line && bank.nodes(line) == 1 && pending == bank.pending(line))
+}
+
+/// One turn on a line of a bank.
+#[tactic(auto, using(sci_ops::proofs::Storing::any_store_fits))]
+fn turn_on<B: Bank<Keep = AnyWords>>(bank: &mut B, line: LineNo, op: &mut Op) -> Turn
+    requires { line < (B.way bank.old).lines }
+{
+    op.turn(&mut At::new(bank, line))
+}
+
+/// One turn on a line of a bank, behind a look and loads. None: there is no such line, or the bank says something else of it.
+fn turn_in(bank: &mut CoarseBank<'_, AnyWords>, line: LineNo, op: &mut Op) -> Option<Turn> {
+    if line >= bank.lines() || !says_the_same(bank, line)? {
         return None;
     }
-    let looked = bank.step(line, Event::Look);
+    let looked = look_on(bank, line);
     if bank.own(line).is_none() || looked != Outcome::Done(None) {
         return None;
     }
-    Some(op.turn(&mut At::new(bank, line)))
+    Some(turn_on(bank, line, op))
 }
 
 /// Turns by chance on two lines of a bank, each with one operation after the other: how many of them ended.
