@@ -18,7 +18,7 @@ mod writers;
 
 use sci_script::*;
 use sci_words::{Kind, NodeId, Tag};
-use std::alloc::Global;
+use std::alloc::{AllocError, Global};
 use std::fmt::Debug;
 use std::io::Write;
 use std::process::Abort;
@@ -40,6 +40,16 @@ fn same<T: Debug + PartialEq>(rt: &impl Abort, left: &T, right: &T) {
     assert_eq!(rt; left, right);
 }
 
+/// Both are the same, and otherwise the message tells the row.
+fn same_at<Row: Debug, T: Debug + PartialEq>(rt: &impl Abort, row: &Row, left: &T, right: &T) {
+    assert_eq!(rt; left, right, "at {row:?}");
+}
+
+/// Both are the same bytes, and otherwise the message tells the row.
+fn same_bytes_at<Row: Debug>(rt: &impl Abort, row: &Row, left: &[u8], right: &[u8]) {
+    assert!(rt; left == right, "text at {row:?}");
+}
+
 /// Reads a script, opens a desk for it, and runs it.
 fn run_text<W: Write>(alloc: Global, text: &str, out: &mut W) -> Result<(), ScriptRefusal> {
     let script = read_script(alloc, text.as_bytes())?;
@@ -47,13 +57,44 @@ fn run_text<W: Write>(alloc: Global, text: &str, out: &mut W) -> Result<(), Scri
     script.run(alloc, &mut desk, out)
 }
 
+/// The script has this refusal, if it has one, and prints this text. Otherwise the message tells the row.
+fn check_at<Row: Debug>(
+    rt: &impl Abort,
+    alloc: Global,
+    row: &Row,
+    script: &str,
+    refusal: Option<ScriptRefusal>,
+    text: &str,
+) {
+    let mut out = Vec::new(alloc);
+    let end = run_text(alloc, script, &mut out);
+    same_at(rt, row, &end.err(), &refusal);
+    same_bytes_at(rt, row, &out, text.as_bytes());
+}
+
 fn check(rt: &impl Abort, alloc: Global, cases: &[Case]) {
     for (script, refusal, text) in cases {
-        let mut out = Vec::new(alloc);
-        let end = run_text(alloc, script, &mut out);
-        assert_eq!(rt; end.err(), *refusal, "of {script}");
-        assert!(rt; out.as_slice() == text.as_bytes(), "text of {script}");
+        check_at(rt, alloc, script, script, *refusal, text);
     }
+}
+
+/// The node loads a word of the line.
+fn add_load(script: &mut String, node: u16, line: u16, word: u8) -> Result<(), AllocError> {
+    write!(script, "load {node} {line} {word}\ndone {node}\n")
+}
+
+/// The node's load has read this word, with the same stamp.
+fn add_read(text: &mut String, node: u16, word: u16) -> Result<(), AllocError> {
+    write!(text, "node {node} read {word} stamp {word}\n")
+}
+
+/// The list of line 0, which the nodes up to this one have loaded, one after the other.
+fn add_list(text: &mut String, last: u16) -> Result<(), AllocError> {
+    write!(text, "line 0 FRESH {last}: {last} HEAD_FRESH")?;
+    for node in (1..last).rev() {
+        write!(text, ", {node} MID_VALID")?;
+    }
+    text.push_str(", 0 TAIL_VALID\n")
 }
 
 fn node(number: u16) -> NodeId

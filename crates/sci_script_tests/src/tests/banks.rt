@@ -5,6 +5,7 @@ ghost use Rattle.sci_script.specs.Dealt.{ArePiled, AreShared};
 
 use super::rows::ROWS;
 use super::shared::{Shared, hand_of, opened};
+use super::{same_at, same_bytes_at};
 use sci_coarse::{CoarseBank, CoarseLine};
 use sci_core::AnyWords;
 use sci_fine::{FineBank, FineLine};
@@ -135,13 +136,22 @@ impl Banked for FineLine<AnyWords> {
     }
 }
 
+/// Reads a script, and runs it over banks of such lines.
+fn run_on<L: Banked>(
+    alloc: Global,
+    text: &str,
+    out: &mut Vec<u8>,
+) -> Result<Result<(), ScriptRefusal>, Fail> {
+    let script = read_script(alloc, text.as_bytes())?;
+    Ok(L::run(alloc, &script, out).ok_or("no desk")?)
+}
+
 fn check<L: Banked>(rt: &impl Abort, alloc: Global) -> Result<(), Fail> {
     for (text, refusal, said) in ROWS {
-        let script = read_script(alloc, text.as_bytes())?;
         let mut out = Vec::new(alloc);
-        let end = L::run(alloc, &script, &mut out).ok_or("no desk")?;
-        assert_eq!(rt; end.err(), *refusal, "of {text}");
-        assert!(rt; out.as_slice() == said.as_bytes(), "text of {text}");
+        let end = run_on::<L>(alloc, text, &mut out)?;
+        same_at(rt, text, &end.err(), refusal);
+        same_bytes_at(rt, text, &out, said.as_bytes());
     }
     Ok(())
 }

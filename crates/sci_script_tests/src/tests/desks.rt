@@ -1,12 +1,13 @@
 //! A desk whose words are not to be had, or whose lists or calls don't end; and one whose words and ends come late.
 ghost use Rattle.std.specs.Prelude.{◌≡◌};
 
-use super::same;
+use super::{same, same_at, same_bytes_at};
 use sci_cache::Request;
 use sci_ops::{Answer, Turn};
 use sci_script::{Desk, Script, ScriptRefusal, Size, read_script};
 use sci_words::{Kind, LineNo, Mem, MemState, NodeId, Tag};
 use std::alloc::{AllocError, Global};
+use std::process::Abort;
 use std::test::Fail;
 
 /// How many nodes and lines the script's memory has.
@@ -174,6 +175,28 @@ impl Desk for Late {
     }
 }
 
+/// Runs a script over a desk that gives each word and end behind so many tries: it comes to this end, and prints this.
+fn check_tries(
+    rt: &impl Abort,
+    alloc: Global,
+    text: &str,
+    left: u32,
+    end: Result<(), ScriptRefusal>,
+    said: &str,
+) -> Result<(), ScriptRefusal> {
+    let script = read_script(alloc, text.as_bytes())?;
+    let mut late = Late {
+        size: size_of(&script),
+        left,
+        has_call: false,
+    };
+    let mut out = Vec::new(alloc);
+    let ran = script.run(alloc, &mut late, &mut out);
+    same_at(rt, &(text, left), &ran, &end);
+    same_bytes_at(rt, &text, &out, said.as_bytes());
+    Ok(())
+}
+
 /// The hundred thousandth try is the last.
 #[test]
 fn a_hundred_thousand_tries(rt: HostRuntime) -> Result<(), Fail> {
@@ -186,21 +209,9 @@ fn a_hundred_thousand_tries(rt: HostRuntime) -> Result<(), Fail> {
         ),
         ("memory 1 1\nevict 0 0\ndone 0\n", 3, "node 0 out\n"),
     ] {
-        let script = read_script(rt.alloc(), text.as_bytes())?;
-        for (left, end, said) in [
-            (99_999, Ok(()), printed),
-            (100_000, Err(ScriptRefusal::NotDone(line)), ""),
-        ] {
-            let mut late = Late {
-                size: size_of(&script),
-                left,
-                has_call: false,
-            };
-            let mut out = Vec::new(rt.alloc());
-            let ran = script.run(rt.alloc(), &mut late, &mut out);
-            assert_eq!(rt; ran, end, "of {text} behind {left}");
-            assert!(rt; out.as_slice() == said.as_bytes(), "of {text}");
-        }
+        let late = Err(ScriptRefusal::NotDone(line));
+        check_tries(&rt, rt.alloc(), text, 99_999, Ok(()), printed)?;
+        check_tries(&rt, rt.alloc(), text, 100_000, late, "")?;
     }
     Ok(())
 }

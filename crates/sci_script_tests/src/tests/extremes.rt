@@ -1,7 +1,8 @@
 //! Scripts of 1,048,576 bytes, of as many commands, openings, lines, words, blanks or digits as have room in them.
-use super::{run_text, same};
+use super::{check_at, same};
 use sci_script::ScriptRefusal;
 use std::alloc::{AllocError, Global};
+use std::process::Abort;
 use std::test::Fail;
 
 const BYTES: usize = 1_048_576;
@@ -15,7 +16,7 @@ struct Case {
     printed: (&'static str, usize),
 }
 
-const CASES: [Case; 6] = [
+static CASES: [Case; 6] = [
     Case {
         front: "memory 1 1\n",
         piece: ("list 0\n", 149_795),
@@ -76,17 +77,18 @@ fn filled(
     Ok(text)
 }
 
+fn check_case(rt: &impl Abort, alloc: Global, case: &Case) -> Result<(), AllocError> {
+    let script = filled(alloc, case.front, case.piece, case.end)?;
+    same(rt, &script.len(), &BYTES);
+    let text = filled(alloc, "", case.printed, "")?;
+    check_at(rt, alloc, &case.piece.0, &script, case.refusal, &text);
+    Ok(())
+}
+
 #[test]
 fn the_largest_scripts_of_each_kind(rt: HostRuntime) -> Result<(), Fail> {
     for case in &CASES {
-        let script = filled(rt.alloc(), case.front, case.piece, case.end)?;
-        same(&rt, &script.len(), &BYTES);
-        let text = filled(rt.alloc(), "", case.printed, "")?;
-        let mut out = Vec::new(rt.alloc());
-        let end = run_text(rt.alloc(), &script, &mut out);
-        let piece = case.piece.0;
-        assert_eq!(rt; end.err(), case.refusal, "of {piece}");
-        assert!(rt; out.as_slice() == text.as_bytes(), "of {piece}");
+        check_case(&rt, rt.alloc(), case)?;
     }
     Ok(())
 }

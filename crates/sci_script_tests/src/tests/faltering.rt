@@ -1,10 +1,12 @@
 //! Writers that falter once and would then go on: the fault is told at once, and nothing is written behind it.
 ghost use Rattle.std.specs.Prelude.{Some};
 
-use super::{SHARED, SHARERS, run_text, same};
+use super::{SHARED, SHARERS, run_text, same, same_at, same_bytes_at};
 use sci_script::{ScriptRefusal, put};
+use std::alloc::Global;
 use std::io;
 use std::io::{ErrorKind, Write};
+use std::process::Abort;
 
 /// Takes one byte a write. In place of one write it fails, or takes no byte.
 #[derive(Drop)]
@@ -35,23 +37,26 @@ impl Write for Faltering {
     }
 }
 
+/// A writer that falters behind these bytes has them, and no more.
+fn check_fault(rt: &impl Abort, alloc: Global, fails: bool, front: &[u8]) {
+    let row = (fails, front.len());
+    let mut writer = Faltering {
+        held: Vec::new(alloc),
+        writes: 0,
+        faulty: front.len(),
+        fails,
+    };
+    let end = run_text(alloc, SHARERS, &mut writer);
+    same_at(rt, &row, &end, &Err(ScriptRefusal::WriteFailed));
+    same_bytes_at(rt, &row, &writer.held, front);
+}
+
 #[test]
 fn a_fault_is_told_at_once(rt: HostRuntime) {
     let text = SHARED.as_bytes();
     for fails in [true, false] {
         for faulty in 0..text.len() {
-            let mut writer = Faltering {
-                held: Vec::new(rt.alloc()),
-                writes: 0,
-                faulty,
-                fails,
-            };
-            let end = run_text(rt.alloc(), SHARERS, &mut writer);
-            assert_eq!(rt; end, Err(ScriptRefusal::WriteFailed), "{fails} {faulty}");
-            assert!(rt;
-                writer.held.as_slice() == &text[..faulty],
-                "{fails} {faulty}"
-            );
+            check_fault(&rt, rt.alloc(), fails, &text[..faulty]);
         }
     }
 }
@@ -100,7 +105,7 @@ fn writes_of_2_097_152_tries(rt: HostRuntime) {
             left: interruptions,
         };
         let end = put(&mut writer, b"list");
-        assert_eq!(rt; end.is_ok(), is_written, "behind {interruptions}");
+        same_at(&rt, &interruptions, &end.is_ok(), &is_written);
         same(&rt, &writer.held.len(), &if is_written { 4 } else { 0 });
     }
 }

@@ -5,9 +5,11 @@
 ghost use Rattle.std.specs.Prelude.{None};
 
 use super::banks::are_banks;
-use super::unheard::unheard_bank;
+use super::unheard::{Unheard, unheard_bank};
 use super::{node, same, tag};
-use sci_script::{BankDesk, Script, ScriptRefusal, WholeDesk, list_text, read_script, tag_text};
+use sci_script::{
+    BankDesk, NoDesk, Script, ScriptRefusal, WholeDesk, list_text, read_script, tag_text,
+};
 use sci_words::{Kind, Mem, MemState};
 use std::alloc::{AllocError, Global};
 use std::io;
@@ -130,6 +132,17 @@ fn shows(rt: &impl Abort, alloc: Global) -> Result<(), Fail> {
     Err(Fail::new("tag_text answered 7"))
 }
 
+/// The banks that a refused desk gives back are those of the script, and make a desk.
+fn seats_again(rt: &impl Abort, alloc: Global, script: &Script, none: NoDesk<Unheard>) -> Fail {
+    same(rt, &none.number(), &7);
+    assert!(rt; are_banks(script, &none.banks));
+    let Ok(desk) = BankDesk::new(alloc, script, none.banks) else {
+        return Fail::new("new answered 7 twice");
+    };
+    assert!(rt; are_banks(script, &desk.into_banks()));
+    Fail::new("new answered 7")
+}
+
 fn seats(rt: &impl Abort, alloc: Global, script: &Script) -> Result<(), Fail> {
     let mut banks = Vec::new(alloc);
     if banks.push(unheard_bank(script.lines())).is_err() {
@@ -143,15 +156,7 @@ fn seats(rt: &impl Abort, alloc: Global, script: &Script) -> Result<(), Fail> {
             assert!(rt; are_banks(script, &desk.into_banks()));
             Ok(())
         }
-        Err(none) => {
-            same(rt, &none.number(), &7);
-            assert!(rt; are_banks(script, &none.banks));
-            if let Ok(desk) = BankDesk::new(alloc, script, none.banks) {
-                assert!(rt; are_banks(script, &desk.into_banks()));
-                return Err(Fail::new("new answered 7"));
-            }
-            Err(Fail::new("new answered 7 twice"))
-        }
+        Err(none) => Err(seats_again(rt, alloc, script, none)),
     }
 }
 

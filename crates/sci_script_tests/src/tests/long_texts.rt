@@ -1,7 +1,7 @@
 //! Texts of more than 2,000 bytes, through writers that take little at a time or are interrupted: what arrives is the whole text.
 ghost use Rattle.std.specs.Prelude.{Some};
 
-use super::{NODES, run_text, same};
+use super::{NODES, add_list, add_load, add_read, run_text, same};
 use sci_script::put;
 use std::alloc::{AllocError, Global};
 use std::io;
@@ -85,15 +85,11 @@ fn readers(alloc: Global) -> Result<(String, String), AllocError> {
     let mut script = format!(in alloc; "memory {NODES} 1\n")?;
     let mut text = String::new(alloc);
     for node in 0..NODES {
-        write!(script, "load {node} 0 0\ndone {node}\n")?;
-        write!(text, "node {node} read 0 stamp 0\n")?;
+        add_load(&mut script, node, 0, 0)?;
+        add_read(&mut text, node, 0)?;
     }
     script.push_str("list 0\n")?;
-    text.push_str("line 0 FRESH 63: 63 HEAD_FRESH")?;
-    for node in (1..NODES - 1).rev() {
-        write!(text, ", {node} MID_VALID")?;
-    }
-    text.push_str(", 0 TAIL_VALID\n")?;
+    add_list(&mut text, NODES - 1)?;
     Ok((script, text))
 }
 

@@ -1,6 +1,7 @@
 //! Scripts of bounded caches with their exact texts, worked out by hand from the tables of rows and turns.
-use super::check;
-use sci_script::{ScriptRefusal, read_script};
+use super::{Case, check, same_at};
+use sci_script::ScriptRefusal::{BadCommand, BadNumber, NotDone};
+use sci_script::read_script;
 use std::test::Fail;
 
 #[test]
@@ -81,42 +82,42 @@ fn meetings_with_a_purge(rt: HostRuntime) {
     );
 }
 
+const REFUSALS: &[Case] = &[
+    ("capacity 1", Some(BadCommand(1)), ""),
+    ("memory 1 1\ncapacity", Some(BadCommand(2)), ""),
+    ("memory 1 1\ncapacity 1 1", Some(BadCommand(2)), ""),
+    ("memory 1 1\ncapacity 0", Some(BadNumber(2)), ""),
+    ("memory 1 1\ncapacity 1025", Some(BadNumber(2)), ""),
+    (
+        "memory 1 1\ncapacity 1\ncapacity 1",
+        Some(BadCommand(3)),
+        "",
+    ),
+    ("memory 1 1\nlist 0\ncapacity 1", Some(BadCommand(3)), ""),
+    (
+        "memory 1 1\nopen 0 0 0 0 0 0 0 0 0 0\ncapacity 1",
+        Some(BadCommand(3)),
+        "",
+    ),
+    ("memory 1 1\nresidents", Some(BadCommand(2)), ""),
+    ("memory 1 1\nresidents 0 0", Some(BadCommand(2)), ""),
+    ("memory 1 1\nresidents 1", Some(BadNumber(2)), ""),
+    (
+        "memory 1 1\nresidents 0\nopen 0 0 0 0 0 0 0 0 0 0",
+        Some(BadCommand(3)),
+        "",
+    ),
+    (
+        "memory 2 2\ncapacity 1\nstore 0 0 0 5\ndone 0\nstore 0 0 0 6\nturn 0\nstore 1 1 0 5\ndone 1\n\
+         load 1 0 0\ndone 1\n",
+        Some(NotDone(10)),
+        "node 0 wrote stamp 1\nnode 1 wrote stamp 1\n",
+    ),
+];
+
 #[test]
 fn refusals(rt: HostRuntime) {
-    let command = |line| Some(ScriptRefusal::BadCommand(line));
-    let number = |line| Some(ScriptRefusal::BadNumber(line));
-    check(
-        &rt,
-        rt.alloc(),
-        &[
-            ("capacity 1", command(1), ""),
-            ("memory 1 1\ncapacity", command(2), ""),
-            ("memory 1 1\ncapacity 1 1", command(2), ""),
-            ("memory 1 1\ncapacity 0", number(2), ""),
-            ("memory 1 1\ncapacity 1025", number(2), ""),
-            ("memory 1 1\ncapacity 1\ncapacity 1", command(3), ""),
-            ("memory 1 1\nlist 0\ncapacity 1", command(3), ""),
-            (
-                "memory 1 1\nopen 0 0 0 0 0 0 0 0 0 0\ncapacity 1",
-                command(3),
-                "",
-            ),
-            ("memory 1 1\nresidents", command(2), ""),
-            ("memory 1 1\nresidents 0 0", command(2), ""),
-            ("memory 1 1\nresidents 1", number(2), ""),
-            (
-                "memory 1 1\nresidents 0\nopen 0 0 0 0 0 0 0 0 0 0",
-                command(3),
-                "",
-            ),
-            (
-                "memory 2 2\ncapacity 1\nstore 0 0 0 5\ndone 0\nstore 0 0 0 6\nturn 0\nstore 1 1 0 5\ndone 1\n\
-                 load 1 0 0\ndone 1\n",
-                Some(ScriptRefusal::NotDone(10)),
-                "node 0 wrote stamp 1\nnode 1 wrote stamp 1\n",
-            ),
-        ],
-    );
+    check(&rt, rt.alloc(), REFUSALS);
 }
 
 #[test]
@@ -132,7 +133,7 @@ fn capacities(rt: HostRuntime) -> Result<(), Fail> {
         ("memory 1 1\ncapacity 1024", 1024),
     ] {
         let script = read_script(rt.alloc(), text.as_bytes())?;
-        assert_eq!(rt; script.capacity(), capacity, "of {text}");
+        same_at(&rt, &text, &script.capacity(), &capacity);
     }
     Ok(())
 }

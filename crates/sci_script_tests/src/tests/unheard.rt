@@ -4,11 +4,12 @@ ghost use Rattle.sci_core.specs.declared.pending.Pending.TheVariants.{Idle};
 ghost use Rattle.sci_port.specs.Owes.{Owes};
 
 use super::banks::run_over;
-use super::node;
+use super::{node, same_at};
 use sci_core::{AnyWords, Event, Outcome, Pending, Stage};
 use sci_port::Bank;
 use sci_script::{ScriptRefusal, read_script};
 use sci_words::{LineNo, Mem, NodeId, Tag};
+use std::alloc::Global;
 use std::test::Fail;
 
 /// Another has each line for ever: no load is had, and no step is done.
@@ -94,6 +95,17 @@ pub(crate) fn unheard_bank(lines: u16) -> Unheard {
     }
 }
 
+/// Runs a script over such a bank.
+fn run_unheard(
+    alloc: Global,
+    text: &str,
+    out: &mut Vec<u8>,
+) -> Result<Result<(), ScriptRefusal>, Fail> {
+    let script = read_script(alloc, text.as_bytes())?;
+    let banks = vec![in alloc; unheard_bank(script.lines())]?;
+    Ok(run_over(alloc, &script, banks, out).ok_or("no desk")?)
+}
+
 #[test]
 fn words_never_had_are_18(rt: HostRuntime) -> Result<(), Fail> {
     for (text, line) in [
@@ -101,11 +113,9 @@ fn words_never_had_are_18(rt: HostRuntime) -> Result<(), Fail> {
         ("memory 1 1\n\ntag 0 0\n", 3),
         ("memory 1 2\nload 0 1 0\ndone 0\n", 3),
     ] {
-        let script = read_script(rt.alloc(), text.as_bytes())?;
-        let banks = vec![in rt.alloc(); unheard_bank(script.lines())]?;
         let mut out = Vec::new(rt.alloc());
-        let end = run_over(rt.alloc(), &script, banks, &mut out).ok_or("no desk")?;
-        assert_eq!(rt; end, Err(ScriptRefusal::NotDone(line)), "of {text}");
+        let end = run_unheard(rt.alloc(), text, &mut out)?;
+        same_at(&rt, &text, &end, &Err(ScriptRefusal::NotDone(line)));
         assert!(rt; out.is_empty());
     }
     Ok(())
