@@ -2,18 +2,15 @@
 ghost use Rattle.std.specs.Prelude.{◌≡◌, ◌<◌};
 
 mod banks;
+mod capacities;
 mod desks;
-mod extremes;
 mod faltering;
 mod growths;
 mod long_texts;
 mod memory;
-mod residents;
 mod rows;
 mod shared;
-mod sizes;
 mod unheard;
-mod widths;
 mod writers;
 
 use sci_script::*;

@@ -1,12 +1,10 @@
 ghost use Rattle.std.specs.Prelude.{Some};
 
 mod checks;
-mod drawing;
 mod faltering;
 mod growths;
 mod runs;
 mod settings;
-mod tracing;
 mod works;
 
 use sci_script::ScriptRefusal;
@@ -22,6 +20,11 @@ use std::test::*;
 /// Both are the same. Each `assert_eq!` is proved by itself; this one is proved once.
 fn same<T: Debug + PartialEq>(rt: &impl Abort, left: &T, right: &T) {
     assert_eq!(rt; left, right);
+}
+
+/// Both are the same bytes.
+fn same_bytes(rt: &impl Abort, left: &[u8], right: &[u8]) {
+    assert!(rt; left == right);
 }
 
 /// Gives one byte a read. Where it is shy, each other read is interrupted.
@@ -154,6 +157,27 @@ const READER_TOLD: &str = "# node 0 line 0 load: Queue(none) Done; Queueing(none
     # node 0 line 0 load: Settle Done; Idle; FRESH 0: 0 ONLY_FRESH\n\
     node 0 read 0 stamp 0\n";
 
+/// A writer with so much room.
+fn with_room(alloc: Global, room: usize) -> Narrow {
+    Narrow {
+        held: Vec::new(alloc),
+        room,
+        interrupted: false,
+    }
+}
+
+/// The fault of a script that comes byte by byte to a narrow writer, and what the writer holds.
+fn by_bytes(alloc: Global, form: Form, script: &str) -> (Option<SimFault>, Vec<u8>) {
+    let mut reader = OneByte {
+        rest: script.as_bytes(),
+        is_shy: true,
+        interrupted: false,
+    };
+    let mut writer = with_room(alloc, 1000);
+    let end = serve(alloc, form, &mut reader, &mut writer);
+    (end.err(), writer.held)
+}
+
 #[test]
 fn one_byte_at_a_time(rt: HostRuntime) {
     let cases = [
@@ -161,38 +185,36 @@ fn one_byte_at_a_time(rt: HostRuntime) {
         (Form::Trace, READER, READER_TOLD),
     ];
     for (form, script, text) in cases {
-        let mut reader = OneByte {
-            rest: script.as_bytes(),
-            is_shy: true,
-            interrupted: false,
-        };
-        let mut writer = Narrow {
-            held: Vec::new(rt.alloc()),
-            room: 1000,
-            interrupted: false,
-        };
-        let end = serve(rt.alloc(), form, &mut reader, &mut writer);
-        assert!(rt; end.is_ok());
-        assert!(rt; writer.held.as_slice() == text.as_bytes());
+        let (fault, held) = by_bytes(rt.alloc(), form, script);
+        same(&rt, &fault, &None);
+        same_bytes(&rt, &held, text.as_bytes());
     }
+}
+
+/// The fault of a script that can't be read, and what is written.
+fn unread(alloc: Global, form: Form) -> (Option<SimFault>, Vec<u8>) {
+    let mut out = Vec::new(alloc);
+    let end = serve(alloc, form, &mut Broken, &mut out);
+    (end.err(), out)
+}
+
+/// The fault of a script before a writer with so much room, and what the writer holds.
+fn written(alloc: Global, script: &str, room: usize) -> (Option<SimFault>, Vec<u8>) {
+    let mut writer = with_room(alloc, room);
+    let end = serve_script(alloc, &mut script.as_bytes(), &mut writer);
+    (end.err(), writer.held)
 }
 
 #[test]
 fn readers_and_writers_that_fail(rt: HostRuntime) {
     for form in [Form::Script, Form::Trace] {
-        let mut out = Vec::new(rt.alloc());
-        let end = serve(rt.alloc(), form, &mut Broken, &mut out);
-        same(&rt, &end, &Err(SimFault::CannotRead));
-        assert!(rt; out.is_empty());
+        let (fault, out) = unread(rt.alloc(), form);
+        same(&rt, &fault, &Some(SimFault::CannotRead));
+        same_bytes(&rt, &out, b"");
     }
-    let mut writer = Narrow {
-        held: Vec::new(rt.alloc()),
-        room: 29,
-        interrupted: false,
-    };
-    let end = serve_script(rt.alloc(), &mut SHARERS.as_bytes(), &mut writer);
-    same(&rt, &end, &Err(SimFault::CannotWrite));
-    assert!(rt; writer.held.as_slice() == &SHARED.as_bytes()[..29]);
+    let (fault, held) = written(rt.alloc(), SHARERS, 29);
+    same(&rt, &fault, &Some(SimFault::CannotWrite));
+    same_bytes(&rt, &held, &SHARED.as_bytes()[..29]);
 }
 
 /// The bytes of the writer and the fault, through a buffer of so many bytes before a writer with so much room.
@@ -203,17 +225,31 @@ fn through_buffer(
     capacity: usize,
     room: usize,
 ) -> Result<(Vec<u8>, Option<SimFault>), Fail> {
-    let writer = Narrow {
-        held: Vec::new(alloc),
-        room,
-        interrupted: false,
-    };
+    let writer = with_room(alloc, room);
     let output = BufWriter::with_capacity(alloc, capacity, writer)?;
     let (writer, end) = serve_buffered(alloc, form, &mut script.as_bytes(), output);
     Ok((writer.held, end.err()))
 }
 
-/// What is written before a refusal goes out, and a writer that is full is told before the refusal.
+/// A case through a buffer of so many bytes before a writer with so much room, which is told before the refusal if it is full.
+fn check_buffer(
+    rt: &impl Abort,
+    alloc: Global,
+    form: Form,
+    case: Case,
+    capacity: usize,
+    room: usize,
+) -> Result<(), Fail> {
+    let (script, fault, text) = case;
+    let (held, end) = through_buffer(alloc, form, script, capacity, room)?;
+    let cut = Some(SimFault::CannotWrite);
+    let wanted = if room < text.len() { cut } else { fault };
+    assert_eq!(rt; end, wanted, "of {script}, {room}");
+    same_bytes(rt, &held, text.as_bytes().get(..room).unwrap_or(b""));
+    Ok(())
+}
+
+/// What is written before a refusal goes out.
 #[test]
 fn buffers_before_a_writer_that_fills(rt: HostRuntime) -> Result<(), Fail> {
     let cases: [(Form, Case); 5] = [
@@ -240,17 +276,10 @@ fn buffers_before_a_writer_that_fills(rt: HostRuntime) -> Result<(), Fail> {
             ),
         ),
     ];
-    for (form, (script, fault, text)) in cases {
+    for (form, case) in cases {
         for capacity in [0, 1, 20, 24, 70, 65_536] {
-            for room in 0..text.len() + 1 {
-                let (held, end) = through_buffer(rt.alloc(), form, script, capacity, room)?;
-                let cut = Some(SimFault::CannotWrite);
-                let wanted = if room < text.len() { cut } else { fault };
-                assert_eq!(rt; end, wanted, "of {script}, {room}");
-                assert!(rt;
-                    held.as_slice() == &text.as_bytes()[..room],
-                    "of {script}, {room}"
-                );
+            for room in 0..case.2.len() + 1 {
+                check_buffer(&rt, rt.alloc(), form, case, capacity, room)?;
             }
         }
     }
@@ -263,24 +292,6 @@ fn input(alloc: Global, length: usize) -> Result<Vec<u8>, AllocError> {
         input[0] = b'#';
     }
     Ok(input)
-}
-
-#[test]
-fn long_inputs(rt: HostRuntime) -> Result<(), Fail> {
-    let cases = [
-        (1_048_576, refused(ScriptRefusal::BadCommand(2))),
-        (1_048_577, Some(SimFault::InputTooLong)),
-    ];
-    for (length, fault) in cases {
-        let input = input(rt.alloc(), length)?;
-        for form in [Form::Script, Form::Trace] {
-            let mut out = Vec::new(rt.alloc());
-            let end = serve(rt.alloc(), form, &mut input.as_slice(), &mut out);
-            same(&rt, &end.err(), &fault);
-            assert!(rt; out.is_empty());
-        }
-    }
-    Ok(())
 }
 
 /// The fault of an input that a reader gives byte by byte.
@@ -310,6 +321,13 @@ fn long_inputs_byte_by_byte(rt: HostRuntime) -> Result<(), Fail> {
     Ok(())
 }
 
+/// The fault of a reader that is interrupted so many times, and then at its end; and what is written.
+fn interrupted_at_the_end(alloc: Global, interruptions: u32) -> (Option<SimFault>, Vec<u8>) {
+    let mut out = Vec::new(alloc);
+    let end = serve_script(alloc, &mut Late { interruptions }, &mut out);
+    (end.err(), out)
+}
+
 // A reader that is interrupted before each byte, and before its end, takes two reads for each.
 #[test]
 fn inputs_of_2_097_152_reads(rt: HostRuntime) -> Result<(), Fail> {
@@ -324,11 +342,18 @@ fn inputs_of_2_097_152_reads(rt: HostRuntime) -> Result<(), Fail> {
         (2_097_152, Some(SimFault::CannotRead)),
         (u32::MAX, Some(SimFault::CannotRead)),
     ] {
-        let mut out = Vec::new(rt.alloc());
-        let end = serve_script(rt.alloc(), &mut Late { interruptions }, &mut out);
-        assert_eq!(rt; end.err(), fault, "after {interruptions}");
-        assert!(rt; out.is_empty());
+        let (end, out) = interrupted_at_the_end(rt.alloc(), interruptions);
+        same(&rt, &end, &fault);
+        same_bytes(&rt, &out, b"");
     }
+    Ok(())
+}
+
+/// The fault has this text, and status 1.
+fn tells(rt: &impl Abort, alloc: Global, fault: SimFault, text: &str) -> Result<(), Fail> {
+    let shown = format!(in alloc; "{fault}")?;
+    same(rt, &shown.as_str(), &text);
+    same(rt, &fault.status(), &1);
     Ok(())
 }
 
@@ -357,9 +382,7 @@ fn texts_and_statuses_of_faults(rt: HostRuntime) -> Result<(), Fail> {
         (SimFault::NoRun(WorkRefusal::NoThread), "refused 26"),
     ];
     for (fault, text) in cases {
-        let shown = format!(in rt.alloc(); "{fault}")?;
-        assert!(rt; shown.as_str() == text, "of {text}");
-        assert_eq!(rt; fault.status(), 1, "of {text}");
+        tells(&rt, rt.alloc(), fault, text)?;
     }
     same(&rt, &SimFault::Unlawful.status(), &3);
     Ok(())

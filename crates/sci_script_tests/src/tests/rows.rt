@@ -1,6 +1,5 @@
 //! Scripts with their exact texts, worked out by hand from the tables of rows and turns.
 use super::{Case, SHARED, SHARERS, check};
-use sci_script::ScriptRefusal::{BadCommand, BadNumber, NotDone};
 
 /// Reads, writes, exits, nodes that come late, and a bounded cache: each is run over whole lines, and over lines that threads share.
 pub const ROWS: &[Case] = &[
@@ -126,39 +125,4 @@ pub const ROWS: &[Case] = &[
 #[test]
 fn rows_over_whole_lines(rt: HostRuntime) {
     check(&rt, rt.alloc(), ROWS);
-}
-
-const REFUSALS: &[Case] = &[
-    ("", Some(BadCommand(1)), ""),
-    ("\n", Some(BadCommand(2)), ""),
-    ("memory 0 1", Some(BadNumber(1)), ""),
-    ("memory 1 1\nlode 0 0 0", Some(BadCommand(2)), ""),
-    ("memory 1 1\nload 0 0 8", Some(BadNumber(2)), ""),
-    ("memory 1 1\nturn 0", Some(BadCommand(2)), ""),
-    ("memory 1 1\ndone 0", Some(BadCommand(2)), ""),
-    (
-        "memory 1 1\nlist 0\nturn 0",
-        Some(BadCommand(3)),
-        "line 0 HOME\n",
-    ),
-    (
-        "memory 1 1\nload 0 0 0\nload 0 0 0",
-        Some(BadCommand(3)),
-        "",
-    ),
-    (
-        "memory 1 1\nlist 0\nopen 0 0 0 0 0 0 0 0 0 0",
-        Some(BadCommand(3)),
-        "",
-    ),
-    (
-        "memory 2 1\nstore 0 0 0 5\ndone 0\nstore 0 0 0 6\nturn 0\nload 1 0 0\ndone 1\n",
-        Some(NotDone(7)),
-        "node 0 wrote stamp 1\n",
-    ),
-];
-
-#[test]
-fn refusals(rt: HostRuntime) {
-    check(&rt, rt.alloc(), REFUSALS);
 }

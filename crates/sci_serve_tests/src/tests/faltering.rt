@@ -1,9 +1,12 @@
 //! A reader that fails once, and would then go on: the input can't be read.
 use super::runs::ALONE;
-use super::{OneByte, SHARERS};
+use super::{OneByte, SHARERS, same, same_bytes};
 use sci_serve::{SimFault, serve_run, serve_script};
+use std::alloc::Global;
 use std::io;
 use std::io::{ErrorKind, Read};
+use std::sync::Wait;
+use std::thread::Threads;
 
 /// Fails in place of one read.
 #[derive(Drop)]
@@ -37,24 +40,38 @@ fn failing_at(text: &str, faulty: usize) -> Faltering<'_> {
     }
 }
 
+// The fault of a script that fails at this read, and what is written.
+fn script_failing_at(alloc: Global, faulty: usize) -> (Option<SimFault>, Vec<u8>) {
+    let mut out = Vec::new(alloc);
+    let end = serve_script(alloc, &mut failing_at(SHARERS, faulty), &mut out);
+    (end.err(), out)
+}
+
 #[test]
 fn a_fault_is_told_at_once(rt: HostRuntime) {
     for faulty in 0..SHARERS.len() + 1 {
-        let mut reader = failing_at(SHARERS, faulty);
-        let mut out = Vec::new(rt.alloc());
-        let end = serve_script(rt.alloc(), &mut reader, &mut out);
-        assert_eq!(rt; end, Err(SimFault::CannotRead), "at read {faulty}");
-        assert!(rt; out.is_empty());
+        let (fault, out) = script_failing_at(rt.alloc(), faulty);
+        same(&rt, &fault, &Some(SimFault::CannotRead));
+        same_bytes(&rt, &out, b"");
     }
+}
+
+// The fault of settings that fail at this read, and what is written.
+fn run_failing_at<T: Threads + Wait + Sync>(
+    rt: &T,
+    alloc: Global,
+    faulty: usize,
+) -> (Option<SimFault>, Vec<u8>) {
+    let mut out = Vec::new(alloc);
+    let end = serve_run(rt, alloc, &mut failing_at(ALONE, faulty), &mut out);
+    (end.err(), out)
 }
 
 #[test]
 fn nothing_runs_of_settings_that_cannot_be_read(rt: HostRuntime) {
     for faulty in 0..ALONE.len() + 1 {
-        let mut reader = failing_at(ALONE, faulty);
-        let mut out = Vec::new(rt.alloc());
-        let end = serve_run(&rt, rt.alloc(), &mut reader, &mut out);
-        assert_eq!(rt; end, Err(SimFault::CannotRead), "at read {faulty}");
-        assert!(rt; out.is_empty());
+        let (fault, out) = run_failing_at(&rt, rt.alloc(), faulty);
+        same(&rt, &fault, &Some(SimFault::CannotRead));
+        same_bytes(&rt, &out, b"");
     }
 }

@@ -1,0 +1,158 @@
+"""Runs the built program as its users do, and compares both streams and the status with the tables beside this file.
+
+    python3 tools/statuses [PROGRAM]
+
+PROGRAM is crates/sci_sim/out/sci_sim, or the one that is named. The last line is `statuses: N passed, M failed`, and the
+status is 0 where none failed. kinds.py says what a case is.
+"""
+
+import html
+import os
+import pathlib
+import resource
+import subprocess
+import sys
+import tempfile
+
+HOME = pathlib.Path(__file__).resolve().parents[2]
+sys.path.insert(0, str(HOME / "tools/statuses"))
+sys.dont_write_bytecode = True
+
+import caches
+import dumps
+import runs
+import scripts
+import settings
+import sizes
+import traces
+from kinds import CLOSED, FOLDER, FULL, UNREAD, Begins, Drawn, Lawful, Little, Page, Traced, WholePage
+
+PROGRAM = os.path.realpath(sys.argv[1] if sys.argv[1:] else HOME / "crates/sci_sim/out/sci_sim")
+TABLES = [scripts, caches, sizes, traces, dumps, runs, settings]
+# The files that lie where the program runs; `folder` is a folder.
+FILES = scripts.FILES | dumps.FILES | runs.FILES
+
+
+def bytes_of(text):
+    return text if isinstance(text, bytes) else text.encode()
+
+
+def descriptor(number, text, room):
+    """What a stream is opened as, where it is no closed one: a file with this text, or to take one, or what stands for it."""
+    if text is FOLDER:
+        return os.open(room, os.O_RDONLY)
+    if text is FULL:
+        return os.open("/dev/full", os.O_WRONLY)
+    if text is UNREAD:
+        reader, writer = os.pipe()
+        os.close(reader)
+        return writer
+    name = f"{room}/.{number}"
+    with open(name, "wb") as file:
+        file.write(bytes_of(text) if number == 0 and text is not CLOSED else b"")
+    return os.open(name, os.O_RDWR)
+
+
+def run(arguments, streams, room):
+    """The status, and what stands in both outputs."""
+    opened = [descriptor(number, text, room) for number, text in enumerate(streams)]
+    closed = [number for number, text in enumerate(streams) if text is CLOSED]
+
+    def prepare():
+        if isinstance(streams[0], Little):
+            resource.setrlimit(resource.RLIMIT_AS, (12_000_000, 12_000_000))
+        for number in closed:
+            os.close(number)
+
+    how = dict(zip(("stdin", "stdout", "stderr"), opened))
+    try:
+        status = subprocess.run([PROGRAM, *arguments], cwd=room, preexec_fn=prepare, timeout=120, **how).returncode
+    except subprocess.TimeoutExpired:
+        status = "none within 120 seconds"
+    finally:
+        for it in opened:
+            os.close(it)
+    said = []
+    for number in range(3):
+        written = pathlib.Path(f"{room}/.{number}")
+        if number:
+            said.append(written.read_bytes().decode(errors="replace") if written.exists() else "")
+        written.unlink(missing_ok=True)
+    return status, said
+
+
+def without_turns(trace):
+    return "".join(line for line in trace.splitlines(keepends=True) if not line.startswith("# node "))
+
+
+def drawn(page):
+    """The text that a whole page shows, with the lines of turns, or None where it is no page."""
+    front, _, text = page.partition('<pre id="trace">\n')
+    text, _, end = text.partition("</pre>\n<script>")
+    if not front.startswith("<!DOCTYPE html>\n") or not end.endswith("</script>\n</body>\n</html>\n"):
+        return None
+    return html.unescape(text)
+
+
+def is_wanted(said, wanted, room):
+    match wanted:
+        case WholePage():
+            return drawn(said) == wanted
+        case Drawn() if said or isinstance(wanted, Page):
+            page = drawn(said)
+            return page is not None and without_turns(page) == wanted
+        case Traced():
+            return without_turns(said) == wanted
+        case Lawful():
+            status, (verdict, _) = run(["check"], [said.removeprefix(wanted), "", ""], room)
+            return said.startswith(wanted) and status == 0 and verdict.endswith("lawful\n")
+        case Begins():
+            return said.startswith(wanted)
+        case str():
+            return said == wanted
+    return said == ""
+
+
+def fails(case, room):
+    """What is wrong with a case."""
+    arguments, given, wanted, *texts = case
+    status, said = run(arguments, [given, *texts], room)
+    wrong = [] if status == wanted else [f"status {status}, and not {wanted}"]
+    for name, it, text in zip(("standard output", "standard error"), said, texts):
+        if not is_wanted(it, text, room):
+            wrong.append(f"{name}: {it[-200:]!r}")
+    return wrong
+
+
+def differs(script, room):
+    """Where `trace` and `draw` do with a script what `script` doesn't do."""
+    (status, (text, error)), traced, paged = (run([it], [script, "", ""], room) for it in ("script", "trace", "draw"))
+    wrong = []
+    if (traced[0], without_turns(traced[1][0]), traced[1][1]) != (status, text, error):
+        wrong.append("trace does what script doesn't do")
+    # a script that can't be read has no page
+    page = None if status and not traced[1][0] and not paged[1][0] else drawn(paged[1][0])
+    if (paged[0], page or "", paged[1][1]) != (status, traced[1][0], error):
+        wrong.append("draw does what trace doesn't do")
+    return wrong
+
+
+def main():
+    passed, failed = 0, 0
+    cases = [it for table in TABLES for it in table.CASES]
+    with tempfile.TemporaryDirectory(prefix="statuses-") as room:
+        os.mkdir(f"{room}/folder")
+        for name, text in FILES.items():
+            pathlib.Path(f"{room}/{name}").write_bytes(bytes_of(text))
+        told = [(arguments, given, fails((arguments, given, *rest), room)) for arguments, given, *rest in cases]
+        told += [(["script", "trace", "draw"], script, differs(script, room)) for script in scripts.ALIKE + traces.ALIKE]
+    for arguments, given, wrong in told:
+        passed, failed = passed + (not wrong), failed + bool(wrong)
+        for it in wrong:
+            print(f"statuses: scisim {arguments} on {given[:80] if isinstance(given, (str, bytes)) else 'no text'!r}: {it}")
+    print(f"statuses: {passed} passed, {failed} failed")
+    return failed != 0
+
+
+if __name__ == "__main__":
+    sys.exit(main())

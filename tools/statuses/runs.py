@@ -1,0 +1,134 @@
+"""What `run` prints of a workload."""
+
+from kinds import AT_LIMIT, CLOSED, FOLDER, FULL, LIMIT, READ, UNREAD, USAGE, WRITE
+from kinds import Begins, Lawful, refused
+
+COUNT = 'work = "count"\nnodes = 4\nadds = 1000\ncapacity = 1\n'
+# Long enough for two lines on its way.
+LONG = 'work = "count"\nnodes = 1\nadds = 250000\ncapacity = 1\n'
+TOLD = "scisim: run: 100000 calls\nscisim: run: 200000 calls\n"
+# One node counts, so the dump is always the same.
+ALONE = 'work = "count"\nnodes = 1\nadds = 3\ncapacity = 1\ndump = true\n'
+ALONE_COUNTED = (
+    "count 3\nscidump 1 1 1\nline 0 0000000000000002 0 0 0 0 0 0 0 0 0\ntag 0 0 0000000000ffff03 3 3 0 0 0 0 0 0 0\nend\n"
+)
+CELLS = [0] * 10 + [1] + [0] * 10
+STENCIL = f'work = "stencil"\nnodes = 3\ncapacity = 2\nphases = 5\ncells = {CELLS}\n'
+SPREAD = "cells 0 0 0 0 0 1 5 15 30 45 51 45 30 15 5 1 0 0 0 0 0\n"
+ITEMS = [3 * place for place in range(100)]
+RING = f'work = "ring"\nlines = 2\ncapacity = 1\nitems = {ITEMS}\n'
+PASSED = "items " + " ".join(map(str, ITEMS)) + "\n"
+
+# One node takes seven cells a phase on, from line 0 to line 1. Where it may name one line, it has left line 0 to memory.
+TILE = 'work = "stencil"\nnodes = 1\nphases = 1\ncells = [1, 1, 1, 1, 1, 1, 1]\ndump = true\n'
+TILE_LEFT = (
+    "cells 2 3 3 3 3 3 2\n"
+    "scidump 1 1 2\n"
+    "line 0 000000000000ff00 1 1 1 1 1 1 1 1 1\n"
+    "line 1 0000000000000002 0 0 0 0 0 0 0 0 0\n"
+    "tag 1 0 0000000000ffff03 1 2 2 3 3 3 3 3 2\n"
+    "end\n"
+)
+TILE_KEPT = (
+    "cells 2 3 3 3 3 3 2\n"
+    "scidump 1 1 2\n"
+    "line 0 0000000000000002 0 0 0 0 0 0 0 0 0\n"
+    "tag 0 0 0000000000ffff03 1 1 1 1 1 1 1 1 1\n"
+    "line 1 0000000000000002 0 0 0 0 0 0 0 0 0\n"
+    "tag 1 0 0000000000ffff03 1 2 2 3 3 3 3 3 2\n"
+    "end\n"
+)
+
+# One node passes an item to another, which has it at the head of line 0's list, or has left that list for the line behind.
+ITEM = 'work = "ring"\nlines = 1\nitems = [7]\ndump = true\n'
+ITEM_LEFT = (
+    "items 7\n"
+    "scidump 1 2 2\n"
+    "line 0 0000000000000002 0 0 0 0 0 0 0 0 0\n"
+    "tag 0 0 0000000000ffff03 1 1 7 0 0 0 0 0 0\n"
+    "line 1 0000000000000102 0 0 0 0 0 0 0 0 0\n"
+    "tag 1 1 0000000000ffff03 1 1 0 0 0 0 0 0 0\n"
+    "end\n"
+)
+ITEM_KEPT = (
+    "items 7\n"
+    "scidump 1 2 2\n"
+    "line 0 0000000000000102 0 0 0 0 0 0 0 0 0\n"
+    "tag 0 0 000000000001ff07 1 1 7 0 0 0 0 0 0\n"
+    "tag 0 1 0000000000ff0003 1 1 7 0 0 0 0 0 0\n"
+    "line 1 0000000000000102 0 0 0 0 0 0 0 0 0\n"
+    "tag 1 1 0000000000ffff03 1 1 0 0 0 0 0 0 0\n"
+    "end\n"
+)
+
+FILES = {
+    "count": COUNT,
+    "long_count": LONG,
+    "stencil": STENCIL,
+    "ring": RING,
+    "alone": ALONE,
+}
+
+CASES = [
+    (["run"], COUNT, 0, "count 4000\n", ""),
+    (["run", "count"], "", 0, "count 4000\n", ""),
+    (["run", "count"], STENCIL, 0, "count 4000\n", ""),
+    (["run", "./count"], CLOSED, 0, "count 4000\n", ""),
+    (["run"], STENCIL, 0, SPREAD, ""),
+    (["run", "stencil"], "", 0, SPREAD, ""),
+    (["run"], RING, 0, PASSED, ""),
+    (["run", "ring"], "", 0, PASSED, ""),
+    (["run"], ALONE, 0, ALONE_COUNTED, ""),
+    (["run"], STENCIL + "dump = true\n", 0, Begins(SPREAD + "scidump 1 3 6\nline 0 "), ""),
+    (["run"], STENCIL.replace("nodes = 3", "nodes = 1") + "dump = true\n", 0, Begins(SPREAD + "scidump 1 1 6\nline 0 "), ""),
+    (["run"], STENCIL.replace("nodes = 3", "nodes = 2") + "dump = true\n", 0, Begins(SPREAD + "scidump 1 2 6\nline 0 "), ""),
+    (["run"], RING + "dump = true\n", 0, Begins(PASSED + "scidump 1 2 3\nline 0 "), ""),
+    (["run"], "", 1, "", refused("22")),
+    (["run", "row"], COUNT, 1, "", refused("22")),
+    (["run"], "work =", 1, "", refused("22")),
+    (["run"], COUNT.replace("nodes = 4", "nodes = 65"), 1, "", refused("22")),
+    (["run"], COUNT.replace("nodes = 4", "nodes = 1.5"), 1, "", refused("22")),
+    (["run"], COUNT.replace("adds = 1000\n", ""), 1, "", refused("22")),
+    (["run"], COUNT + "x = 1\n", 1, "", refused("22")),
+    (["run"], STENCIL.replace("[0, ", "["), 1, "", refused("22")),
+    (["run", "limit"], "", 1, "", refused("22")),
+    (["run", "long"], COUNT, 1, "", refused("23")),
+    (["run"], COUNT.ljust(LIMIT), 0, "count 4000\n", ""),
+    (["run"], COUNT.ljust(LIMIT + 1), 1, "", refused("23")),
+    (["run", "missing"], COUNT, 1, "", READ),
+    (["run", "folder"], COUNT, 1, "", READ),
+    (["run", b"\xff"], COUNT, 1, "", READ),
+    (["run"], CLOSED, 1, "", READ),
+    (["run"], FOLDER, 1, "", READ),
+    (["run"], COUNT, 1, CLOSED, WRITE),
+    (["run", "stencil"], "", 1, FULL, WRITE),
+    (["run", "ring"], "", 1, UNREAD, WRITE),
+    (["run"], "", 1, FULL, refused("22")),
+    (["run", "count"], "", 0, "count 4000\n", CLOSED),
+    (["run", "count", "count"], COUNT, 2, "", USAGE),
+    (["run", "--nonsense"], COUNT, 2, "", USAGE),
+    (["run", "--progress"], LONG, 0, "count 250000\n", TOLD),
+    (["run", "--progress", "long_count"], "", 0, "count 250000\n", TOLD),
+    (["run", "long_count", "--progress"], "", 0, "count 250000\n", TOLD),
+    (["run"], LONG, 0, "count 250000\n", ""),
+    (["run", "--progress", "count"], "", 0, "count 4000\n", ""),
+    (["run", "--progress"], LONG, 0, "count 250000\n", CLOSED),
+    (["run", "--progress"], LONG, 1, FULL, TOLD + WRITE),
+    (["run", "--progress"], "", 1, "", refused("22")),
+    (["run", "--progress", "--progress"], COUNT, 2, "", USAGE),
+    (["run", "--help"], "", 0, Begins("Runs a workload, each node in a thread of its own, and prints its result\n\nUsage: scisim run [OPTIONS] [FILE]\n"), ""),
+    (["run"], COUNT.replace("nodes = 4\nadds = 1000", "nodes = 64\nadds = 10"), 0, "count 640\n", ""),
+    (["run"], STENCIL.replace("nodes = 3", "nodes = 1"), 0, SPREAD, ""),
+    (["run"], STENCIL.replace("nodes = 3", "nodes = 2"), 0, SPREAD, ""),
+    (["run"], STENCIL.replace("nodes = 3", "nodes = 64"), 0, SPREAD, ""),
+    (["run"], STENCIL.replace("phases = 5", "phases = 0"), 0, f"cells {' '.join(map(str, CELLS))}\n", ""),
+    (["run"], RING.replace(str(ITEMS), "[]"), 0, "items\n", ""),
+    (["run"], RING.replace(str(ITEMS), "[0, 9223372036854775807]"), 0, "items 0 9223372036854775807\n", ""),
+    (["run"], TILE + "capacity = 1\n", 0, TILE_LEFT, ""),
+    (["run"], TILE + "capacity = 2\n", 0, TILE_KEPT, ""),
+    (["run"], ITEM + "capacity = 1\n", 0, ITEM_LEFT, ""),
+    (["run"], ITEM + "capacity = 2\n", 0, ITEM_KEPT, ""),
+    (["run"], COUNT + "dump = true\n", 0, Lawful("count 4000\n"), ""),
+    (["run"], STENCIL + "dump = true\n", 0, Lawful(SPREAD), ""),
+    (["run"], RING + "dump = true\n", 0, Lawful(PASSED), ""),
+]

@@ -1,0 +1,135 @@
+"""What `script`, `trace` and `draw` read and write."""
+
+from kinds import AT_LIMIT, CLOSED, FOLDER, FULL, LIMIT, READ, UNREAD, USAGE, WRITE
+from kinds import Begins, Drawn, Little, Page, Traced, WholePage, refused
+
+ROW = "memory 3 1\nload 0 0 0\ndone 0\nload 1 0 0\ndone 1\nload 2 0 0\ndone 2\nlist 0\n"
+TEXT = (
+    "node 0 read 0 stamp 0\nnode 1 read 0 stamp 0\nnode 2 read 0 stamp 0\n"
+    "line 0 FRESH 2: 2 HEAD_FRESH, 1 MID_VALID, 0 TAIL_VALID\n"
+)
+UNENDED = "memory 2 1\nstore 0 0 0 5\ndone 0\nstore 0 0 0 6\nturn 0\nload 1 0 0\ndone 1\n"
+
+
+def largest():
+    """The largest script, with an opening for each line, and its text."""
+    lines = ["memory 64 1024"] + [f"open {it} " + " ".join([str(it)] * 9) for it in range(1024)]
+    text = []
+    for reader in range(40):
+        for line in range(1024):
+            node = (reader + line) % 64
+            lines += [f"load {node} {line} 7", f"done {node}"]
+            text.append(f"node {node} read {line} stamp {line}\n")
+    script = "\n".join(lines) + "\n#"
+    listed = ", ".join(["39 HEAD_FRESH", *(f"{it} MID_VALID" for it in range(38, 0, -1)), "0 TAIL_VALID"])
+    return script.ljust(LIMIT - len("\nlist 0\n")) + "\nlist 0\n", "".join(text) + f"line 0 FRESH 39: {listed}\n"
+
+
+LARGEST, ITS_TEXT = largest()
+
+FILES = {
+    "row": ROW,
+    "bad": "memory 0 1\n",
+    "long": AT_LIMIT + " ",
+    "limit": AT_LIMIT,
+    "largest": LARGEST,
+    "-row": ROW,
+}
+
+# The whole program's, and those of `script`.
+CASES = [
+    ([], ROW, 2, "", USAGE),
+    (["nonsense"], ROW, 2, "", USAGE),
+    (["--help"], "", 0, Begins("A model of cache coherence by sharing lists: runs a script of loads, stores and exits, turn by turn, runs workloads in threads, and checks dumps.\n\nUsage: scisim <COMMAND>\n"), ""),
+    (["--version"], "", 0, "scisim 0.1.0\n", ""),
+    (["--help"], "", 1, FULL, WRITE),
+    (["nonsense"], "", 2, "", CLOSED),
+    (["script"], ROW, 0, TEXT, ""),
+    (["script", "row"], "", 0, TEXT, ""),
+    (["script", "row"], "memory 0 1\n", 0, TEXT, ""),
+    (["script", "./row"], CLOSED, 0, TEXT, ""),
+    (["script", "--", "-row"], "", 0, TEXT, ""),
+    (["script", "largest"], "", 0, ITS_TEXT, ""),
+    (["script"], LARGEST, 0, ITS_TEXT, ""),
+    (["script"], "memory 1 1", 0, "", ""),
+    (["script"], Little(ROW), 0, TEXT, ""),
+    (["script", "largest"], Little(), 1, "", refused("7")),
+    (["script", "missing"], ROW, 1, "", READ),
+    (["script", ""], ROW, 1, "", READ),
+    (["script", "folder"], ROW, 1, "", READ),
+    (["script", "row/row"], ROW, 1, "", READ),
+    (["script", b"\xff"], ROW, 1, "", READ),
+    (["script"], CLOSED, 1, "", READ),
+    (["script"], FOLDER, 1, "", READ),
+    (["script"], "", 1, "", refused("16 at line 1")),
+    (["script", "bad"], ROW, 1, "", refused("17 at line 1")),
+    (["script"], "memory 1 1\nlode 0 0 0", 1, "", refused("16 at line 2")),
+    (["script"], "memory 1 1\nlist 0\nturn 0", 1, "line 0 HOME\n", refused("16 at line 3")),
+    (["script"], "\n", 1, "", refused("16 at line 2")),
+    (["script"], "memory 1 1\nload 0 0 8", 1, "", refused("17 at line 2")),
+    (["script"], "memory 1 1\nturn 0", 1, "", refused("16 at line 2")),
+    (["script"], "memory 1 1\ndone 0", 1, "", refused("16 at line 2")),
+    (["script"], "memory 1 1\nload 0 0 0\nload 0 0 0", 1, "", refused("16 at line 3")),
+    (["script"], "memory 1 1\nlist 0\nopen 0 0 0 0 0 0 0 0 0 0", 1, "", refused("16 at line 3")),
+    (["script"], UNENDED, 1, "node 0 wrote stamp 1\n", refused("18 at line 7")),
+    (["script"], "memory 1 2\ncapacity 1\nresidents 0\n", 0, "node 0 residents\n", ""),
+    (["script"], "memory 1 2\ncapacity 0\n", 1, "", refused("17 at line 2")),
+    (["script", "limit"], "", 1, "", refused("16 at line 2")),
+    (["script", "long"], "", 1, "", refused("23")),
+    (["script"], AT_LIMIT, 1, "", refused("16 at line 2")),
+    (["script"], AT_LIMIT + "x", 1, "", refused("23")),
+    (["script"], ROW, 1, CLOSED, WRITE),
+    (["script", "row"], "", 1, FULL, WRITE),
+    (["script", "row"], "", 1, UNREAD, WRITE),
+    (["script", "largest"], "", 1, FULL, WRITE),
+    (["script"], UNENDED, 1, FULL, WRITE),
+    (["script"], "memory 1 1", 0, FULL, ""),
+    (["script", "missing"], "", 1, FULL, READ),
+    (["script", "missing"], "", 1, "", CLOSED),
+    (["script", "row", "row"], ROW, 2, "", USAGE),
+    (["script", "--nonsense"], ROW, 2, "", USAGE),
+    (["script", "--help"], "", 0, Begins("Runs a script and prints its text\n\nUsage: scisim script [FILE]\n"), ""),
+]
+
+SCRIPTS = [it for it in CASES if it[0][:1] == ["script"] and it[0] != ["script", "--help"]]
+
+ONE_TURN = "memory 1 1\nload 0 0 0\nturn 0\n"
+
+# What `script` does `trace` does, with lines of turns on standard output.
+CASES += [
+    (["trace", *arguments[1:]], given, status, Traced(out) if isinstance(out, str) else out, error)
+    for arguments, given, status, out, error in SCRIPTS
+] + [
+    (["trace"], ONE_TURN, 0, "# node 0 line 0 load: Queue(none) Done; Queueing(none); HOME\n", ""),
+    (["trace", "--help"], "", 0, Begins("Runs a script, and says of each turn what it did\n\nUsage: scisim trace [FILE]\n"), ""),
+]
+
+# And so does `draw`, as a page on standard output; it has one to write where the script's text is empty.
+CASES += [
+    (["draw", *arguments[1:]], given, status, (Drawn if status else Page)(out) if isinstance(out, str) else out, error)
+    for arguments, given, status, out, error in SCRIPTS
+    if status or isinstance(out, str)
+] + [
+    (["draw"], "memory 1 1", 1, FULL, WRITE),
+    (["draw"], "memory 1 1\n", 0, WholePage(""), ""),
+    (["draw"], "memory 1 1\nlist 0\n", 0, WholePage("line 0 HOME\n"), ""),
+    (["draw"], ONE_TURN, 0, Begins("<!DOCTYPE html>\n"), ""),
+    (["draw", "--help"], "", 0, Begins("Runs a script, and writes a page that shows each turn\n\nUsage: scisim draw [FILE]\n"), ""),
+]
+
+# Scripts that end in each way: `trace` and `draw` do with them what `script` does.
+ALIKE = [
+    ROW,
+    UNENDED,
+    "",
+    "memory 1 1",
+    "memory 0 1",
+    "memory 1 1\nlode 0 0 0\n",
+    "memory 1 1\nload 0 0 8\n",
+    "memory 1 1\nlist 0\nturn 0",
+    "memory 2 1\nload 0 0 0\nturn 0\nload 0 0 0\nturn 0\n",
+    "memory 2 1\nload 0 0 0\nturn 0\nturn 0\nload 1 0 0\nturn 1\ndone 1\n",
+    "memory 1 2\ncapacity 1\nload 0 0 0\ndone 0\nload 0 1 0\ndone 0\nresidents 0\nlist 0\ntag 1 0\n",
+    "memory 1 1\nopen 0 18446744073709551615 1 2 3 4 5 6 7 8\nadd 0 0 7 1\ndone 0\nload 0 0 7\ndone 0\nevict 0 0\ndone 0\n",
+    "memory 2 1\nstore 0 0 0 5\ndone 0\nstore 0 0 0 6\nturn 0\nload 1 0 0\ndone 1\nlist 0\n",
+]

@@ -1,0 +1,205 @@
+"""What `trace` tells of each turn, worked by hand from the walks and the tables of docs/PROTOCOL.md. A page of `draw` has the same text."""
+
+from kinds import WholePage, refused
+
+# Each walk: a script, the status, the trace, and what is told on standard error.
+WALKS = [
+    # Two readers, and then the head stores.
+    (
+        "memory 2 1\nload 0 0 0\ndone 0\nload 1 0 0\ndone 1\nlist 0\nstore 1 0 0 5\ndone 1\n",
+        0,
+        (
+            "# node 0 line 0 load: Queue(none) Done; Queueing(none); HOME\n"
+            "# node 0 line 0 load: PrependValid Done; Fetching(none); FRESH lent 0: 0 QUEUED\n"
+            "# node 0 line 0 load: ReturnMemory Done; InQueue(none); FRESH 0: 0 QUEUED\n"
+            "# node 0 line 0 load: Settle Done; Idle; FRESH 0: 0 ONLY_FRESH\n"
+            "node 0 read 0 stamp 0\n"
+            "# node 1 line 0 load: Queue(0) Done; Queueing(0); FRESH 0: 0 ONLY_FRESH\n"
+            "# node 1 line 0 load: PrependValid Done; Fetching(0); FRESH lent 1: 1 QUEUED, 0 ONLY_FRESH\n"
+            "# node 1 line 0 load: ReturnMemory Done; InQueue(0); FRESH 1: 1 QUEUED, 0 ONLY_FRESH\n"
+            "# node 1 line 0 load: AttachFresh(0 ONLY_FRESH) Done; Ready(0); FRESH 1: 1 QUEUED, 0 TAIL_VALID\n"
+            "# node 1 line 0 load: Settle Done; Idle; FRESH 1: 1 HEAD_FRESH, 0 TAIL_VALID\n"
+            "node 1 read 0 stamp 0\n"
+            "line 0 FRESH 1: 1 HEAD_FRESH, 0 TAIL_VALID\n"
+            "# node 1 line 0 store: Convert(HEAD_FRESH) Done; Converting(0); FRESH 1: 1 CONVERT, 0 TAIL_VALID\n"
+            "# node 1 line 0 store: FreshToGone Done; Converting(0) turned; GONE 1: 1 CONVERT, 0 TAIL_VALID\n"
+            "# node 1 line 0 store: Converted Done; Purging; GONE 1: 1 PURGING, 0 TAIL_VALID\n"
+            "# node 1 line 0 store: PurgeOne(0 TAIL_VALID) Done; Advancing(0); GONE 1: 1 PURGING, 0 PURGED\n"
+            "# node 1 line 0 store: Advance Done; Clearing(0); GONE 1: 1 PURGING\n"
+            "# node 1 line 0 store: Clear Done; Purging; GONE 1: 1 PURGING\n"
+            "# node 1 line 0 store: Written(words 5 0 0 0 0 0 0 0) Done; Idle; GONE 1: 1 ONLY_DIRTY\n"
+            "node 1 wrote stamp 1\n"
+        ),
+        "",
+    ),
+    # Two readers that find nobody. Then a call is begun out of place.
+    (
+        "memory 2 1\nload 0 0 0\nturn 0\nload 1 0 0\nturn 1\nturn 0\nturn 1\nturn 0\nturn 1\nload 1 0 0\n",
+        1,
+        (
+            "# node 0 line 0 load: Queue(none) Done; Queueing(none); HOME\n"
+            "# node 1 line 0 load: Queue(none) Done; Queueing(none); HOME\n"
+            "# node 0 line 0 load: PrependValid Done; Fetching(none); FRESH lent 0: 0 QUEUED\n"
+            "# node 1 line 0 load: waits: memory is lent; Queueing(none); FRESH lent 0: 0 QUEUED\n"
+            "node 1 waits\n"
+            "# node 0 line 0 load: ReturnMemory Done; InQueue(none); FRESH 0: 0 QUEUED\n"
+            "# node 1 line 0 load: Requeue(0) Done; Queueing(0); FRESH 0: 0 QUEUED\n"
+        ),
+        refused("16 at line 10"),
+    ),
+    # A sharer that reads its own copy, while another node comes.
+    (
+        "memory 2 1\nadd 0 0 7 9\ndone 0\nload 0 0 7\nturn 0\nload 1 0 7\nturn 1\nturn 1\nturn 1\ntag 0 0\nturn 0\ndone 1\n",
+        0,
+        (
+            "# node 0 line 0 add: Queue(none) Done; Queueing(none); HOME\n"
+            "# node 0 line 0 add: PrependValid Done; Fetching(none); FRESH lent 0: 0 QUEUED\n"
+            "# node 0 line 0 add: ReturnMemory Done; InQueue(none); FRESH 0: 0 QUEUED\n"
+            "# node 0 line 0 add: Settle Done; Idle; FRESH 0: 0 ONLY_FRESH\n"
+            "# node 0 line 0 add: Convert(ONLY_FRESH) Done; Converting(none); FRESH 0: 0 CONVERT\n"
+            "# node 0 line 0 add: FreshToGone Done; Converting(none) turned; GONE 0: 0 CONVERT\n"
+            "# node 0 line 0 add: Converted Done; Purging; GONE 0: 0 PURGING\n"
+            "# node 0 line 0 add: Written(words 0 0 0 0 0 0 0 9) Done; Idle; GONE 0: 0 ONLY_DIRTY\n"
+            "node 0 wrote stamp 1\n"
+            "# node 0 line 0 load: Hold(ONLY_DIRTY) Done; Holding; GONE 0: 0 ONLY_DIRTY held\n"
+            "# node 1 line 0 load: Queue(0) Done; Queueing(0); GONE 0: 0 ONLY_DIRTY held\n"
+            "# node 1 line 0 load: PrependGone Done; InQueue(0) dirty; GONE 1: 1 QUEUED, 0 ONLY_DIRTY held\n"
+            "# node 1 line 0 load: waits: node 0 is ONLY_DIRTY forw none back none held; InQueue(0) dirty; GONE 1: 1 QUEUED, 0 ONLY_DIRTY held\n"
+            "node 1 waits\n"
+            "tag 0 0 ONLY_DIRTY forw - back - held\n"
+            "# node 0 line 0 load: Unhold Done; Idle; GONE 1: 1 QUEUED, 0 ONLY_DIRTY\n"
+            "node 0 read 9 stamp 1\n"
+            "# node 1 line 0 load: AttachDirty(0 ONLY_DIRTY) Done; Copying(0); GONE 1: 1 QUEUED, 0 TAIL_VALID held\n"
+            "# node 1 line 0 load: ReturnCopy Done; Ready(0) dirty; GONE 1: 1 QUEUED, 0 TAIL_VALID\n"
+            "# node 1 line 0 load: Settle Done; Idle; GONE 1: 1 HEAD_DIRTY, 0 TAIL_VALID\n"
+            "node 1 read 9 stamp 1\n"
+        ),
+        "",
+    ),
+    # A node whose cache has room for one line leaves that line's list first; then it leaves the other, and once more.
+    (
+        "memory 1 2\ncapacity 1\nload 0 0 0\ndone 0\nload 0 1 0\ndone 0\nresidents 0\nevict 0 1\ndone 0\nevict 0 1\nturn 0\n",
+        0,
+        (
+            "# node 0 line 0 load: Queue(none) Done; Queueing(none); HOME\n"
+            "# node 0 line 0 load: PrependValid Done; Fetching(none); FRESH lent 0: 0 QUEUED\n"
+            "# node 0 line 0 load: ReturnMemory Done; InQueue(none); FRESH 0: 0 QUEUED\n"
+            "# node 0 line 0 load: Settle Done; Idle; FRESH 0: 0 ONLY_FRESH\n"
+            "node 0 read 0 stamp 0\n"
+            "# node 0 line 0 evict: Leave(ONLY_FRESH) Done; Leaving; FRESH 0: 0 LEAVING\n"
+            "# node 0 line 0 evict: ReturnHomeFresh Done; Parted(none); HOME\n"
+            "# node 0 line 0 evict: Left Done; Idle; HOME\n"
+            "# node 0 line 1 load: Queue(none) Done; Queueing(none); HOME\n"
+            "# node 0 line 1 load: PrependValid Done; Fetching(none); FRESH lent 0: 0 QUEUED\n"
+            "# node 0 line 1 load: ReturnMemory Done; InQueue(none); FRESH 0: 0 QUEUED\n"
+            "# node 0 line 1 load: Settle Done; Idle; FRESH 0: 0 ONLY_FRESH\n"
+            "node 0 read 0 stamp 0\n"
+            "node 0 residents 1\n"
+            "# node 0 line 1 evict: Leave(ONLY_FRESH) Done; Leaving; FRESH 0: 0 LEAVING\n"
+            "# node 0 line 1 evict: ReturnHomeFresh Done; Parted(none); HOME\n"
+            "# node 0 line 1 evict: Left Done; Idle; HOME\n"
+            "node 0 out\n"
+            "# node 0 line 1 evict: only looked; Idle; HOME\n"
+            "node 0 out\n"
+        ),
+        "",
+    ),
+    # Two neighbours that leave at once: the one nearer the tail goes first, and the head waits for it.
+    (
+        "memory 2 1\nload 0 0 0\ndone 0\nload 1 0 0\ndone 1\nevict 0 0\nturn 0\nevict 1 0\nturn 1\nturn 1\nturn 0\nturn 0\ndone 1\n",
+        0,
+        (
+            "# node 0 line 0 load: Queue(none) Done; Queueing(none); HOME\n"
+            "# node 0 line 0 load: PrependValid Done; Fetching(none); FRESH lent 0: 0 QUEUED\n"
+            "# node 0 line 0 load: ReturnMemory Done; InQueue(none); FRESH 0: 0 QUEUED\n"
+            "# node 0 line 0 load: Settle Done; Idle; FRESH 0: 0 ONLY_FRESH\n"
+            "node 0 read 0 stamp 0\n"
+            "# node 1 line 0 load: Queue(0) Done; Queueing(0); FRESH 0: 0 ONLY_FRESH\n"
+            "# node 1 line 0 load: PrependValid Done; Fetching(0); FRESH lent 1: 1 QUEUED, 0 ONLY_FRESH\n"
+            "# node 1 line 0 load: ReturnMemory Done; InQueue(0); FRESH 1: 1 QUEUED, 0 ONLY_FRESH\n"
+            "# node 1 line 0 load: AttachFresh(0 ONLY_FRESH) Done; Ready(0); FRESH 1: 1 QUEUED, 0 TAIL_VALID\n"
+            "# node 1 line 0 load: Settle Done; Idle; FRESH 1: 1 HEAD_FRESH, 0 TAIL_VALID\n"
+            "node 1 read 0 stamp 0\n"
+            "# node 0 line 0 evict: Roll(TAIL_VALID) Done; Rolling; FRESH 1: 1 HEAD_FRESH, 0 ROLL\n"
+            "# node 1 line 0 evict: Leave(HEAD_FRESH) Done; Leaving; FRESH 1: 1 LEAVING, 0 ROLL\n"
+            "# node 1 line 0 evict: waits: node 0 is ROLL forw none back 1; Leaving; FRESH 1: 1 LEAVING, 0 ROLL\n"
+            "node 1 waits\n"
+            "# node 0 line 0 evict: TellPredecessor(1 LEAVING) Done; Unlinked(none); FRESH 1: 1 LEAVING\n"
+            "# node 0 line 0 evict: Rolled Done; Idle; FRESH 1: 1 LEAVING\n"
+            "node 0 out\n"
+            "# node 1 line 0 evict: ReturnHomeFresh Done; Parted(none); HOME\n"
+            "# node 1 line 0 evict: Left Done; Idle; HOME\n"
+            "node 1 out\n"
+        ),
+        "",
+    ),
+    # A node that shares nothing stores the largest word.
+    (
+        "memory 1 1\nstore 0 0 2 18446744073709551615\ndone 0\n",
+        0,
+        (
+            "# node 0 line 0 store: Queue(none) Done; Queueing(none); HOME\n"
+            "# node 0 line 0 store: PrependValid Done; Fetching(none); FRESH lent 0: 0 QUEUED\n"
+            "# node 0 line 0 store: ReturnMemory Done; InQueue(none); FRESH 0: 0 QUEUED\n"
+            "# node 0 line 0 store: Settle Done; Idle; FRESH 0: 0 ONLY_FRESH\n"
+            "# node 0 line 0 store: Convert(ONLY_FRESH) Done; Converting(none); FRESH 0: 0 CONVERT\n"
+            "# node 0 line 0 store: FreshToGone Done; Converting(none) turned; GONE 0: 0 CONVERT\n"
+            "# node 0 line 0 store: Converted Done; Purging; GONE 0: 0 PURGING\n"
+            "# node 0 line 0 store: Written(words 0 0 18446744073709551615 0 0 0 0 0) Done; Idle; GONE 0: 0 ONLY_DIRTY\n"
+            "node 0 wrote stamp 1\n"
+        ),
+        "",
+    ),
+    # A head that leaves while another prepends.
+    (
+        "memory 2 1\nstore 0 0 0 7\ndone 0\nevict 0 0\nturn 0\nload 1 0 0\nturn 1\nturn 1\nturn 0\nlist 0\nturn 0\ndone 1\ndone 0\nlist 0\n",
+        0,
+        (
+            "# node 0 line 0 store: Queue(none) Done; Queueing(none); HOME\n"
+            "# node 0 line 0 store: PrependValid Done; Fetching(none); FRESH lent 0: 0 QUEUED\n"
+            "# node 0 line 0 store: ReturnMemory Done; InQueue(none); FRESH 0: 0 QUEUED\n"
+            "# node 0 line 0 store: Settle Done; Idle; FRESH 0: 0 ONLY_FRESH\n"
+            "# node 0 line 0 store: Convert(ONLY_FRESH) Done; Converting(none); FRESH 0: 0 CONVERT\n"
+            "# node 0 line 0 store: FreshToGone Done; Converting(none) turned; GONE 0: 0 CONVERT\n"
+            "# node 0 line 0 store: Converted Done; Purging; GONE 0: 0 PURGING\n"
+            "# node 0 line 0 store: Written(words 7 0 0 0 0 0 0 0) Done; Idle; GONE 0: 0 ONLY_DIRTY\n"
+            "node 0 wrote stamp 1\n"
+            "# node 0 line 0 evict: Leave(ONLY_DIRTY) Done; Leaving dirty; GONE 0: 0 LEAVING\n"
+            "# node 1 line 0 load: Queue(0) Done; Queueing(0); GONE 0: 0 LEAVING\n"
+            "# node 1 line 0 load: PrependGone Done; InQueue(0) dirty; GONE 1: 1 QUEUED, 0 LEAVING\n"
+            "# node 0 line 0 evict: Stay Done; Idle; GONE 1: 1 QUEUED, 0 ONLY_DIRTY\n"
+            "line 0 GONE 1: 1 QUEUED, 0 ONLY_DIRTY\n"
+            "# node 0 line 0 evict: waits: memory names 1; Idle; GONE 1: 1 QUEUED, 0 ONLY_DIRTY\n"
+            "node 0 waits\n"
+            "# node 1 line 0 load: AttachDirty(0 ONLY_DIRTY) Done; Copying(0); GONE 1: 1 QUEUED, 0 TAIL_VALID held\n"
+            "# node 1 line 0 load: ReturnCopy Done; Ready(0) dirty; GONE 1: 1 QUEUED, 0 TAIL_VALID\n"
+            "# node 1 line 0 load: Settle Done; Idle; GONE 1: 1 HEAD_DIRTY, 0 TAIL_VALID\n"
+            "node 1 read 7 stamp 1\n"
+            "# node 0 line 0 evict: Roll(TAIL_VALID) Done; Rolling; GONE 1: 1 HEAD_DIRTY, 0 ROLL\n"
+            "# node 0 line 0 evict: TellPredecessor(1 HEAD_DIRTY) Done; Unlinked(none); GONE 1: 1 ONLY_DIRTY\n"
+            "# node 0 line 0 evict: Rolled Done; Idle; GONE 1: 1 ONLY_DIRTY\n"
+            "node 0 out\n"
+            "line 0 GONE 1: 1 ONLY_DIRTY\n"
+        ),
+        "",
+    ),
+]
+
+# A `done` that is refused has a line for each of its turns; they are more than what waits.
+UNENDED = "memory 2 1\nload 0 0 0\nturn 0\nturn 0\nload 1 0 0\nturn 1\ndone 1\n"
+ITS_TRACE = (
+    "# node 0 line 0 load: Queue(none) Done; Queueing(none); HOME\n"
+    "# node 0 line 0 load: PrependValid Done; Fetching(none); FRESH lent 0: 0 QUEUED\n"
+    "# node 1 line 0 load: Queue(0) Done; Queueing(0); FRESH lent 0: 0 QUEUED\n"
+    + 100_000 * "# node 1 line 0 load: waits: memory is lent; Queueing(0); FRESH lent 0: 0 QUEUED\n"
+)
+
+TRACED = [*WALKS, (UNENDED, 1, ITS_TRACE, refused("18 at line 7"))]
+
+CASES = [
+    *((["trace"], script, status, text, error) for script, status, text, error in TRACED),
+    *((["draw"], script, status, WholePage(text), error) for script, status, text, error in TRACED),
+]
+
+# What `trace` and `draw` do with these is what `script` does.
+ALIKE = [script for script, *_ in TRACED]
