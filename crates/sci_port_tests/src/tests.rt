@@ -42,13 +42,21 @@ fn fresh(forw: Option<NodeId>) -> Tag {
 }
 
 /// One event through a port, if its step allows it. It is proved for all ports at once.
-#[tactic(auto, using(sci_core::proofs::Fitting::any_event_fits))]
 fn step_of<P: Port<Keep = AnyWords>>(port: &mut P, event: Event) -> Option<Outcome> {
     if port.pending().allows(port.node(), port.nodes(), &event) {
         Some(port.step(event))
     } else {
         None
     }
+}
+
+/// The same through a recorder of the port.
+fn record_of<P: Port<Keep = AnyWords>>(
+    port: &mut P,
+    trace: &mut Trace,
+    event: Event,
+) -> Option<Outcome> {
+    step_of(&mut Recorder::new(port, trace), event)
 }
 
 /// One event of a node through a port that records it, if there is that node and its step allows it.
@@ -62,8 +70,7 @@ fn step(
     if node.get() >= whole.nodes() {
         return None;
     }
-    let mut solo = Solo::new(whole, node);
-    step_of(&mut Recorder::new(&mut solo, trace), event)
+    record_of(&mut Solo::new(whole, node), trace, event)
 }
 
 /// A line of two nodes, and a trace with so much room.
@@ -141,6 +148,13 @@ fn tags_stand<P: Port>(rt: &impl Abort, port: &mut P)
     );
 }
 
+// The same through a recorder of the port.
+fn recorded_tags_stand<P: Port>(rt: &impl Abort, port: &mut P, trace: &mut Trace)
+    requires { 1 < (P.way port.old).nodes }
+{
+    tags_stand(rt, &mut Recorder::new(port, trace));
+}
+
 // The only event that passed is the node's look.
 fn shows_a_look(rt: &impl Abort, trace: &Trace, node: NodeId) -> Result<(), Fail> {
     let events = trace.events().ok_or("no room")?;
@@ -157,7 +171,7 @@ fn loads_the_words_that_stand(rt: HostRuntime) -> Result<(), Fail> {
     if first.get() < whole.nodes() {
         let mut port = Solo::new(&mut whole, first);
         stands(&rt, &mut port);
-        tags_stand(&rt, &mut Recorder::new(&mut port, &mut trace));
+        recorded_tags_stand(&rt, &mut port, &mut trace);
     }
     shows_a_look(&rt, &trace, first)
 }

@@ -67,7 +67,6 @@ fn seated(alloc: Global) -> Result<SoloBank<AnyWords>, Fail> {
 }
 
 /// An event on a line through a bank, if the event is in turn.
-#[tactic(auto, using(sci_core::proofs::Fitting::any_event_fits))]
 fn step_on<B: Bank<Keep = AnyWords>>(bank: &mut B, line: LineNo, event: Event) -> Option<Outcome>
     requires { line < (B.way bank.old).lines }
 {
@@ -106,6 +105,18 @@ fn load_all<P: Port>(port: &mut P, line: LineNo) -> Option<()> {
     }
 }
 
+/// An event through a recorder of a port to the line, if it is in turn, behind a look and loads.
+fn record_behind_loads<P: Port<Keep = AnyWords>>(
+    port: &mut P,
+    trace: &mut Trace,
+    line: LineNo,
+    event: Event,
+) -> Option<Outcome> {
+    let mut port = Recorder::new(port, trace);
+    load_all(&mut port, line)?;
+    step_of(&mut port, event)
+}
+
 /// The same as `step_in` through a recorder of the port to the line.
 fn step_at(
     bank: &mut SoloBank<AnyWords>,
@@ -116,10 +127,7 @@ fn step_at(
     if line >= bank.lines() {
         return None;
     }
-    let mut at = At::new(bank, line);
-    let mut port = Recorder::new(&mut at, trace);
-    load_all(&mut port, line)?;
-    step_of(&mut port, event)
+    record_behind_loads(&mut At::new(bank, line), trace, line, event)
 }
 
 /// Rounds of the events on both lines, one through the bank and one through its port: how many exchanges missed.
@@ -139,6 +147,13 @@ fn rounds(bank: &mut SoloBank<AnyWords>, trace: &mut Trace) -> Option<u32> {
     Some(missed)
 }
 
+/// How many lines a bank gives back, behind one more seat for its node.
+fn lines_left(mut bank: SoloBank<AnyWords>) -> usize {
+    let me = bank.node();
+    bank.seat(me);
+    bank.into_wholes().len()
+}
+
 #[test]
 fn ports_and_banks_take_no_memory(rt: HostRuntime) -> Result<(), Fail> {
     // Two lines take three each, their list one, and the room of a trace one.
@@ -146,9 +161,7 @@ fn ports_and_banks_take_no_memory(rt: HostRuntime) -> Result<(), Fail> {
     let mut trace = Trace::new(Vec::with_capacity(rt.alloc(), 16)?);
     same(&rt, &rounds(&mut bank, &mut trace), &Some(ROUNDS));
     same(&rt, &trace.events(), &None);
-    let me = bank.node();
-    bank.seat(me);
-    same(&rt, &bank.into_wholes().len(), &2);
+    same(&rt, &lines_left(bank), &2);
     let last = Vec::<u8>::with_capacity(rt.alloc(), 1);
     assert!(rt; last.is_ok(), "allocation 9 is refused");
     Ok(())

@@ -11,6 +11,7 @@ use sci_ops::Answer;
 use sci_port::Bank;
 use sci_words::LineNo;
 use std::alloc::Global;
+use std::process::Abort;
 use std::sync::Wait;
 use std::test::Fail;
 
@@ -54,6 +55,29 @@ fn wrote(first: u64, stamp: u64) -> Result<Answer, NodeRefusal> {
     Ok(Answer::Wrote { before, stamp })
 }
 
+// A node's calls over a bank of one line of zeros, and what they leave resident.
+fn works<B: Bank<Keep = AnyWords>, R: Abort + Wait>(
+    rt: &R,
+    alloc: Global,
+    bank: &mut B,
+) -> Result<(), Fail>
+    requires { (B.way bank.old).lines ≡ 1 }
+{
+    let mut node = Node::new(alloc, bank.node(), bank.lines(), 1)?;
+    let words = [7, 0, 0, 0, 0, 0, 0, 0];
+    let want = [
+        wrote(0, 1),
+        Ok(Answer::Seen { words, stamp: 1 }),
+        wrote(7, 2),
+        wrote(8, 3),
+        Ok(Answer::Out),
+    ];
+    let answers = five_calls(rt, &mut node, bank);
+    same(rt, &answers.as_slice(), &want.as_slice());
+    same(rt, &node.resident(alloc)?.as_slice(), &[].as_slice());
+    Ok(())
+}
+
 #[test]
 #[tactic(auto, using(sci_fine::proofs::TwoLines::one_line))]
 fn a_node_works_over_separate_words(rt: HostRuntime) -> Result<(), Fail> {
@@ -64,19 +88,5 @@ fn a_node_works_over_separate_words(rt: HostRuntime) -> Result<(), Fail> {
         panic!(rt; "it was refused")
     };
     same(&rt, &(bank.node().get(), bank.lines()), &(0, 1));
-    let mut node = Node::new(rt.alloc(), bank.node(), bank.lines(), 1)?;
-    let words = [7, 0, 0, 0, 0, 0, 0, 0];
-    let want = [
-        wrote(0, 1),
-        Ok(Answer::Seen { words, stamp: 1 }),
-        wrote(7, 2),
-        wrote(8, 3),
-        Ok(Answer::Out),
-    ];
-    let answers = five_calls(&rt, &mut node, &mut bank);
-    for (answer, want) in answers.iter().zip(want.iter()) {
-        same(&rt, &answer, &want);
-    }
-    same(&rt, &node.resident(rt.alloc())?.as_slice(), &[].as_slice());
-    Ok(())
+    works(&rt, rt.alloc(), &mut bank)
 }

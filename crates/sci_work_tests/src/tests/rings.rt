@@ -87,7 +87,6 @@ fn consumed<R: Wait, G: Gate>(
 }
 
 // What a node's workers answer that first produces the items and then consumes them, with a table of one line.
-#[tactic(auto, using(sci_work::proofs::Items::is_ring, sci_work::proofs::Items::is_ring_of, sci_work::proofs::Items::zeros_fit))]
 fn passed<R: Wait, G: Gate>(
     rt: &R,
     alloc: Global,

@@ -8,7 +8,9 @@ use sci_core::Closed;
 use sci_work::parts::value_of;
 use sci_work::{Gate, OpenGate, WorkRefusal, stencil};
 use std::alloc::{AllocError, Global};
+use std::sync::Wait;
 use std::test::Fail;
+use std::thread::Threads;
 
 // Word 0 of what each line holds.
 fn first_words(alloc: Global, lines: &[Closed]) -> Result<Vec<u64>, AllocError>
@@ -19,6 +21,35 @@ fn first_words(alloc: Global, lines: &[Closed]) -> Result<Vec<u64>, AllocError>
         words.push(value_of(line).words[0])?;
     }
     Ok(words)
+}
+
+// Nodes that work on cells at a gate: the cells then, and word 0 of what each line holds.
+pub(crate) fn worked<R: Threads + Wait + Sync, G: Gate>(
+    rt: &R,
+    alloc: Global,
+    cells: &[u64],
+    phases: u64,
+    nodes: u16,
+    capacity: u16,
+    gate: &G,
+) -> Result<(Vec<u64>, Vec<u64>), Fail> {
+    let (found, closed) = stencil(rt, alloc, cells, phases, nodes, capacity, gate)?;
+    let words = first_words(alloc, &closed)?;
+    Ok((found, words))
+}
+
+// What nodes are refused with that work on so many zeros at a gate.
+fn refusal<R: Threads + Wait + Sync, G: Gate>(
+    rt: &R,
+    alloc: Global,
+    count: usize,
+    phases: u64,
+    nodes: u16,
+    capacity: u16,
+    gate: &G,
+) -> Result<Option<WorkRefusal>, AllocError> {
+    let cells = vec![in alloc; 0; count]?;
+    Ok(stencil(rt, alloc, &cells, phases, nodes, capacity, gate).err())
 }
 
 #[test]
@@ -32,13 +63,9 @@ fn cells_take_in_their_neighbours(rt: HostRuntime) -> Result<(), Fail> {
         (3, 2, 5, ends, [5, 6, 5, 6, 5, 6]),
         (64, 1, 5, ends, [5, 6, 5, 6, 5, 6]),
     ] {
-        let (found, closed) = stencil(&rt, rt.alloc(), &cells, phases, nodes, capacity, &OpenGate)?;
-        same(&rt, &found.as_slice(), &wanted.as_slice());
-        same(
-            &rt,
-            &first_words(rt.alloc(), &closed)?.as_slice(),
-            &words.as_slice(),
-        );
+        let found = worked(&rt, rt.alloc(), &cells, phases, nodes, capacity, &OpenGate)?;
+        same(&rt, &found.0.as_slice(), &wanted.as_slice());
+        same(&rt, &found.1.as_slice(), &words.as_slice());
     }
     Ok(())
 }
@@ -46,27 +73,28 @@ fn cells_take_in_their_neighbours(rt: HostRuntime) -> Result<(), Fail> {
 #[test]
 fn the_most_cells_are_taken_in(rt: HostRuntime) -> Result<(), Fail> {
     let cells = vec![in rt.alloc(); 1; 3584]?;
-    let (found, closed) = stencil(&rt, rt.alloc(), &cells, 0, 64, 1024, &OpenGate)?;
-    same(&rt, &found, &cells);
-    same(&rt, &closed.len(), &1024);
+    let found = worked(&rt, rt.alloc(), &cells, 0, 64, 1024, &OpenGate)?;
+    same(&rt, &found.0, &cells);
+    same(&rt, &found.1.len(), &1024);
     Ok(())
 }
 
 #[test]
 fn nodes_in_threads_of_their_own_meet(rt: HostRuntime) -> Result<(), Fail> {
     let gate = MeetingGate::new(1_000_000);
-    let (cells, _) = stencil(&rt, rt.alloc(), &[0; 14], 1, 2, 2, &gate)?;
-    same(&rt, &cells.as_slice(), &[0; 14].as_slice());
+    let found = worked(&rt, rt.alloc(), &[0; 14], 1, 2, 2, &gate)?;
+    same(&rt, &found.0.as_slice(), &[0; 14].as_slice());
     assert!(rt; gate.has_met());
     Ok(())
 }
 
 #[test]
-fn a_node_that_meets_none_is_20(rt: HostRuntime) {
+fn a_node_that_meets_none_is_20(rt: HostRuntime) -> Result<(), Fail> {
     let gate = MeetingGate::new(10);
-    let refused = stencil(&rt, rt.alloc(), &[0; 14], 1, 1, 2, &gate);
-    assert!(rt; matches!(refused, Err(WorkRefusal::Stalled)));
+    let refused = refusal(&rt, rt.alloc(), 14, 1, 1, 2, &gate)?;
+    same(&rt, &refused, &Some(WorkRefusal::Stalled));
     assert!(rt; !gate.has_met());
+    Ok(())
 }
 
 // Lets the calls of the nodes below one start, and no other's.
@@ -88,12 +116,12 @@ impl Gate for Below {
 }
 
 #[test]
-fn a_gate_that_stays_shut_is_20(rt: HostRuntime) {
+fn a_gate_that_stays_shut_is_20(rt: HostRuntime) -> Result<(), Fail> {
     for node in 0..3 {
-        let gate = Below { node };
-        let refused = stencil(&rt, rt.alloc(), &[0; 21], 1, 3, 1, &gate);
-        assert!(rt; matches!(refused, Err(WorkRefusal::Stalled)));
+        let refused = refusal(&rt, rt.alloc(), 21, 1, 3, 1, &Below { node })?;
+        same(&rt, &refused, &Some(WorkRefusal::Stalled));
     }
+    Ok(())
 }
 
 #[test]
@@ -108,9 +136,8 @@ fn numbers_outside_the_limits_are_22(rt: HostRuntime) -> Result<(), Fail> {
         (7, 1, 1, 0),
         (7, 1, 1, 1025),
     ] {
-        let cells = vec![in rt.alloc(); 0; count]?;
-        let refused = stencil(&rt, rt.alloc(), &cells, phases, nodes, capacity, &OpenGate);
-        assert!(rt; matches!(refused, Err(WorkRefusal::BadSettings)));
+        let refused = refusal(&rt, rt.alloc(), count, phases, nodes, capacity, &OpenGate)?;
+        same(&rt, &refused, &Some(WorkRefusal::BadSettings));
     }
     Ok(())
 }

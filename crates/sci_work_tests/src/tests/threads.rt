@@ -1,10 +1,13 @@
-//! What the nodes of a workload do in threads of their own: each asks for its calls, and works on all its tiles.
+//! What the nodes of a workload do in threads of their own: each asks for its calls, and waits for its neighbour.
 use crate::tests::doors::Hears;
 use crate::tests::same;
-use sci_words::Kind;
-use sci_work::{Gate, OpenGate, count, ring, stencil};
+use crate::tests::stencils::worked;
+use sci_work::{Gate, WorkRefusal, count, ring, stencil};
+use std::alloc::Global;
+use std::sync::Wait;
 use std::sync::atomic::{AtomicU64, Ordering};
 use std::test::Fail;
+use std::thread::Threads;
 
 /// Hears two nodes.
 #[derive(Drop)]
@@ -41,17 +44,44 @@ impl Gate for HearsBoth {
     }
 }
 
+// What a gate hears of two nodes that add 1 ten times each.
+fn heard_of_a_count<R: Threads + Wait + Sync>(
+    rt: &R,
+    alloc: Global,
+) -> Result<[Option<(u64, u64)>; 2], WorkRefusal> {
+    let gate = HearsBoth::new();
+    count(rt, alloc, 2, 10, 1, &gate)?;
+    Ok(gate.calls())
+}
+
+// What it hears of two nodes that pass three items.
+fn heard_of_a_ring<R: Threads + Wait + Sync>(
+    rt: &R,
+    alloc: Global,
+) -> Result<[Option<(u64, u64)>; 2], WorkRefusal> {
+    let gate = HearsBoth::new();
+    ring(rt, alloc, &[7, 8, 9], 3, 1, &gate)?;
+    Ok(gate.calls())
+}
+
+// What it hears of two nodes with a tile each, and no phase.
+fn heard_of_a_stencil<R: Threads + Wait + Sync>(
+    rt: &R,
+    alloc: Global,
+) -> Result<[Option<(u64, u64)>; 2], WorkRefusal> {
+    let gate = HearsBoth::new();
+    stencil(rt, alloc, &[1; 14], 0, 2, 1, &gate)?;
+    Ok(gate.calls())
+}
+
 #[test]
 fn each_node_asks_for_its_calls(rt: HostRuntime) -> Result<(), Fail> {
-    let gate = HearsBoth::new();
-    count(&rt, rt.alloc(), 2, 10, 1, &gate)?;
-    same(&rt, &gate.calls(), &[Some((10, 10)), Some((10, 10))]);
-    let gate = HearsBoth::new();
-    ring(&rt, rt.alloc(), &[7, 8, 9], 3, 1, &gate)?;
-    same(&rt, &gate.calls()[0], &Some((3, 3)));
-    let gate = HearsBoth::new();
-    stencil(&rt, rt.alloc(), &[1; 14], 0, 2, 1, &gate)?;
-    same(&rt, &gate.calls(), &[Some((2, 2)), Some((2, 2))]);
+    let counted = heard_of_a_count(&rt, rt.alloc())?;
+    same(&rt, &counted, &[Some((10, 10)), Some((10, 10))]);
+    let passed = heard_of_a_ring(&rt, rt.alloc())?;
+    same(&rt, &passed[0], &Some((3, 3)));
+    let taken_in = heard_of_a_stencil(&rt, rt.alloc())?;
+    same(&rt, &taken_in, &[Some((2, 2)), Some((2, 2))]);
     Ok(())
 }
 
@@ -88,46 +118,11 @@ impl Gate for Holds {
 #[test]
 fn a_node_awaits_its_neighbour(rt: HostRuntime) -> Result<(), Fail> {
     // a node alone could do this in five calls: node 0 asks for tile 1 until node 1 may write it
-    let gate = Holds::new(30);
-    let (cells, _) = stencil(&rt, rt.alloc(), &[1; 14], 1, 2, 2, &gate)?;
+    let cells = worked(&rt, rt.alloc(), &[1; 14], 1, 2, 2, &Holds::new(30))?.0;
     same(
         &rt,
         &cells.as_slice(),
         &[2, 3, 3, 3, 3, 3, 3, 3, 3, 3, 3, 3, 3, 2].as_slice(),
     );
-    Ok(())
-}
-
-#[test]
-fn a_node_works_on_all_its_tiles(rt: HostRuntime) -> Result<(), Fail> {
-    let mut cells = [0; 21];
-    cells[10] = 1;
-    let mut ends = [0; 21];
-    ends[5..16].copy_from_slice(&[1, 5, 15, 30, 45, 51, 45, 30, 15, 5, 1]);
-    for nodes in [1, 2] {
-        let (found, closed) = stencil(&rt, rt.alloc(), &cells, 5, nodes, 1, &OpenGate)?;
-        same(&rt, &found.as_slice(), &ends.as_slice());
-        same(&rt, &closed.len(), &6);
-        for line in closed.iter() {
-            same(&rt, &line.tags.len(), &usize::from(nodes));
-        }
-    }
-    Ok(())
-}
-
-#[test]
-fn a_node_keeps_as_many_lines_as_it_may(rt: HostRuntime) -> Result<(), Fail> {
-    for (capacity, keeps) in [(1, false), (2, true)] {
-        // node 1 reads line 0 and then writes the line behind it
-        let (_, closed) = ring(&rt, rt.alloc(), &[7], 1, capacity, &OpenGate)?;
-        assert_eq!(rt; closed.len(), 2);
-        assert_eq!(rt; closed[0].tags.len(), 2);
-        same(&rt, &(closed[0].tags[1].kind != Kind::Invalid), &keeps);
-        // a node alone takes its tile from line 0 to line 1
-        let (_, closed) = stencil(&rt, rt.alloc(), &[1; 7], 1, 1, capacity, &OpenGate)?;
-        assert_eq!(rt; closed.len(), 2);
-        assert_eq!(rt; closed[0].tags.len(), 1);
-        same(&rt, &(closed[0].tags[0].kind != Kind::Invalid), &keeps);
-    }
     Ok(())
 }
