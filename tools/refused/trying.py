@@ -15,6 +15,8 @@ from kit import RATTLE, RT
 LINE = re.compile(r"^fn (\S+): (.*)$", re.M)
 # the last line of a check of some functions: how many were asked for, and how many of them are proved
 ASKED = re.compile(r"^only=(\d+) proved=(\d+)$", re.M)
+# a line that comes as the prover ends with a function
+CHECKED = re.compile(r"^checked (\S+), \d+ of \d+$")
 # what the prover says of a function whose own goals it could not show
 GOALS = re.compile(r"`search` did not prove (`[^`]+`(?:, `[^`]+`)*)")
 # an answer's own error; that others rest on a refused one, or that a file can't be read, is none
@@ -23,17 +25,38 @@ ANSWER = re.compile(r": error: `[^`]+`: ")
 NAMES = re.compile(r"has no field|\(nearest: |is not in scope|has no `|was not admitted")
 
 
-def run(words, folder):
-    """Runs rattle and returns its status, what it said and the CPU seconds that it took."""
-    before = time.monotonic()
+# from how many CPU seconds on a function under an edit is named: its answers are worth a look
+DEAR = 15
+
+
+def cpu_of(pid):
+    """Returns the CPU seconds that a process has taken, or 0 where it has ended."""
+    try:
+        with open(f"/proc/{pid}/stat", encoding="utf-8") as it:
+            fields = it.read().rsplit(")", 1)[1].split()
+    except OSError:
+        return 0
+    return (int(fields[11]) + int(fields[12])) / os.sysconf("SC_CLK_TCK")
+
+
+def run(words, folder, costs=None):
+    """Runs rattle and returns its status, what it said and the CPU seconds that it took; costs gets those of each function that it
+    says to have checked. The first has the start of the check too."""
+    before, spent, lines = time.monotonic(), 0, []
     how = {"cwd": folder, "stdin": subprocess.DEVNULL, "stdout": subprocess.PIPE, "stderr": subprocess.STDOUT}
     started = subprocess.Popen([*RT.rtlib.guarded(), RATTLE, *words], **how)
-    said = started.stdout.read().decode(errors="replace")
+    for line in started.stdout:
+        lines.append(line.decode(errors="replace"))
+        checked = CHECKED.match(lines[-1])
+        if checked and costs is not None:
+            now = cpu_of(started.pid)
+            costs[checked[1]], spent = now - spent, now
+    said = "".join(lines)
     _, status, used = os.wait4(started.pid, 0)
     started.returncode = os.waitstatus_to_exitcode(status) if hasattr(os, "waitstatus_to_exitcode") else ended(status)
     if started.returncode == -signal.SIGKILL and "--jobs" in words and words[words.index("--jobs") + 1] != "1":
         at = words.index("--jobs") + 1
-        return run([*words[:at], "1", *words[at + 1 :]], folder)
+        return run([*words[:at], "1", *words[at + 1 :]], folder, costs)
     return started.returncode, said, used.ru_utime + used.ru_stime, time.monotonic() - before
 
 
@@ -83,9 +106,9 @@ class Trial:
         told = ASKED.search(said)
         return not status and bool(told) and told[1] == told[2], said, used, seconds
 
-    def check(self, edits):
+    def check(self, edits, costs):
         """Checks a copy of the crate with these edits, over a copy of the folder of kept work: so none is tried over what another left.
-        Returns what the prover said, or why they can't stand together."""
+        Returns what the prover said, or why they can't stand together; costs gets the CPU seconds by function."""
         with tempfile.TemporaryDirectory(prefix="refused-") as room:
             for part in RT.rtlib.PARTS:
                 if os.path.isdir(f"{self.crate.folder}/{part}"):
@@ -101,7 +124,8 @@ class Trial:
                 changed |= {*texts}
             with tempfile.TemporaryDirectory(prefix="refused-") as kept:
                 shutil.copytree(self.kept, kept, dirs_exist_ok=True)
-                status, said, used, _ = run(["check", *self.words(1, kept), *only(it.function for it in edits)], room)
+                words = ["check", *self.words(1, kept), "--progress", *only(it.function for it in edits)]
+                status, said, used, _ = run(words, room, costs)
         return status, changed, said, used
 
     def reaches_the_prover(self, status, changed, said):
@@ -170,7 +194,8 @@ class Trial:
 
     def try_batch(self, batch, label):
         """Tries these edits in one check; in halves, where they don't compile together."""
-        status, changed, said, used = self.check(batch)
+        costs = {}
+        status, changed, said, used = self.check(batch, costs)
         why = said if status is None else self.reaches_the_prover(status, changed, said)
         alone = len(batch) == 1
         if why and not alone:
@@ -189,5 +214,8 @@ class Trial:
                 again.append(edit)
         told = [it.name for it in batch if it in self.refused]
         self.say(f"{self.crate.name}: {label}: {len(told)} of {len(batch)} edits refused ({used:.0f} CPU s): {' '.join(told)}")
+        dear = [f"{name} {cost:.0f}" for name, cost in costs.items() if cost >= DEAR]
+        if dear:
+            self.say(f"{self.crate.name}: {label}: dear, by CPU s: {', '.join(dear)}")
         for edit in again:
             self.try_batch([edit], f"{label}: {edit.name} alone")
