@@ -15,7 +15,7 @@ use Rattle.sci_core.specs.Step.{taken_line}
 use Rattle.sci_core.specs.Table.{has_row, row_of}
 use Rattle.sci_core.proofs.Handing.{hands}
 use Rattle.sci_fine.specs.Rule.{slot_number}
-use Rattle.sci_fine.specs.Steps.{slots_in, carried_by, GivesTop, Took}
+use Rattle.sci_fine.specs.Steps.{slots_in, carried_by, Carries, GivesLine, GivesTop, Took}
 
 on_top : (k : ℕ) (c : List (ℕ × Line)) → slots_in c ≡ k ∷ drop 1 (slots_in c) → (x : Line) × (c ≡ (k, x) ∷ rest c)
 on_top k [] e = cc
@@ -26,6 +26,18 @@ pub gives_there : (carry : Carry) (x : Place) (k : ℕ) (c : List (ℕ × Line))
 gives_there Stays x k c m at fits = absurd (cc)
 gives_there (Takes z) x k c m at fits = absurd (cc)
 gives_there (Gives z l) x k c m at fits = let h : z ≡ x = cc in subst (λ (k : ℕ). (y : Line) × (c ≡ (k, y) ∷ rest c)) (ap slot_number h ∙ sym at) (on_top (slot_number z) c fits)
+
+-- and then lies there
+pub gives_line : (carry : Carry) (x : Place) (k : ℕ) (y : Line) (c : List (ℕ × Line)) → motion_of carry ≡ Motion.Gives x → k ≡ slot_number x → GivesLine carry y → Carries carry ((k, y) ∷ rest c)
+gives_line Stays x k y c m at is = tt
+gives_line (Takes z) x k y c m at is = tt
+gives_line (Gives z l) x k y c m at is = let h : z ≡ x = cc in λ i. ((at ∙ ap slot_number (sym h)) i, is i) ∷ rest c
+
+-- what does not give carries nothing
+pub gives_none : (carry : Carry) (c : List (ℕ × Line)) → ((x : Place) → motion_of carry ≡ Motion.Gives x → ⊥) → Carries carry c
+gives_none Stays c none = tt
+gives_none (Takes x) c none = tt
+gives_none (Gives x l) c none = absurd (none x refl)
 
 -- the line on top of a hand
 abbrev top_line : List (ℕ × Line) → Line

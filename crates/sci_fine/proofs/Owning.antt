@@ -1,5 +1,5 @@
 -- The line in a node's own hand, through a row.
-use Rattle.std.proofs.Common.{◌≡◌, ℕ, Some, sym, ap, ◌∙◌}
+use Rattle.std.proofs.Common.{◌≡◌, ℕ, Option, Some, None, cond, sym, ap, ◌∙◌}
 use Rattle.sci_core.specs.declared.lines.Line.{Line}
 use Rattle.sci_core.specs.declared.stages.Stage.{Stage}
 use Rattle.sci_core.specs.declared.events.Event.{Event}
@@ -38,3 +38,6 @@ module _ (me : ℕ) (s : Stage) (l : Line) (e : Event) (y : Line) (o : Outline) 
 
   pub step_own : pending_of o.after own ≡ (row_of me (pending_of s l) e).after y
   step_own = (λ i. pending_of (is i).after (own_is i)) ∙ sym (ap (λ (x : Exchange). x.after) (row_filled me s l y e))
+
+  pub answer_own : (r : Option Line) → r ≡ cond o.answers (Some own) None → r ≡ (row_of me (pending_of s l) e).answer y
+  answer_own r gives = gives ∙ ((λ i. cond (is i).answers (Some (own_is i)) None) ∙ sym (ap (λ (x : Exchange). x.answer) (row_filled me s l y e)))

@@ -185,17 +185,18 @@ all_at zero x i h = absurd (omega arith)
 all_at (suc k) x zero h = refl
 all_at (suc k) x (suc i) h = all_at k x i (omega arith)
 
--- the words and slots that `new` lays out
-pub opens : {K : Type 0} (fits : K → ℕ → List ℕ → Type 0) (t : Terms K) (m g : ℕ) (ws : List ℕ) (xs : List Line) → fits t.keep t.number t.opening.words → 0 < t.nodes → m ≡ mem_code (memory_word MemState.Home None) → g ≡ tag_code invalid
-    → ws ≡ set (replicate (lies_at (t.nodes + 1)) g) 0 m → xs ≡ replicate (t.nodes + 1) t.opening → Stands fits t (opening ws xs (first_view t))
-opens {K} fits t m g ws xs kept more is₀ is₁ words slots =
+-- the words and slots that a line is opened with
+pub opens : {K : Type 0} (fits : K → ℕ → List ℕ → Type 0) (t : Terms K) (ws : List ℕ) (xs : List Line) → fits t.keep t.number t.opening.words → 0 < t.nodes
+    → ws ≡ set (replicate (lies_at (t.nodes + 1)) (tag_code invalid)) 0 (mem_code (memory_word MemState.Home None)) → xs ≡ replicate (t.nodes + 1) t.opening → Stands fits t (opening ws xs (first_view t))
+opens {K} fits t ws xs kept more words slots =
+    let m : ℕ = mem_code (memory_word MemState.Home None) in let g : ℕ = tag_code invalid in
     let k : t.nodes + 1 ≡ suc t.nodes = omega arith in let long = length-replicate (lies_at (suc t.nodes)) g in let long' = length-replicate (suc t.nodes) t.opening in
     let rep : ℕ → List ℕ = λ z. set (replicate (lies_at z) g) 0 m in
-    let one : get_or (set (replicate (lies_at (suc t.nodes)) g) 0 m) 0 0 ≡ m = get_or-set_same (replicate (lies_at (suc t.nodes)) g) 0 m 0 (omega (arith, long)) in
     subst (λ (z : List ℕ × List Line). Stands fits t (opening z.0 z.1 (first_view t))) (λ i. (sym (words ∙ ap rep k) i, sym (slots ∙ ap (λ (z : ℕ). replicate z t.opening) k) i))
-    (opens_at fits t (set (replicate (lies_at (suc t.nodes)) g) 0 m) (replicate (suc t.nodes) t.opening) kept more (length-set (replicate (lies_at (suc t.nodes)) g) 0 m ∙ long) long' (one ∙ is₀)
-    (λ i near. get_or-set_other (replicate (lies_at (suc t.nodes)) g) 0 (lies_at (suc i)) m 0 (λ e. absurd (omega arith)) ∙ (all_same (lies_at (suc t.nodes)) g (lies_at (suc i)) (omega arith) ∙ is₁))
-    (λ i k near low high. get_or-set_other (replicate (lies_at (suc t.nodes)) g) 0 (lies_at i + k) m 0 (λ e. absurd (omega arith)) ∙ (all_same (lies_at (suc t.nodes)) g (lies_at i + k) (omega arith) ∙ is₁)) (λ i near. all_at (suc t.nodes) t.opening i near))
+    (opens_at fits t (set (replicate (lies_at (suc t.nodes)) g) 0 m) (replicate (suc t.nodes) t.opening) kept more (length-set (replicate (lies_at (suc t.nodes)) g) 0 m ∙ long) long'
+    (get_or-set_same (replicate (lies_at (suc t.nodes)) g) 0 m 0 (omega (arith, long)))
+    (λ i near. get_or-set_other (replicate (lies_at (suc t.nodes)) g) 0 (lies_at (suc i)) m 0 (λ e. absurd (omega arith)) ∙ all_same (lies_at (suc t.nodes)) g (lies_at (suc i)) (omega arith))
+    (λ i k near low high. get_or-set_other (replicate (lies_at (suc t.nodes)) g) 0 (lies_at i + k) m 0 (λ e. absurd (omega arith)) ∙ all_same (lies_at (suc t.nodes)) g (lies_at i + k) (omega arith)) (λ i near. all_at (suc t.nodes) t.opening i near))
 
 pub splits_as : {K : Type 0} (fits : K → ℕ → List ℕ → Type 0) (t key : Terms K) (id : ℕ) (v : View K) → key ≡ t → v.of ≡ Some t → v.joined ≡ t.nodes → 0 < v.next → v.next < t.nodes → Splits (Stands fits key) id v (split_view v) (new_view v)
 splits_as {K} fits t key id v is live whole some_next below = subst (λ (k : Terms K). Splits (Stands fits k) id v (split_view v) (new_view v)) (sym is) (splits fits t id v live whole some_next below)

@@ -13,7 +13,7 @@ use crate::seats::{Seat, Token};
 use crate::views::{Terms, Together};
 use sci_core::{Closed, Keeps, Line};
 use sci_words::{LineNo, Tag, read_mem, read_tag};
-use std::alloc::Global;
+use std::alloc::{AllocError, Global};
 
 /// A line that was not closed. The line and the seats come back as they were.
 #[derive(Drop)]
@@ -29,6 +29,15 @@ fn sits_at<K: Keeps>(seat: &Seat<K>, place: usize, number: LineNo) -> bool
     ensures { IsTrue result ↔ SitsAt number place seat.now }
 {
     usize::from(seat.node().get()) == place && seat.number() == number
+}
+
+// Room for the tags and the lines of so many nodes.
+fn room_for(alloc: Global, nodes: u16) -> Result<(Vec<Tag>, Vec<Line>), AllocError>
+    ensures { IfOk result (λ room. (vec_len room.0 ≡ 0) × (vec_len room.1 ≡ 0) × (nodes ≤ vec_capacity room.0) × (nodes ≤ vec_capacity room.1)) }
+{
+    let tags = Vec::with_capacity(alloc, usize::from(nodes))?;
+    let lines = Vec::with_capacity(alloc, usize::from(nodes))?;
+    Ok((tags, lines))
 }
 
 // Reads the words and takes the lines of a table that nobody shares any more.
@@ -99,11 +108,7 @@ impl<K: Keeps> FineLine<K> {
                 refusal: 9,
             });
         }
-        let count = usize::from(self.terms.nodes);
-        let (Ok(tags), Ok(lines)) = (
-            Vec::with_capacity(alloc, count),
-            Vec::with_capacity(alloc, count),
-        ) else {
+        let Ok((tags, lines)) = room_for(alloc, self.terms.nodes) else {
             return Err(FinishRefusal {
                 line: self,
                 seats,

@@ -1,6 +1,10 @@
 //! How a line is made, with its seats.
-ghost use Rattle.std.specs.Prelude.{◌≡◌, ◌<◌, ◌≤◌, ◌⊎◌, ◌↔◌, ℕ, ◌+◌, Some, [], IfOk, vec_len, vec_capacity};
+ghost use Rattle.std.specs.Prelude.{◌≡◌, ◌<◌, ◌≤◌, ◌⊎◌, ◌↔◌, ℕ, ◌+◌, Some, None, [], IfOk, replicate, set, vec_len, vec_capacity};
+ghost use Rattle.sci_words.specs.Codes.{tag_code, mem_code};
+ghost use Rattle.sci_words.specs.declared.memory.MemState.TheVariants.{Home};
+ghost use Rattle.sci_core.specs.State.{invalid, memory_word};
 ghost use Rattle.sci_core.specs.declared.pending.Pending.TheVariants.{Idle};
+ghost use Rattle.sci_fine.specs.Rule.{lies_at};
 ghost use Rattle.sci_fine.specs.Seats.{AreIdleFrom, AreNew, HasTerms};
 ghost use Rattle.sci_fine.specs.Views.{first_view};
 
@@ -12,7 +16,7 @@ use crate::views::{Apart, Terms};
 use atomic_table::Table;
 use sci_core::{Keeps, Line, OpenRefusal};
 use sci_words::{Kind, LineNo, Mem, MemState, NodeId, Tag, write_mem, write_tag};
-use std::alloc::Global;
+use std::alloc::{AllocError, Global};
 
 // A seat in no step.
 fn idle_seat<K: Keeps>(token: Token<K>, node: NodeId, terms: Terms<K>) -> Seat<K>
@@ -41,6 +45,28 @@ fn node_of(number: u16) -> NodeId
     }
 }
 
+// The words of a line of this many nodes that nobody has used.
+fn home_words(alloc: Global, nodes: u16) -> Result<Vec<u64>, AllocError>
+    requires { nodes ≤ 64 }
+    ensures { IfOk result (λ words. words.items ≡ set (replicate (lies_at (nodes + 1)) (tag_code invalid)) 0 (mem_code (memory_word Home None))) }
+{
+    let invalid = Tag {
+        kind: Kind::Invalid,
+        held: false,
+        forw: None,
+        back: None,
+    };
+    let home = Mem {
+        state: MemState::Home,
+        lent: false,
+        forw: None,
+    };
+    let count = lies_at(usize::from(nodes) + 1);
+    let mut words = vec![in alloc; write_tag(invalid); count]?;
+    words[0] = write_mem(home);
+    Ok(words)
+}
+
 impl<K: Keeps> FineLine<K> {
     /// A line that nobody has used, HOME, with `line` in every slot, and its seats, node i's at place i. The refusals: 6 for
     /// 0 or more than 64 nodes, then 7 where memory ran out.
@@ -60,34 +86,32 @@ impl<K: Keeps> FineLine<K> {
         if nodes == 0 || nodes > 64 {
             return Err(OpenRefusal::BadNodes);
         }
-        let count = usize::from(nodes) + 1;
-        let invalid = Tag {
-            kind: Kind::Invalid,
-            held: false,
-            forw: None,
-            back: None,
-        };
-        let home = Mem {
-            state: MemState::Home,
-            lent: false,
-            forw: None,
-        };
-        let mut words = vec![in alloc; write_tag(invalid); lies_at(count)]?;
-        words[0] = write_mem(home);
-        let slots = vec![in alloc; line; count]?;
-        let mut seats = Vec::with_capacity(alloc, usize::from(nodes))?;
         let terms = Terms {
             nodes,
             number,
             opening: line,
             keep,
         };
-        let Ok((table, root)) = Table::new(alloc, words.as_slice(), slots, &terms) else {
+        let mut seats = Vec::with_capacity(alloc, usize::from(nodes))?;
+        let Ok((line, root)) = FineLine::open(alloc, terms) else {
             return Err(OpenRefusal::OutOfMemory);
         };
-        let line = FineLine { table, terms };
         line.seat_all(root, &mut seats);
         Ok((line, seats))
+    }
+
+    // A line that nobody has used, and the token of its first seat.
+    fn open(alloc: Global, terms: Terms<K>) -> Result<(FineLine<K>, Token<K>), AllocError>
+        requires fits { K.fits terms.keep terms.number terms.opening.words }
+        requires nodes { (0 < terms.nodes) × (terms.nodes ≤ 64) }
+        ensures { IfOk result (λ r. (r.0.terms ≡ terms) × (r.1.table_id ≡ r.0.table.shared.table_id) × (r.1.me ≡ (first_view terms, []))) }
+    {
+        let words = home_words(alloc, terms.nodes)?;
+        let slots = vec![in alloc; terms.opening; usize::from(terms.nodes) + 1]?;
+        let Ok((table, root)) = Table::new(alloc, words.as_slice(), slots, &terms) else {
+            return Err(AllocError);
+        };
+        Ok((FineLine { table, terms }, root))
     }
 
     // Makes all seats, in room that was taken before.

@@ -11,6 +11,9 @@ use Rattle.sci_fine.proofs.Ending.{mem_found, mem_stands, tag_found, reads_on, e
 use Rattle.sci_fine.proofs.Reading.{ok_err}
 use Rattle.sci_fine.proofs.closing.read_out.Goals as goal
 
+pub word-requires : goal.word-requires
+word-requires g c = (omega (arith, c.requires.counts.0), c.requires.full.0)
+
 pub unreachable-requires : goal.unreachable-requires
 unreachable-requires g c =
     let t = c.args.terms in let small : t.nodes ≤ 255 = omega (arith, c.requires.nodes) in
@@ -37,6 +40,9 @@ loop-node-init g c =
       read = record { tag_count = omega (arith, c.args.tags.ok, c.requires.room.0); line_count = omega (arith, c.args.lines.ok, c.requires.room.1); tag = λ x near. absurd (omega arith); line = λ x near. absurd (omega arith) };
     }
 
+pub lies_at-requires : goal.lies_at-requires
+lies_at-requires g c = omega (arith, c.loop-node-test.true, c.from-node-end.ensures, c.requires.nodes)
+
 pub word-requires-in-loop-node : goal.word-requires-in-loop-node
 word-requires-in-loop-node g c =
     let i = c.loop-node.invariant in let w = i.words ∙ c.take-memory.ensures.others.3 in
@@ -51,6 +57,17 @@ unreachable-requires-in-Err-read_tag g c =
     let at : get_elem? (slots_items c.args.table.words) (lies_at (suc n)) ≡ some c.word-in-loop-node.result = ap (λ z. get_elem? (slots_items z) (lies_at (suc n))) (sym w) ∙ (ap (get_elem? (slots_items c.loop-node.table.words)) next ∙ c.word-in-loop-node.ensures) in
     let k = tag_found g.K.Keeps.fits t small c.requires.rest.0 (slots_items c.args.table.words) (slots_items c.args.table.slots) c.requires.rest.1 n c.word-in-loop-node.result (omega arith) at in
     ok_err c.read_tag.result (c.requires.rest.1.state.tags n) c.in-Err-read_tag.field-0 (c.read_tag.ensures.of_code (c.requires.rest.1.state.tags n) k.0 k.1 k.2) c.in-Err-read_tag.is
+
+pub push_reserved-requires : goal.push_reserved-requires
+push_reserved-requires g c = let i = c.loop-node.invariant in omega (arith, i.tags, i.tag_room, c.loop-node-test.true, c.from-node-end.ensures)
+
+pub take-requires : goal.take-requires
+take-requires g c =
+    let i = c.loop-node.invariant in let near : c.loop-node.node + 1 < c.args.terms.nodes + 1 = omega (arith, c.loop-node-test.true, c.from-node-end.ensures) in
+    (omega (arith, i.count, near), i.full (c.loop-node.node + 1) (omega arith) near)
+
+pub push_reserved-requires-in-loop-node : goal.push_reserved-requires-in-loop-node
+push_reserved-requires-in-loop-node g c = let i = c.loop-node.invariant in omega (arith, i.lines, i.line_room, c.loop-node-test.true, c.from-node-end.ensures)
 
 pub loop-node-preserved : goal.loop-node-preserved
 loop-node-preserved g c =
@@ -71,6 +88,9 @@ loop-node-preserved g c =
       read = subst (λ (z : List Tag × List Line). HasRead ws xs (n + 1) z.0 z.1) (λ k. (sym c.push_reserved.ensures.items k, sym c.push_reserved-in-loop-node.ensures.items k))
           (reads_on ws xs n c.loop-node.tags.items c.loop-node.lines.items tag.tag c.take.result i.read tag.ensures.well_formed tag.ensures.links (ap (get_elem? ws) (sym place) ∙ at) (ap (get_elem? xs) (sym next) ∙ there));
     }
+
+pub free-requires : goal.free-requires
+free-requires g c = λ k near. let i = c.loop-node.invariant in i.taken k (omega (arith, near, i.count, c.loop-node-test.false, c.from-node-end.ensures))
 
 pub invariant_of-result : goal.invariant_of-result
 invariant_of-result g c =

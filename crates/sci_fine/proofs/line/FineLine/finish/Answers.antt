@@ -1,21 +1,54 @@
-use Rattle.std.proofs.Common.{rules, ◌≡◌, refl, sym, subst, inl, inr, arith, ◌∷◌}
+use Rattle.std.proofs.Common.{rules, ◌≡◌, refl, sym, ap, ◌∙◌, subst, inl, inr, length, ◌∷◌, arith}
+use Rattle.std.proofs.lemmas.List.{length-map}
+use Rattle.sci_fine.proofs.Elements.{clash}
 use Rattle.sci_fine.specs.Ends.{IsEnd}
 use Rattle.sci_fine.specs.Seats.{IsOnePerNode}
 use Rattle.sci_fine.proofs.line.FineLine.finish.Goals as goal
 
-pub returns-in_default-clause-err : goal.returns-in_default-clause-err
-returns-in_default-clause-err g c = (refl, refl, inr (refl, subst (λ l. IsOnePerNode c.args.self l) c.deref.ensures.value (c.has_seats.ensures.0 (search rules))))
+pub returns-then-not-has_seats : goal.returns-then-not-has_seats
+returns-then-not-has_seats g c = record {
+  seats = tt;
+  ok = tt;
+  err = (refl, refl, inl (refl, λ one. clash c.has_seats.result (c.has_seats.ensures.1 (subst (λ l. IsOnePerNode c.args.self l) (sym c.deref.ensures.value) one)) c.if-not-has_seats.true));
+}
 
-pub join_all-root-requires-clause-seats : goal.join_all-root-requires-clause-seats
-join_all-root-requires-clause-seats g c =
-    let one = subst (λ l. IsOnePerNode c.args.self l) c.deref.ensures.value (c.has_seats.ensures.0 (search rules)) in
-    λ k s e. let n : s.standing.node ≡ k = (one.1 k s e).0 in let r = c.requires k s e in (r.0, omega arith, r.1)
+pub returns-in_default : goal.returns-in_default
+returns-in_default g c = record {
+  seats = tt;
+  ok = tt;
+  err = (refl, refl, inr (refl, subst (λ l. IsOnePerNode c.args.self l) c.deref.ensures.value (c.has_seats.ensures.0 c.if-not-has_seats.false)));
+}
 
-pub returns-clause-seats : goal.returns-clause-seats
-returns-clause-seats g c = subst (λ l. IsOnePerNode c.args.self l) c.deref.ensures.value (c.has_seats.ensures.0 (search rules))
+pub join_all-root-requires : goal.join_all-root-requires
+join_all-root-requires g c =
+    let one = subst (λ l. IsOnePerNode c.args.self l) c.deref.ensures.value (c.has_seats.ensures.0 c.if-not-has_seats.false) in
+    record {
+      seats = λ k s e. let n : s.standing.node ≡ k = (one.1 k s e).0 in let r = c.requires k s e in (r.0, omega (arith, n), r.1);
+      len = c.args.seats.ok.0 ∙ one.0;
+    }
 
-pub returns-then-not-has_seats-clause-err : goal.returns-then-not-has_seats-clause-err
-returns-then-not-has_seats-clause-err g c = (refl, refl, inl (refl, λ one. let yes = c.has_seats.ensures.1 (subst (λ l. IsOnePerNode c.args.self l) (sym c.deref.ensures.value) one) in search rules))
+pub lay_open-requires : goal.lay_open-requires
+lay_open-requires g c =
+    let one = subst (λ l. IsOnePerNode c.args.self l) c.deref.ensures.value (c.has_seats.ensures.0 c.if-not-has_seats.false) in
+    record {
+      of = c.join_all-root.ensures.of;
+      view = c.join_all-root.ensures.view;
+      logs = ap length c.join_all-root.ensures.logs ∙ (length-map _ _ ∙ one.0);
+    }
 
-pub returns-clause-ok : goal.returns-clause-ok
-returns-clause-ok g c = subst (λ logs. IsEnd g.K.Keeps.fits c.args.self.terms logs c.read_out.result) c.join_all-root.ensures.logs (c.read_out.ensures (c.join_all-root.result.me.0.log ∷ c.join_all-root.result.me.0.logs) c.lay_open.ensures.rest)
+pub read_out-requires : goal.read_out-requires
+read_out-requires g c =
+    record {
+      nodes = c.args.self.sized.4;
+      counts = c.lay_open.ensures.counts;
+      full = c.lay_open.ensures.full;
+      rest = (_, c.lay_open.ensures.rest);
+      room = c.in-Ok.ensures;
+    }
+
+pub returns : goal.returns
+returns g c = record {
+  seats = subst (λ l. IsOnePerNode c.args.self l) c.deref.ensures.value (c.has_seats.ensures.0 (search rules));
+  ok = subst (λ logs. IsEnd g.K.Keeps.fits c.args.self.terms logs c.read_out.result) c.join_all-root.ensures.logs (c.read_out.ensures (c.join_all-root.result.me.0.log ∷ c.join_all-root.result.me.0.logs) c.lay_open.ensures.rest);
+  err = tt;
+}

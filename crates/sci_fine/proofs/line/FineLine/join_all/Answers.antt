@@ -1,7 +1,12 @@
-use Rattle.std.proofs.Common.{◌<◌, Some, length, arith, ◌∙◌, ap}
+use Rattle.std.proofs.Common.{◌≡◌, ◌<◌, ◌+◌, ℕ, List, ◌∷◌, ◌++◌, Some, length, arith, sym, ◌∙◌, ap, subst}
+use Rattle.sci_fine.specs.Seats.{logs_of}
+use Rattle.sci_fine.proofs.Elements.{no_length}
 use Rattle.sci_fine.proofs.Seating.{joins_as}
 use Rattle.sci_fine.proofs.Ordered.{first_of, others_of, last_of, empty_hand, no_logs, logs_first, logs_last}
 use Rattle.sci_fine.proofs.line.FineLine.join_all.Goals as goal
+
+pub remove-root-requires : goal.remove-root-requires
+remove-root-requires g c = subst (λ (n : ℕ). 0 < n) (sym c.requires.len) c.args.self.now.sized.3
 
 pub loop-seat-init : goal.loop-seat-init
 loop-seat-init g c =
@@ -37,4 +42,16 @@ loop-seat-preserved g c =
       idle = ap (λ v. v.pending) me ∙ i.idle;
       seats = l.1;
       logs = logs_last c.loop-seat.seats.items c.pop.new.self.items s c.loop-seat.root.me.0 c.join_seat.new.seat.me.0 me c.in-Some.ensures.items ∙ i.logs;
+    }
+
+pub loop-seat-smaller : goal.loop-seat-smaller
+loop-seat-smaller g c = omega (arith, c.in-Some.ensures.len, c.pop.new.self.ok.0, c.loop-seat.seats.ok.0)
+
+pub returns : goal.returns
+returns g c =
+    let i = c.loop-seat.invariant in let none = c.in_default.ensures.cases.0 in let root = c.loop-seat.root.me.0 in let left = c.loop-seat.seats in
+    record {
+      of = (i.of, i.live);
+      view = (i.first, i.joined ∙ ap (λ (n : ℕ). n + 1) none, i.idle);
+      logs = subst (λ (seats : List _). root.log ∷ (logs_of seats ++ root.logs) ≡ logs_of c.args.seats.items) (no_length left.items (sym left.ok.0 ∙ none)) i.logs;
     }

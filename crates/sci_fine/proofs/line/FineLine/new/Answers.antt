@@ -1,11 +1,36 @@
-use Rattle.std.proofs.Common.{ℕ, ◌+◌, List, replicate, set, ap, ◌∙◌, arith}
-use Rattle.sci_fine.specs.Rule.{lies_at}
-use Rattle.sci_fine.proofs.Seating.{opens}
+use Rattle.std.proofs.Common.{ℕ, ◌≤◌, [], inl, inr, refl, sym, ap, ◌∙◌, subst, ⊎_elim, arith}
+use Rattle.std.specs.Prelude.{vec_capacity}
+use Rattle.sci_fine.specs.declared.views.Terms.{Terms}
+use Rattle.sci_fine.specs.Views.{first_view}
 use Rattle.sci_fine.proofs.line.FineLine.new.Goals as goal
 
-pub new-requires : goal.new-requires
-new-requires g c =
-    let n = c.if-nodes-eq0.false in
-    opens g.K.Keeps.fits _ c.write_mem.result c.write_tag.result _ _ c.requires (omega arith) c.write_mem.ensures c.write_tag.ensures
-    (c.as_slice.ensures.value ∙ ap (λ (z : List ℕ). set z 0 c.write_mem.result) (c.in_ok-words.ensures.items_if_clones_equal (λ y e. e) ∙ ap (λ (z : ℕ). replicate z c.write_tag.result) (c.lies_at.ensures ∙ ap (λ (z : ℕ). lies_at (z + 1)) c.from-count.ensures)))
-    (c.in_ok-slots.ensures.items_if_clones_equal (λ y e. e) ∙ ap (λ (z : ℕ). replicate z c.args.line) (ap (λ (z : ℕ). z + 1) c.from-count.ensures))
+pub returns-then-nodes-eq0 : goal.returns-then-nodes-eq0
+returns-then-nodes-eq0 g c = record {
+  nodes = ((λ _. ⊎_elim (λ none. inl none) (λ many. inr many.1) c.then-nodes-eq0.either), λ _. refl);
+  terms = tt;
+  seats = tt;
+  new = tt;
+}
+
+pub open-requires : goal.open-requires
+open-requires g c = record { fits = c.requires; nodes = (omega arith, omega arith) }
+
+pub seat_all-requires : goal.seat_all-requires
+seat_all-requires g c =
+    let opened = c.in-Ok.ensures in let terms = opened.0 in let room = c.in_ok-seats.ensures in
+    record {
+      of = opened.1;
+      view = opened.2 ∙ ap (λ t. (first_view t, [])) (sym terms);
+      fits = subst (λ (t : Terms g.row.K.Denot). g.K.Keeps.fits t.keep t.number t.opening.words) (sym terms) c.requires;
+      room = (room.items, room.len, subst (λ (n : ℕ). n ≤ vec_capacity c.in_ok-seats.seats) (c.from.ensures ∙ sym (ap (λ t. t.nodes) terms)) room.capacity);
+    }
+
+pub returns : goal.returns
+returns g c =
+    let terms = c.in-Ok.ensures.0 in let made = c.seat_all.ensures in
+    record {
+      nodes = ((λ e. absurd (cc)), ⊎_elim (λ none. absurd (omega arith)) (λ many. absurd (omega arith)));
+      terms = record { nodes = ap (λ t. t.nodes) terms; number = ap (λ t. t.number) terms; opening = ap (λ t. t.opening) terms; keep = ap (λ t. t.keep) terms };
+      seats = (made.len ∙ ap (λ t. t.nodes) terms, made.seats);
+      new = made.new;
+    }
