@@ -1,6 +1,7 @@
 pub mod Calling
 pub mod Closing
 pub mod Dealing
+pub mod Exits
 pub mod Fitting
 pub mod Handed
 pub mod Items

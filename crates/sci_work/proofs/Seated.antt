@@ -1,5 +1,8 @@
 -- Seats, lines and closed lines, by their places in lists.
-use Rattle.std.proofs.Common.{◌≡◌, ℕ, zero, suc, ◌+◌, ◌<◌, ⊎_elim, Option, Some, None, List, [], ◌∷◌, ◌++◌, length, map, get_or, refl, sym, ap, subst, ◌∙◌, arith, length-append}
+use Rattle.std.proofs.Common.{◌≡◌, ℕ, zero, suc, ◌+◌, ◌<◌, inl, inr, ⊎_elim, Option, Some, List, [], ◌∷◌, ◌++◌, length, map, get_or, refl, sym, ap, subst, ◌∙◌, arith, length-append, vec_len}
+use Rattle.std.proofs.lemmas.Bool.{cases_lt}
+use Rattle.std.proofs.lemmas.List.{get_or_append_left, get_or_push}
+use Rattle.std.specs.Global.{Vec}
 use Rattle.std.specs.Prelude.{All}
 use mathlib.Core.Option.{some, some-injective, some-ne-none}
 use lib.ListN.{get_elem?}
@@ -45,6 +48,25 @@ pub or_at : {A : Type 0} (xs : List A) (k : ℕ) (x d : A) → get_elem? xs k �
 or_at [] k x d e = absurd (some-ne-none x (sym e))
 or_at (y ∷ ys) zero x d e = some-injective y x e
 or_at (y ∷ ys) (suc k) x d e = or_at ys k x d e
+
+-- what holds of each element by its index holds of each of a list with one more
+pub or_more : {A : Type 0} (P : ℕ → A → Type 0) (xs ys : List A) (x : A) → ys ≡ xs ++ x ∷ [] → ((k : ℕ) (d : A) → k < length xs → P k (get_or xs k d)) → P (length xs) x → (k : ℕ) (d : A) → k < length ys → P k (get_or ys k d)
+or_more {A} P xs ys x is all here k d low = subst (λ (zs : List A). P k (get_or zs k d)) (sym is) (elim (cases_lt k (length xs)) [
+  | inl less ↦ subst (λ (y : A). P k y) (sym (get_or_append_left xs (x ∷ []) d k less)) (all k d less)
+  | inr from ↦
+      let all_of : length (xs ++ x ∷ []) ≡ length xs + 1 = length-append xs (x ∷ []) in
+      let low_in : k < length (xs ++ x ∷ []) = subst (λ (zs : List A). k < length zs) is low in
+      let same : length xs ≡ k = omega arith in
+      subst (λ (y : A). P k y) (sym (get_or_push xs x d k same)) (subst (λ (n : ℕ). P n x) same here)
+])
+
+-- how many there are
+pub count_of : {A : Type 0} (v : Vec A) → vec_len v ≡ length v.items
+count_of v = omega (arith, v.ok)
+
+-- one of the rest has gone over
+pub gone_over : (gone more rest left all : ℕ) → gone + rest ≡ all → left + 1 ≡ rest → more ≡ gone + 1 → more + left ≡ all
+gone_over gone more rest left all was step grown = omega arith
 
 -- the last of one is the only one
 pub only_one : {A : Type 0} (xs fewer : List A) (x : A) → length xs ≡ 1 → xs ≡ fewer ++ x ∷ [] → xs ≡ x ∷ []

@@ -2,7 +2,7 @@ use Rattle.std.proofs.Common.{◌≡◌, ℕ, ◌+◌, ◌*◌, ◌/◌, ◌%◌
 use Rattle.std.proofs.lemmas.List.{get_or_append_left, get_or-take, length-take-le, ext_get_or}
 use Rattle.std.proofs.Math.Seq.{take-add}
 use Rattle.std.proofs.lemmas.Bool.{cases_lt}
-use Rattle.std.proofs.Math.Nat.{div-add-mod, mul-le-mul_left}
+use Rattle.std.proofs.Math.Nat.{div-add-mod, mod-eq_of_lt, mul-le-mul_left}
 use Rattle.sci_work.specs.Stencil.{FitsStencil, HoldsTile}
 use Rattle.sci_work.specs.Shares.{IsShare, IsWork, StandsAt}
 
@@ -14,6 +14,11 @@ same_tile nodes t tile some from to mods =
     let less : q < p → ⊥ = λ h. let le : q + 1 ≤ p = omega arith in let m = mul-le-mul_left nodes le in omega (arith, m) in
     let same : q ≡ p = omega (arith, more, less) in
     let m = ap (λ k. nodes * k) same in omega (arith, m)
+
+-- the node's first tile is its number, and none is below
+pub none_shared : (cells : List ℕ) (nodes node : ℕ) (share : List ℕ) → node < nodes → IsShare cells nodes node node share
+none_shared cells nodes node share low tile j below mods small =
+    let far : tile < nodes = omega arith in let e = mod-eq_of_lt far in absurd (omega (arith, e, mods, below))
 
 -- the node's next tile is added
 pub shared_more : (cells : List ℕ) (nodes node tile : ℕ) (share words : List ℕ) → 0 < nodes → tile % nodes ≡ node → length share ≡ 7 * (tile / nodes) → length words ≡ 8

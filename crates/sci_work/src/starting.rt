@@ -1,5 +1,5 @@
 //! A thread a node.
-ghost use Rattle.std.specs.Prelude.{◌≡◌, ◌↔◌, ℕ, ◌<◌, ◌≤◌, All, IfOk, IfErr, IsOk, IsTrue, OnOk, length, slice_index_or, vec_capacity, vec_len};
+ghost use Rattle.std.specs.Prelude.{◌≡◌, ◌↔◌, [], ℕ, ◌<◌, ◌≤◌, All, IfOk, IfErr, IsOk, IsTrue, OnOk, length, slice_index_or, vec_capacity, vec_len};
 ghost use Rattle.std.specs.PromisedHandle.{KeepsEach};
 ghost use Rattle.sci_core.specs.declared.pending.Pending.TheVariants.{Idle};
 ghost use Rattle.sci_work.specs.Hands.{AtEach};
@@ -23,7 +23,7 @@ use std::thread;
 use std::thread::{Promise, PromisedHandle, Scope, Threads};
 
 /// What a node's thread promises of its end.
-#[derive(Clone, Copy)]
+#[derive(Drop)]
 struct PartOf<'s, 'a, K: Keeps> {
     lines: &'s [FineLine<K>],
     program: Program<'a>,
@@ -90,11 +90,21 @@ fn run_node<R: Wait, G: Gate, K: Keeps>(
         unreachable!()
     };
     let share = share_of(rt, alloc, &mut door, &mut bank, program, number, capacity);
-    if share.is_err() {
-        door.raise();
-    }
+    let share = door.told(share);
     let hand = bank.into_seats();
     Done { hand, share }
+}
+
+// Room for so many of each.
+fn rooms<A: Drop, B: Drop>(alloc: Global, count: usize) -> Result<(Vec<A>, Vec<B>), WorkRefusal>
+    ensures empty { IfOk result (λ r. (r.0.items ≡ []) × (r.1.items ≡ [])) }
+    ensures len { IfOk result (λ r. (vec_len r.0 ≡ 0) × (vec_len r.1 ≡ 0)) }
+    ensures room { IfOk result (λ r. (count ≤ vec_capacity r.0) × (count ≤ vec_capacity r.1)) }
+    ensures err { IfErr result (λ e. e ≡ WorkRefusal.OutOfMemory) }
+{
+    let first = Vec::with_capacity(alloc, count)?;
+    let second = Vec::with_capacity(alloc, count)?;
+    Ok((first, second))
 }
 
 // Starts each node in a thread of its own, up to the first that can't be started: there the mark is raised.
@@ -137,9 +147,7 @@ fn start_each<'s, 'a: 's, E, R: Threads + Wait + Sync, G: Gate, K: Keeps + Send 
             stop.store(true, Ordering::SeqCst);
             return handles;
         };
-        let Ok(()) = handles.push(handle) else {
-            unreachable!()
-        };
+        handles.push_reserved(handle);
         number += 1;
     }
     handles
@@ -157,9 +165,7 @@ fn joined<R: Threads, T: Drop, P: Promise<T>>(
 {
     let mut all = room;
     for handle in handles {
-        let Ok(()) = all.push(handle.join(rt)) else {
-            unreachable!()
-        };
+        all.push_reserved(handle.join(rt));
     }
     all
 }
@@ -181,12 +187,11 @@ fn start_all<'s, 'a: 's, E, R: Threads + Wait + Sync, G: Gate, K: Keeps + Send +
     ensures each { IfOk result (λ done. AtEach (λ k one. IsPartDone lines.now program.entry k one.hand.items one.share) done.items) }
     ensures err { IfErr result (λ e. e ≡ WorkRefusal.OutOfMemory) }
 {
-    let handles = Vec::with_capacity(alloc, hands.len())?;
-    let room = Vec::with_capacity(alloc, hands.len())?;
+    let (handles, done) = rooms(alloc, hands.len())?;
     let handles = start_each(
         rt, scope, alloc, gate, stop, lines, hands, program, capacity, handles,
     );
-    Ok(joined(rt, handles, room))
+    Ok(joined(rt, handles, done))
 }
 
 // The refusal of the first node whose refusal isn't 25, if there is one.
@@ -258,19 +263,47 @@ fn parted<K: Keeps>(
 {
     let _ = lines;
     let _ = program;
-    let mut hands = Vec::with_capacity(alloc, done.len())?;
-    let mut shares = Vec::with_capacity(alloc, done.len())?;
+    let (mut hands, mut shares) = rooms(alloc, done.len())?;
     for one in done {
         let Done { hand, share } = one;
-        match share {
-            Ok(share) => {
-                hands.push_reserved(hand);
-                shares.push_reserved(share);
-            }
-            Err(_) => unreachable!(),
-        }
+        let Ok(share) = share else { unreachable!() };
+        hands.push_reserved(hand);
+        shares.push_reserved(share);
     }
     Ok((hands, shares))
+}
+
+// What the threads of the nodes ended with, of those that were started.
+fn run_each<R: Threads + Wait + Sync, G: Gate, K: Keeps + Send + Sync>(
+    rt: &R,
+    alloc: Global,
+    gate: &G,
+    lines: &[FineLine<K>],
+    hands: Vec<Hand<K>>,
+    program: Program<'_>,
+    capacity: u16,
+) -> Result<Vec<Done<K, Vec<u64>>>, WorkRefusal>
+    requires { AreParts K.fits lines.now program hands }
+    ensures few { IfOk result (λ done. vec_len done ≤ vec_len hands) }
+    ensures each { IfOk result (λ done. AtEach (λ k one. IsPartDone lines.now program.entry k one.hand.items one.share) done.items) }
+    ensures err { IfErr result (λ e. e ≡ WorkRefusal.OutOfMemory) }
+{
+    let stop = AtomicBool::new(false);
+    let mark = &stop;
+    thread::scope(
+        thread::scope_env(),
+        rt,
+        |scope| -> Result<Vec<Done<K, Vec<u64>>>, WorkRefusal>
+            requires { AreParts K.fits lines.now program hands }
+            ensures few { IfOk result (λ done. vec_len done ≤ vec_len hands) }
+            ensures each { IfOk result (λ done. AtEach (λ k one. IsPartDone lines.entry.now program.entry k one.hand.items one.share) done.items) }
+            ensures err { IfErr result (λ e. e ≡ WorkRefusal.OutOfMemory) }
+        {
+            start_all(
+                rt, scope, alloc, gate, mark, lines, hands, program, capacity,
+            )
+        },
+    )
 }
 
 /// Runs the program in a thread for each node, over these lines: their seats again, all Idle, and each node's share. The
@@ -291,22 +324,7 @@ pub fn run_all<R: Threads + Wait + Sync, G: Gate, K: Keeps + Send + Sync>(
     ensures err { IfErr result (ComesInStart program.entry) }
 {
     let nodes = hands.len();
-    let stop = AtomicBool::new(false);
-    let mark = &stop;
-    let done = thread::scope(
-        thread::scope_env(),
-        rt,
-        |scope| -> Result<Vec<Done<K, Vec<u64>>>, WorkRefusal>
-            requires { AreParts K.fits lines.now program hands }
-            ensures few { IfOk result (λ done. vec_len done ≤ vec_len hands) }
-            ensures each { IfOk result (λ done. AtEach (λ k one. IsPartDone lines.entry.now program.entry k one.hand.items one.share) done.items) }
-            ensures err { IfErr result (λ e. e ≡ WorkRefusal.OutOfMemory) }
-        {
-            start_all(
-                rt, scope, alloc, gate, mark, lines, hands, program, capacity,
-            )
-        },
-    )?;
+    let done = run_each(rt, alloc, gate, lines, hands, program, capacity)?;
     settled(&done, nodes, program)?;
     parted(alloc, lines, program, done)
 }

@@ -1,7 +1,9 @@
 //! A stencil with each node in a thread of its own.
-ghost use Rattle.std.specs.Prelude.{◌≡◌, ◌*◌, ◌/◌, ◌<◌, ◌≤◌, ◌↔◌, Err, length, IfOk, IfErr, IsTrue};
-ghost use Rattle.sci_work.specs.Ended.{AreClosed, HaveNodes};
+ghost use Rattle.std.specs.Prelude.{◌≡◌, ◌*◌, ◌/◌, ◌<◌, ◌≤◌, ◌↔◌, Err, length, IfOk, IfErr, IsTrue, vec_len};
+ghost use Rattle.sci_work.specs.Ended.{AreClosed, AreClosedOf, HaveNodes};
+ghost use Rattle.sci_work.specs.Hands.{AtEach, IsHandOf};
 ghost use Rattle.sci_work.specs.Plain.{plain};
+ghost use Rattle.sci_work.specs.Shares.{IsShare};
 ghost use Rattle.sci_work.specs.Starts.{ComesInRun, ComesInStart};
 ghost use Rattle.sci_work.specs.Stencil.{FitsStencil, IsStencilSize};
 
@@ -10,10 +12,12 @@ use crate::gates::Gate;
 use crate::lines::{closed, opened};
 use crate::programs::Program;
 use crate::refusals::WorkRefusal;
+use crate::seating::Hand;
 use crate::starting::run_all;
 use crate::stencils::gathering::gathered;
 use crate::stencils::worker::Work;
-use sci_core::Closed;
+use sci_core::{Closed, Keeps};
+use sci_fine::FineLine;
 use std::alloc::Global;
 use std::sync::Wait;
 use std::thread::Threads;
@@ -30,6 +34,27 @@ fn is_stencil_size(cells: usize, phases: u64, nodes: u16, capacity: u16) -> bool
         && nodes <= 64
         && capacity >= 1
         && capacity <= 1024
+}
+
+// The cells from the nodes' shares, and the lines as they are closed.
+fn ended<K: Keeps>(
+    alloc: Global,
+    work: Work<'_>,
+    lines: Vec<FineLine<K>>,
+    hands: Vec<Hand<K>>,
+    shares: Vec<Vec<u64>>,
+) -> Result<(Vec<u64>, Vec<Closed>), WorkRefusal>
+    requires whole { length work.cells.now ≡ 7 * work.tiles }
+    requires nodes { (0 < work.nodes) × (vec_len shares ≡ work.nodes) }
+    requires shares { AtEach (λ k share. IsShare (plain work.cells.now work.phases) work.nodes k work.tiles share.items) shares.items }
+    requires hands { AtEach (λ k hand. IsHandOf lines.items k hand.items) hands.items }
+    ensures cells { IfOk result (λ r. r.0.items ≡ plain work.entry.cells.now work.entry.phases) }
+    ensures closed { IfOk result (λ r. AreClosedOf K.fits lines.items r.1.items) }
+    ensures err { IfErr result (λ e. e ≡ WorkRefusal.OutOfMemory) }
+{
+    let cells = gathered(alloc, &shares, work)?;
+    let lines = closed(alloc, lines, hands)?;
+    Ok((cells, lines))
 }
 
 // The cells after the last phase, and the lines as they are closed.
@@ -54,9 +79,7 @@ fn run<R: Threads + Wait + Sync, G: Gate>(
     let (lines, hands) = opened(alloc, work.nodes, 2 * work.tiles, fact)?;
     let program = Program::Stencil(work);
     let (hands, shares) = run_all(rt, alloc, gate, &lines, hands, program, capacity)?;
-    let cells = gathered(alloc, &shares, work)?;
-    let lines = closed(alloc, lines, hands)?;
-    Ok((cells, lines))
+    ended(alloc, work, lines, hands, shares)
 }
 
 /// Takes cells, in 1 to 512 whole tiles of seven, 0 to 1,000,000 phases on: in each phase a cell becomes the sum of itself and

@@ -27,7 +27,6 @@ pub struct Work<'a> {
 }
 
 /// The words of a tile once it stands at this phase. Refusal 19 where it is found at a later one.
-#[tactic(auto, using(crate::proofs::Rests::led_then, crate::proofs::Rests::led_not, crate::proofs::Refusing::of_call))]
 fn awaited<R: Wait, G: Gate, B: Bank>(
     rt: &R,
     door: &mut Door<'_, G>,
@@ -65,7 +64,6 @@ fn awaited<R: Wait, G: Gate, B: Bank>(
 }
 
 /// The cell before a tile after a phase: that of the tile before it, or 0.
-#[tactic(auto, using(crate::proofs::Rests::led_not))]
 fn cell_before<R: Wait, G: Gate, B: Bank>(
     rt: &R,
     door: &mut Door<'_, G>,
@@ -94,7 +92,6 @@ fn cell_before<R: Wait, G: Gate, B: Bank>(
 }
 
 /// The cell behind a tile after a phase: that of the tile behind it, or 0.
-#[tactic(auto, using(crate::proofs::Rests::led_not))]
 fn cell_behind<R: Wait, G: Gate, B: Bank>(
     rt: &R,
     door: &mut Door<'_, G>,
@@ -123,7 +120,6 @@ fn cell_behind<R: Wait, G: Gate, B: Bank>(
 }
 
 /// Takes a tile one phase on.
-#[tactic(auto, using(crate::proofs::Rests::led_then, crate::proofs::Rests::led_not, crate::proofs::Refusing::of_call))]
 fn advance<R: Wait, G: Gate, B: Bank>(
     rt: &R,
     door: &mut Door<'_, G>,
@@ -151,7 +147,6 @@ fn advance<R: Wait, G: Gate, B: Bank>(
 }
 
 /// Writes the node's tiles as they open.
-#[tactic(auto, using(crate::proofs::Rests::led_then, crate::proofs::Rests::led_not, crate::proofs::Refusing::of_call))]
 fn open_all<R: Wait, G: Gate, B: Bank>(
     rt: &R,
     door: &mut Door<'_, G>,
@@ -179,7 +174,6 @@ fn open_all<R: Wait, G: Gate, B: Bank>(
 }
 
 /// Takes the node's tiles one phase on.
-#[tactic(auto, using(crate::proofs::Rests::led_then, crate::proofs::Rests::led_not))]
 fn advance_all<R: Wait, G: Gate, B: Bank>(
     rt: &R,
     door: &mut Door<'_, G>,
@@ -208,7 +202,6 @@ fn advance_all<R: Wait, G: Gate, B: Bank>(
 }
 
 /// The cells of the node's tiles after the last phase.
-#[tactic(auto, using(crate::proofs::Rests::led_then, crate::proofs::Rests::led_not))]
 fn collect<R: Wait, G: Gate, B: Bank>(
     rt: &R,
     alloc: Global,
@@ -239,7 +232,6 @@ fn collect<R: Wait, G: Gate, B: Bank>(
 }
 
 /// All that a node does of a stencil: its tiles' cells after the last phase.
-#[tactic(auto, using(crate::proofs::Rests::led_then, crate::proofs::Rests::led_not))]
 pub(crate) fn worked<R: Wait, G: Gate, B: Bank>(
     rt: &R,
     alloc: Global,

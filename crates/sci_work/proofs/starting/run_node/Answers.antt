@@ -1,5 +1,5 @@
-use Rattle.std.proofs.Common.{◌≡◌, ap, ◌∙◌}
-use Rattle.sci_work.specs.Starts.{IsPartDone}
+use Rattle.std.proofs.Common.{IfOk, IfErr, ap, sym, subst, ◌∙◌}
+use Rattle.sci_work.specs.Programs.{ComesInPart, IsShareOf}
 use Rattle.sci_work.proofs.Handed.{bank_node, hand_after, idle_before, suits_bank}
 use Rattle.sci_work.proofs.Rests.{led_keeps}
 use Rattle.sci_work.proofs.Seated.{one_per_line, seats_of}
@@ -28,6 +28,6 @@ returns g c =
       hand = hand_after c.args.lines.now w.lines.now c.args.number w.node w.keep w.seats.items c.into_seats-hand.result.items (ap (λ z. z.now) (lines ∙ made.1))
           (node ∙ bank_node c.args.lines.now c.args.number p.lines_are c.args.hand.items p.hand b.lines.now b.seats.items (ap (λ z. z.now) made.1) (ap (λ v. v.items) made.2) b.keep b.node b.of)
           (ap (λ v. v.items) c.into_seats-hand.ensures) w.of e.idle;
-      share_is = e.share;
-      refused = e.err;
+      share_is = subst (λ r. IfOk r (λ s. IsShareOf c.args.program c.args.number s.items)) (sym c.told-share.ensures) e.share;
+      refused = subst (λ r. IfErr r (ComesInPart c.args.program)) (sym c.told-share.ensures) e.err;
     }

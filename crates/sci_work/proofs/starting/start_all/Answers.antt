@@ -1,4 +1,4 @@
-use Rattle.std.proofs.Common.{rules, ◌≡◌, ℕ, ◌<◌, ◌∙◌, arith, ap, length, subst, vec_len}
+use Rattle.std.proofs.Common.{◌<◌, ◌∙◌, arith, ap, length, subst, vec_len}
 use Rattle.sci_fine.proofs.Elements.{inside}
 use Rattle.sci_work.specs.Starts.{IsPartDone}
 use Rattle.sci_work.proofs.Seated.{or_at}

@@ -1,9 +1,9 @@
-use Rattle.std.proofs.Common.{◌≡◌, ℕ, ◌*◌, List, arith, ap, sym, subst}
-use mathlib.Core.Option.{some}
-use lib.ListN.{get_elem?}
+use Rattle.std.proofs.Common.{ℕ, ◌*◌, List, arith, ap, sym, subst}
+use Rattle.std.proofs.lemmas.Result.{IfOk-weaker}
 use Rattle.sci_work.specs.declared.facts.stencil.StencilFact.{StencilFact}
 use Rattle.sci_work.specs.declared.programs.Program.{Program}
 use Rattle.sci_work.specs.Ended.{AreClosed}
+use Rattle.sci_work.specs.Hands.{IsHandOf}
 use Rattle.sci_work.specs.Starts.{AreParts}
 use Rattle.sci_work.specs.Stencil.{FitsStencil}
 use Rattle.sci_work.proofs.Closing.{closed_under, nodes_under}
@@ -27,17 +27,20 @@ run_all-requires-after_bounds g c κs within =
     (λ k near. (is_work fact.cells.now work.cells.now fact.phases work.phases work.tiles (ap (λ (s : _). s.now) c.new-fact.ensures.cells) c.new-fact.ensures.phases c.requires.whole c.requires.tiles.1 c.requires.phases, near, c.requires.nodes.1)) in
     subst (λ (ls : List _). AreParts says ls (Program.Stencil work) c.in_ok-lines.hands) (sym c.deref.ensures.value) parts
 
-pub gathered-requires-clause-shares : goal.gathered-requires-clause-shares
-gathered-requires-clause-shares g c k x at tile j low mine small =
-    c.in_ok-hands.ensures.ok.shares_are k x (subst (λ (xs : List _). get_elem? xs k ≡ some x) c.deref-2.ensures.value at) tile j low mine small
+pub ended-requires-clause-shares : goal.ended-requires-clause-shares
+ended-requires-clause-shares g c k x at tile j low mine small = c.in_ok-hands.ensures.ok.shares_are k x at tile j low mine small
+
+pub ended-requires-clause-hands : goal.ended-requires-clause-hands
+ended-requires-clause-hands g c k x at = subst (λ (ls : List _). IsHandOf ls k x.items) c.deref.ensures.value (c.in_ok-hands.ensures.ok.hands_are k x at)
 
 pub returns-clause-closed : goal.returns-clause-closed
 returns-clause-closed g c =
     let work = c.args.work in let fact = c.new-fact.result in let made = c.in_ok-lines.ensures in
-    let ended = closed_under says work.nodes fact (2 * work.tiles) c.in_ok-lines.lines.items c.in_ok-lines-2.lines.items (omega (arith, made.count, c.in_ok-lines.lines.ok)) made.lines c.in_ok-lines-2.ensures.ok in
-    let cells = subst (λ (xs : List ℕ). AreClosed (FitsStencil xs fact.phases) (2 * work.tiles) c.in_ok-lines-2.lines.items) (ap (λ (s : _). s.now) c.new-fact.ensures.cells) ended in
-    subst (λ (p : ℕ). AreClosed (FitsStencil work.cells.now p) (2 * work.tiles) c.in_ok-lines-2.lines.items) c.new-fact.ensures.phases cells
+    IfOk-weaker c.ended.result _ _ (λ r done.
+    let closed = closed_under says work.nodes fact (2 * work.tiles) c.in_ok-lines.lines.items r.1.items (omega (arith, made.count, c.in_ok-lines.lines.ok)) made.lines done in
+    let cells = subst (λ (xs : List ℕ). AreClosed (FitsStencil xs fact.phases) (2 * work.tiles) r.1.items) (ap (λ (s : _). s.now) c.new-fact.ensures.cells) closed in
+    subst (λ (p : ℕ). AreClosed (FitsStencil work.cells.now p) (2 * work.tiles) r.1.items) c.new-fact.ensures.phases cells) c.ended.ensures.closed
 
 pub returns-clause-nodes : goal.returns-clause-nodes
 returns-clause-nodes g c =
-    nodes_under (λ (f : StencilFact) line words. FitsStencil f.cells.now f.phases line words) c.args.work.nodes c.new-fact.result c.in_ok-lines.lines.items c.in_ok-lines-2.lines.items c.in_ok-lines.ensures.lines c.in_ok-lines-2.ensures.ok
+    IfOk-weaker c.ended.result _ _ (λ r done. nodes_under says c.args.work.nodes c.new-fact.result c.in_ok-lines.lines.items r.1.items c.in_ok-lines.ensures.lines done) c.ended.ensures.closed

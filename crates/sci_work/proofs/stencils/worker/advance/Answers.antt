@@ -1,8 +1,56 @@
 use Rattle.std.proofs.Common.{◌+◌, ◌%◌, arith, ◌∙◌}
+use Rattle.std.proofs.lemmas.Result.{IfErr-weaker}
+use Rattle.sci_work.specs.Made.{ComesInCall, ComesInWork}
+use Rattle.sci_work.proofs.Exits.{passed_on}
+use Rattle.sci_work.proofs.Refusing.{of_call}
 use Rattle.sci_work.proofs.Showing.{advanced_holds, fitting}
 use Rattle.sci_work.proofs.Rests.{led_then}
 use Rattle.sci_work.proofs.Resting.{ready_written}
 use Rattle.sci_work.proofs.stencils.worker.advance.Goals as goal
+
+pub returns-in_err-own : goal.returns-in_err-own
+returns-in_err-own g c =
+    let own = c.awaited.ensures in let r = c.from_residual in
+    record { err = passed_on r.result _ ComesInWork r.ensures.1 c.in_err-own.ensures.err; ready = own.ready; led = own.led; same_way = own.same_way; same_fact = own.same_fact }
+
+pub cell_before-requires-clause-work : goal.cell_before-requires-clause-work
+cell_before-requires-clause-work g c κs within = let own = c.awaited.ensures in rw (own.same_fact, own.same_way) c.requires.work
+
+pub returns-in_err-left : goal.returns-in_err-left
+returns-in_err-left g c =
+    let own = c.awaited.ensures in let left = c.cell_before.ensures in let r = c.from_residual-in_err-left in
+    record {
+      err = passed_on r.result _ ComesInWork r.ensures.1 c.in_err-left.ensures.err;
+      ready = left.ready;
+      led = led_then own.led left.led;
+      same_way = left.same_way ∙ own.same_way;
+      same_fact = left.same_fact ∙ own.same_fact;
+    }
+
+pub cell_behind-requires-clause-work : goal.cell_behind-requires-clause-work
+cell_behind-requires-clause-work g c κs within =
+    let own = c.awaited.ensures in let left = c.cell_before.ensures in
+    rw (left.same_fact ∙ own.same_fact, left.same_way ∙ own.same_way) c.requires.work
+
+pub returns-in_err-right : goal.returns-in_err-right
+returns-in_err-right g c =
+    let own = c.awaited.ensures in let left = c.cell_before.ensures in let right = c.cell_behind.ensures in let r = c.from_residual-in_err-right in
+    record {
+      err = passed_on r.result _ ComesInWork r.ensures.1 c.in_err-right.ensures.err;
+      ready = right.ready;
+      led = led_then (led_then own.led left.led) right.led;
+      same_way = right.same_way ∙ left.same_way ∙ own.same_way;
+      same_fact = right.same_fact ∙ left.same_fact ∙ own.same_fact;
+    }
+
+pub written-requires-clause-ready : goal.written-requires-clause-ready
+written-requires-clause-ready g c κs within = let r = c.cell_behind.ensures.ready in record { node = r.node; lines = r.lines; closed = r.free }
+
+pub written-requires-clause-line : goal.written-requires-clause-line
+written-requires-clause-line g c κs within =
+    let same = c.cell_behind.ensures.same_way ∙ c.cell_before.ensures.same_way ∙ c.awaited.ensures.same_way in
+    let low = c.requires.tile in
+    rw (same, c.requires.work.lines_are) (omega (arith, low))
 
 pub written-requires-clause-fits : goal.written-requires-clause-fits
 written-requires-clause-fits g c κs within =
@@ -14,14 +62,15 @@ written-requires-clause-fits g c κs within =
     let holds = advanced_holds cells phase tile c.in_ok-left.left c.in_ok-own.own c.in_ok-right.right next c.in_ok-own.ensures.cells c.in_ok-left.ensures.cell c.in_ok-right.ensures.cell (omega arith) c.advanced.ensures.cells in
     rw same (work.takes _ _ (fitting cells c.args.work.phases tile ((phase + 1) % 2) next (phase + 1) (omega arith) (omega arith) (omega arith) (omega (arith, c.advanced.ensures.phase)) holds))
 
-pub returns-clause-ready : goal.returns-clause-ready
-returns-clause-ready g c =
+pub returns : goal.returns
+returns g c =
+    let own = c.awaited.ensures in let left = c.cell_before.ensures in let right = c.cell_behind.ensures in let last = c.written.ensures in
     let b = ready_written g.B.Bank.gives g.B.Bank.at_step g.B.Bank.nodes_on (λ u line. g.B.Keep.Keeps.fits (g.B.Bank.keep u) line) (λ u. (g.B.Bank.way u).node) (λ u line call v h. g.met.B.Bank.owes u line call v h) (λ u line call v h. g.met.B.Bank.others u line call v h)
-    (g.B.Bank.way c.cell_behind.new.bank) _ c.written.result _ c.cell_behind.ensures.ready c.written.ensures.ready c.written.ensures.made c.written.ensures.none in
-    b.0
-
-pub returns-clause-led : goal.returns-clause-led
-returns-clause-led g c =
-    let b = ready_written g.B.Bank.gives g.B.Bank.at_step g.B.Bank.nodes_on (λ u line. g.B.Keep.Keeps.fits (g.B.Bank.keep u) line) (λ u. (g.B.Bank.way u).node) (λ u line call v h. g.met.B.Bank.owes u line call v h) (λ u line call v h. g.met.B.Bank.others u line call v h)
-    (g.B.Bank.way c.cell_behind.new.bank) _ c.written.result _ c.cell_behind.ensures.ready c.written.ensures.ready c.written.ensures.made c.written.ensures.none in
-    led_then (led_then (led_then c.awaited.ensures.led c.cell_before.ensures.led) c.cell_behind.ensures.led) b.1
+    (g.B.Bank.way c.cell_behind.new.bank) _ c.written.result _ right.ready last.ready last.made last.none in
+    record {
+      err = IfErr-weaker c.written.result ComesInCall ComesInWork of_call last.err;
+      ready = b.0;
+      led = led_then (led_then (led_then own.led left.led) right.led) b.1;
+      same_way = last.same_way ∙ right.same_way ∙ left.same_way ∙ own.same_way;
+      same_fact = last.same_fact ∙ right.same_fact ∙ left.same_fact ∙ own.same_fact;
+    }
