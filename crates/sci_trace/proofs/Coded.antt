@@ -51,6 +51,11 @@ coded_front coding xs ys front (n, less, is) =
     subst (λ (x : List ℕ). IsFront x (coded coding xs ++ front)) (sym (coded_append coding xs ys))
     (subst (λ (x : List ℕ). IsFront (coded coding xs ++ coded coding ys) (coded coding xs ++ x)) (sym is) (front_behind (coded coding xs) (coded coding ys) n less))
 
+-- a front of the first part, coded
+pub coded_before : (coding : Coding) (xs ys : List ℕ) (n : ℕ) → n < length (coded coding xs) → IsFront (coded coding (xs ++ ys)) (take n (coded coding xs))
+coded_before coding xs ys n less =
+    subst (λ (x : List ℕ). IsFront x (take n (coded coding xs))) (sym (coded_append coding xs ys)) (front_before (coded coding xs) (coded coding ys) n less)
+
 pub err_then : {X E : Type 0} (r : Result X E) (P Q : E → Type 0) → IfErr r P → ((e : E) → P e → Q e) → IfErr r Q
 err_then (Ok x) P Q h f = tt
 err_then (Err e) P Q h f = f e h

@@ -7,3 +7,4 @@ pub mod Same
 pub mod Digits
 pub mod Pieces
 pub mod Walking
+pub mod Pushing

@@ -1,12 +1,15 @@
 -- One more command of a traced run, and where it stops.
 use Rattle.std.proofs.Common.{◌≡◌, ◌∙◌, ◌<◌, ◌+◌, ℕ, List, [], ◌++◌, Some, length, get_or, take, refl, sym, ap, subst, append-nil, append_assoc}
+use Rattle.std.proofs.lemmas.List.Sums.{AllPass-from_list_all}
 use Rattle.std.specs.Prelude.{slice_get}
+use Rattle.sci_script.specs.declared.commands.Size.{Size}
 use Rattle.sci_script.specs.declared.commands.Step.{Step}
 use Rattle.sci_script.specs.declared.refusals.ScriptRefusal.{ScriptRefusal}
 use Rattle.sci_script.specs.declared.refusals.ScriptRefusal.TheVariants.{OutOfMemory, BadCommand, BadNumber, NotDone, WriteFailed}
 use Rattle.sci_script.specs.Request.{no_words}
 use Rattle.sci_script.specs.Run.{Prints, StopsAt}
 use Rattle.sci_script.specs.Shared.{Shared, shared_is_open, shared_does}
+use Rattle.sci_script.specs.Size.{is_in, IsIn, AreIn}
 use Rattle.sci_script.proofs.Runs.{prints_none, run_step, words_behind}
 use Rattle.sci_trace.specs.Notes.{AreNotes, IsWoven}
 use Rattle.sci_trace.specs.declared.coding.Coding.{Coding}
@@ -26,6 +29,13 @@ traces_more items steps i d traced notes last s mid t e lt (text, so_far, woven)
   run_step shared_is_open shared_does no_words items steps i d text last s mid t e lt so_far now,
   subst (λ (x : List ℕ). IsWoven (text ++ last) x) (sym (append_assoc traced notes last)) (woven_more text traced notes last woven are),
 )
+
+-- a command of a script is one of its nodes and lines
+pub command_fits : (size has : Size) (items steps : List Step) (i : ℕ) (x : Step) → AreIn size steps → items ≡ steps → i < length items → x ≡ get_or items i x → has ≡ size → IsIn has x.command
+command_fits size has items steps i x fit e lt is same =
+    let all : AreIn size items = subst (λ (l : List Step). AreIn size l) (sym e) fit in
+    let at : IsIn size (get_or items i x).command = AllPass-from_list_all (λ (step : Step). is_in size step.command) items all i x lt in
+    subst (λ (z : Size). IsIn z x.command) (sym same) (subst (λ (step : Step). IsIn size step.command) (sym is) at)
 
 -- the lines of the turns of a command that printed nothing, or failed
 pub traces_notes : (steps : List Step) (traced notes : List ℕ) (s t : Shared) → Traces steps s traced t → AreNotes notes → Traces steps s (traced ++ notes) t

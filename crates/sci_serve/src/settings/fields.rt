@@ -3,6 +3,7 @@
 ghost use Rattle.std.specs.Prelude.{◌≡◌, ◌≤◌, Some, IfSome, pos, option_map, string_bytes};
 ghost use Rattle.toml.specs.Data.{get_member};
 ghost use Rattle.toml.specs.View.{view, items_view, table_view};
+ghost use Rattle.sci_serve.specs.declared.settings.fields.Work.TheVariants as works;
 ghost use Rattle.sci_serve.specs.Settings.{Gives};
 ghost use Rattle.sci_serve.specs.Settings.{is_key_of, has_keys_of, named, work_at, number_at, number_in, numbers_in, numbers_at, flag_of, dump_at};
 
@@ -53,19 +54,38 @@ impl Numbers {
     }
 }
 
+/// Whether a stencil may have this key.
+fn is_key_of_stencil(key: &str) -> bool
+    ensures { result ≡ is_key_of works.Stencil key.now }
+{
+    matches!(
+        key,
+        "work" | "nodes" | "capacity" | "phases" | "cells" | "dump"
+    )
+}
+
+/// Whether a ring may have this key.
+fn is_key_of_ring(key: &str) -> bool
+    ensures { result ≡ is_key_of works.Ring key.now }
+{
+    matches!(key, "work" | "lines" | "capacity" | "items" | "dump")
+}
+
+/// Whether a count may have this key.
+fn is_key_of_count(key: &str) -> bool
+    ensures { result ≡ is_key_of works.Count key.now }
+{
+    matches!(key, "work" | "nodes" | "adds" | "capacity" | "dump")
+}
+
 /// Whether a work may have this key.
 fn is_key_of(work: Work, key: &str) -> bool
     ensures { result ≡ is_key_of work key.now }
 {
     match work {
-        Work::Stencil => {
-            matches!(
-                key,
-                "work" | "nodes" | "capacity" | "phases" | "cells" | "dump"
-            )
-        }
-        Work::Ring => matches!(key, "work" | "lines" | "capacity" | "items" | "dump"),
-        Work::Count => matches!(key, "work" | "nodes" | "adds" | "capacity" | "dump"),
+        Work::Stencil => is_key_of_stencil(key),
+        Work::Ring => is_key_of_ring(key),
+        Work::Count => is_key_of_count(key),
     }
 }
 

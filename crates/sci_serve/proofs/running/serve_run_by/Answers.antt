@@ -1,8 +1,24 @@
-use Rattle.std.proofs.Common.{ℕ, ◌<◌, List, length, take, string_bytes, refl, subst, ◌∙◌}
+use Rattle.std.proofs.Common.{ℕ, ◌<◌, List, [], length, take, string_bytes, refl, subst, ◌∙◌}
+use Rattle.std.proofs.KnownBytes.{Appends-nil}
 use Rattle.std.proofs.lemmas.Option.{IfSome_then}
+use Rattle.std.proofs.lemmas.Result.{err_from_is_err_and}
 use Rattle.std.specs.Io.KnownBytes.{Appends}
-use Rattle.sci_serve.specs.Runs.{Runs}
+use Rattle.sci_serve.specs.Runs.{Runs, StopsRun}
+use Rattle.sci_serve.proofs.Declining.{stops_run_input}
 use Rattle.sci_serve.proofs.running.serve_run_by.Goals as goal
+
+pub returns-in_err-input-clause-err : goal.returns-in_err-input-clause-err
+returns-in_err-input-clause-err g c =
+    let p = err_from_is_err_and c.from_residual.result c.from_residual.ensures.1 in
+    rw (p.1, p.2)
+    (IfSome_then (g.R.Read.remaining c.args.reader.now) c.in_err-input.ensures.err (λ input h. ([], stops_run_input c.in_err-input.field-0.0 input h, Appends-nil _)))
+
+pub returns-in_err-text-clause-err : goal.returns-in_err-text-clause-err
+returns-in_err-text-clause-err g c =
+    let p = err_from_is_err_and c.from_residual-in_err-text.result c.from_residual-in_err-text.ensures.1 in
+    rw (p.1, p.2)
+    (IfSome_then (g.R.Read.remaining c.args.reader.now) c.in_ok-input.ensures.read
+    (λ input e. ([], subst (λ (i : List ℕ). StopsRun c.in_err-text.field-0.0 i []) (c.deref.ensures.value ∙ e) c.in_err-text.ensures.err, Appends-nil _)))
 
 pub returns-in-Ok-clause-ok : goal.returns-in-Ok-clause-ok
 returns-in-Ok-clause-ok g c =

@@ -1,4 +1,6 @@
-use Rattle.std.proofs.Common.{inr, refl}
+use Rattle.std.proofs.Common.{[], inl, inr, refl}
+use Rattle.std.proofs.KnownBytes.{Appends-nil}
+use Rattle.std.proofs.lemmas.Result.{err_from_is_err_and}
 use Rattle.sci_script.specs.Request.{no_words}
 use Rattle.sci_script.specs.Shared.{shared_is_open, shared_does}
 use Rattle.sci_script.specs.Wholes.{shared_of}
@@ -52,3 +54,18 @@ returns-in_ok-desk-in-Draw-clause-err g c =
     let desk = c.in_ok-desk-in-Draw.desk in
     rw c.in-Draw.is (err_then c.draw.result _ _ c.draw.ensures.err
     (λ e (written, left, appended). (written, inr (shared_of desk.desk, shared_of c.draw.new.desk.desk, c.in_ok-desk-in-Draw.ensures.opened, left), appended)))
+
+pub returns-in_err-desk-in-Script-clause-err : goal.returns-in_err-desk-in-Script-clause-err
+returns-in_err-desk-in-Script-clause-err g c =
+    let p = err_from_is_err_and c.from_residual.result c.from_residual.ensures.1 in
+    rw (p.1, p.2) ([], inl (refl, refl), Appends-nil _)
+
+pub returns-in_err-desk-in-Trace-clause-err : goal.returns-in_err-desk-in-Trace-clause-err
+returns-in_err-desk-in-Trace-clause-err g c =
+    let p = err_from_is_err_and c.from_residual-in_err-desk-in-Trace.result c.from_residual-in_err-desk-in-Trace.ensures.1 in
+    rw (p.1, p.2) ([], inl (refl, refl), Appends-nil _)
+
+pub returns-in_err-desk-in-Draw-clause-err : goal.returns-in_err-desk-in-Draw-clause-err
+returns-in_err-desk-in-Draw-clause-err g c =
+    let p = err_from_is_err_and c.from_residual-in_err-desk-in-Draw.result c.from_residual-in_err-desk-in-Draw.ensures.1 in
+    rw (p.1, p.2) ([], inl (refl, refl), Appends-nil _)

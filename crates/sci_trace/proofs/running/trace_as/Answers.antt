@@ -1,5 +1,7 @@
-use Rattle.std.proofs.Common.{arith, ◌<◌, [], refl, ◌++◌, ◌+◌, ◌∙◌, List, ℕ, get_or, take, string_bytes, subst, sym, ap}
+use Rattle.std.proofs.Common.{arith, ◌<◌, ◌≤◌, length, [], refl, ◌++◌, ◌+◌, ◌∙◌, List, ℕ, get_or, take, string_bytes, subst, sym, ap}
 use Rattle.std.proofs.KnownBytes.{Appends-trans}
+use borrow.Author.Count.{falls}
+use Rattle.std.proofs.lemmas.List.{take_all}
 use Rattle.std.proofs.lemmas.List.Elements.{All-replicate}
 use Rattle.std.proofs.lemmas.Result.{err_from_is_err_and}
 use Rattle.sci_script.specs.declared.commands.Size.{Size}
@@ -14,10 +16,11 @@ use Rattle.sci_script.proofs.Through.{prints, stops_at}
 use Rattle.sci_trace.specs.NoteText.{note_bytes}
 use Rattle.sci_trace.specs.declared.desk.TraceDesk.{TraceDesk}
 use Rattle.sci_trace.specs.Coding.{coded}
-use Rattle.sci_trace.specs.Telling.{telling, telling_of, telling_is_open, tells}
+use Rattle.sci_trace.specs.Telling.{telling, telling_of, telling_is_open, tells, TellsAll}
+use Rattle.sci_trace.specs.Traces.{Traces}
 use Rattle.sci_trace.proofs.Coded.{coded_nil, coded_behind}
 use Rattle.sci_trace.proofs.Tellings.{told_does, told_so, tells_none, tells_step}
-use Rattle.sci_trace.proofs.Tracing.{traces_none, traces_more, traces_notes, trace_stops, trace_cut, notes_stop}
+use Rattle.sci_trace.proofs.Tracing.{command_fits, traces_none, traces_more, traces_notes, trace_stops, trace_cut, notes_stop}
 use Rattle.sci_trace.proofs.running.trace_as.Goals as goal
 
 pub loop-step-init : goal.loop-step-init
@@ -30,6 +33,67 @@ loop-step-init g c =
       whole = c.new.ensures.whole;
       written = ([], traces_none (shared_of c.args.desk.now.desk), tells_none no_words (shared_of c.args.desk.now.desk), coded_nil c.args.coding _);
     }
+
+pub perform-performed-requires : goal.perform-performed-requires
+perform-performed-requires g c =
+    let script = c.args.script.now in
+    record {
+      empty = c.clear.ensures.bytes;
+      command = command_fits script.size c.loop-step.desk.size c.steps-step-items.result.now script.steps.items c.loop-step.step-index c.step-item.result script.fits c.steps-step-items.ensures c.loop-step-test.true c.step-item.is c.loop-step.invariant.size;
+      few = c.loop-step.desk.few;
+      words = c.loop-step.invariant.range;
+    }
+
+pub note-requires : goal.note-requires
+note-requires g c =
+    let script = c.args.script.now in
+    record {
+      few = c.args.desk.now.few;
+      command = command_fits script.size c.args.desk.now.size c.steps-step-items.result.now script.steps.items c.loop-step.step-index c.step-item.result script.fits c.steps-step-items.ensures c.loop-step-test.true c.step-item.is c.requires;
+      words = c.loop-step.invariant.range;
+    }
+
+pub returns-in_err-put_notes-clause-ok : goal.returns-in_err-put_notes-clause-ok
+returns-in_err-put_notes-clause-ok g c = let p = err_from_is_err_and c.from_residual.result c.from_residual.ensures.1 in rw p.1 tt
+
+pub returns-in_err-put_notes-clause-size : goal.returns-in_err-put_notes-clause-size
+returns-in_err-put_notes-clause-size g c = c.in_err-put_notes.ensures.size ∙ c.perform-performed.ensures.size ∙ c.loop-step.invariant.size ∙ sym c.requires
+
+pub returns-in_err-performed-clause-ok : goal.returns-in_err-performed-clause-ok
+returns-in_err-performed-clause-ok g c =
+    let p = err_from_is_err_and c.from_residual-in_err-performed.result c.from_residual-in_err-performed.ensures.1 in
+    rw p.1 tt
+
+pub returns-in_err-performed-clause-size : goal.returns-in_err-performed-clause-size
+returns-in_err-performed-clause-size g c = c.in_ok-put_notes.ensures.size ∙ c.in_err-performed.ensures.size ∙ c.loop-step.invariant.size ∙ sym c.requires
+
+pub returns-in-Err-clause-ok : goal.returns-in-Err-clause-ok
+returns-in-Err-clause-ok g c = tt
+
+pub returns-in-Err-clause-size : goal.returns-in-Err-clause-size
+returns-in-Err-clause-size g c = c.in_ok-put_notes.ensures.size ∙ c.in_ok-performed.ensures.size ∙ c.loop-step.invariant.size ∙ sym c.requires
+
+pub loop-step-smaller : goal.loop-step-smaller
+loop-step-smaller g c = falls _ _ c.loop-step-test.true
+
+pub returns-clause-ok : goal.returns-clause-ok
+returns-clause-ok g c =
+    let (traced, so_far, told, appended) = c.loop-step.invariant.written in
+    let s = shared_of c.args.desk.now.desk in
+    let t = shared_of c.loop-step.desk.desk in
+    let i = c.loop-step.step-index in
+    let all = take_all i c.args.script.now.steps.items (subst (λ (l : List Step). length l ≤ i) c.steps-step-items.ensures c.loop-step-test.false) in (
+      traced,
+      subst (λ (l : List Step). Traces l s traced t) all so_far,
+      subst (λ (l : List Step). TellsAll no_words s l traced t) all told,
+      appended,
+    )
+
+pub returns-clause-err : goal.returns-clause-err
+returns-clause-err g c = tt
+
+pub returns-clause-size : goal.returns-clause-size
+returns-clause-size g c = c.loop-step.invariant.size ∙ sym c.requires
 
 pub returns-in_err-put_notes-clause-err : goal.returns-in_err-put_notes-clause-err
 returns-in_err-put_notes-clause-err g c =
