@@ -121,6 +121,7 @@ pub fn list_text(
     Ok(text)
 }
 
+/// A link: its node, or `-` for none.
 fn push_link(text: &mut String, link: Option<NodeId>) -> Result<(), AllocError>
     ensures { OnOk result (string_bytes text.new ≡ string_bytes text.old ++ link_text link) }
 {
@@ -133,6 +134,7 @@ fn push_link(text: &mut String, link: Option<NodeId>) -> Result<(), AllocError>
     }
 }
 
+/// ` held`, where the tag is held.
 fn push_held(text: &mut String, held: bool) -> Result<(), AllocError>
     ensures { OnOk result (string_bytes text.new ≡ string_bytes text.old ++ held_text held) }
 {

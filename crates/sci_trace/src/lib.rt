@@ -27,5 +27,4 @@ pub use running::trace;
 pub mod parts {
     pub use crate::coding::{Coding, put_coded};
     pub use crate::note_text::NoteText;
-    pub use crate::page::{END, FRONT};
 }
