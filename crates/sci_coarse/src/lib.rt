@@ -12,8 +12,7 @@ mod regions;
 mod seats;
 mod standing;
 mod stepping;
-#[cfg(test)]
-mod tests;
+mod taking;
 mod views;
 
 pub use bank::{CoarseBank, SeatOfAnother};
@@ -22,3 +21,9 @@ pub use laws::law_of_one_run;
 pub use line::CoarseLine;
 pub use port::CoarsePort;
 pub use seats::Seat;
+
+/// What the calls of this crate are made of. It is public for the tests alone, which stand in a crate above.
+#[doc(hidden)]
+pub mod parts {
+    pub use crate::taking::take_for_good;
+}

@@ -6,7 +6,6 @@ ghost use Rattle.sci_fine.specs.Seats.{IsSeatOf};
 mod banks;
 mod growths;
 mod memory;
-mod recorded;
 mod replays;
 mod threads;
 

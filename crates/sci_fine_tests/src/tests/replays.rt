@@ -1,4 +1,4 @@
-//! The events that passed through a recorder to a line that is lent, made again on a line on separate words.
+//! The events of recorded runs, made again on a line on separate words.
 ghost use Rattle.std.specs.Prelude.{◌≡◌, All};
 ghost use Rattle.sci_fine.specs.Seats.{IsSeatOf};
 
@@ -9,20 +9,11 @@ use super::{closed, opened, same};
 use sci_core::{AnyWords, Closed, Event, Line, Outcome, Whole};
 use sci_fine::{FineLine, FinePort, Seat};
 use sci_port::Port;
+use sci_recorded::{Recorded, is_left_as, step_whole};
 use sci_words::NodeId;
 use std::alloc::Global;
 use std::process::Abort;
 use std::test::Fail;
-
-// An event on the line that is lent, if it is in turn.
-#[tactic(auto, using(sci_core::proofs::Fitting::any_event_fits))]
-fn step_whole(whole: &mut Whole<AnyWords>, node: NodeId, event: Event) -> Option<Outcome> {
-    if node.get() < whole.nodes() {
-        whole.step(node, event).ok()
-    } else {
-        None
-    }
-}
 
 // An event through a port, if it is in turn.
 #[tactic(auto, using(sci_core::proofs::Fitting::any_event_fits))]
@@ -140,23 +131,6 @@ fn replay_all(
     }
 }
 
-// The words and bytes of a closed line, and those of one that is lent.
-fn is_left_as(closed: &Closed, whole: &Whole<AnyWords>) -> bool {
-    for number in 0..whole.nodes() {
-        let Some(node) = NodeId::new(number) else {
-            return false;
-        };
-        let place = usize::from(number);
-        if node.get() >= whole.nodes()
-            || closed.tags.get(place) != Some(&whole.tag(node))
-            || closed.lines.get(place) != Some(&whole.line(node))
-        {
-            return false;
-        }
-    }
-    closed.mem == whole.mem() && closed.memory == whole.memory_line()
-}
-
 // Makes the events on both lines, and closes the one on separate words.
 fn left_by(
     rt: &impl Abort,
@@ -170,17 +144,20 @@ fn left_by(
     closed(alloc, line, seats).ok()
 }
 
-// Makes the events on a line that is lent and on one on separate words, to the end, where no node is in a step.
-fn replay_run(
-    rt: &impl Abort,
-    alloc: Global,
-    nodes: u16,
-    opening: Line,
-    events: &[(NodeId, Event)],
-) -> Result<(), Fail> {
+// Makes a run again on a line that is lent and on one on separate words, to the end, where no node is in a step.
+fn replay_run(rt: &impl Abort, alloc: Global, run: &Recorded) -> Result<(), Fail> {
+    let events = run.trace.events().ok_or("no room")?;
     assert!(rt; !events.is_empty());
-    let mut whole = Whole::open(alloc, nodes, 0, opening, AnyWords)?;
-    let left = left_by(rt, alloc, opening, &mut whole, events).ok_or("it is not closed")?;
+    let mut whole = Whole::open(alloc, run.nodes, 0, run.opening, AnyWords)?;
+    let left = left_by(rt, alloc, run.opening, &mut whole, events).ok_or("it is not closed")?;
     assert!(rt; is_left_as(&left, &whole));
+    Ok(())
+}
+
+fn replay_runs(rt: &impl Abort, alloc: Global, runs: &[Recorded]) -> Result<(), Fail> {
+    assert!(rt; !runs.is_empty());
+    for run in runs {
+        replay_run(rt, alloc, run)?;
+    }
     Ok(())
 }

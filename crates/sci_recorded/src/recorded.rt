@@ -1,0 +1,24 @@
+//! A recorded run.
+use sci_core::{AnyWords, Line, OpenRefusal, Whole};
+use sci_port::recording::Trace;
+use std::alloc::Global;
+
+/// A run on a line that was lent: how many nodes the line had, what it opened with, and the events that passed.
+#[derive(Drop)]
+pub struct Recorded {
+    pub nodes: u16,
+    pub opening: Line,
+    pub trace: Trace,
+}
+
+// A line of so many nodes with this opening, and a trace with room for so many events.
+pub(crate) fn opened(
+    alloc: Global,
+    nodes: u16,
+    opening: Line,
+    room: usize,
+) -> Result<(Whole<AnyWords>, Trace), OpenRefusal> {
+    let whole = Whole::open(alloc, nodes, 0, opening, AnyWords)?;
+    let events = Vec::with_capacity(alloc, room)?;
+    Ok((whole, Trace::new(events)))
+}
