@@ -1,5 +1,6 @@
 pub mod Calling
 pub mod Closing
+pub mod Counts
 pub mod Dealing
 pub mod Exits
 pub mod Fitting
@@ -10,6 +11,7 @@ pub mod Making
 pub mod Opening
 pub mod Plain
 pub mod Refusing
+pub mod Residual
 pub mod Resting
 pub mod Rests
 pub mod Seated

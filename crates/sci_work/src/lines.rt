@@ -2,7 +2,7 @@
 ghost use Rattle.std.specs.Prelude.{◌≡◌, ◌<◌, ◌≤◌, ◌++◌, ◌∷◌, [], ℕ, replicate, IfOk, IfErr, vec_len};
 ghost use Rattle.sci_fine.specs.Banks.{IsLine};
 ghost use Rattle.sci_fine.specs.Seats.{AreIdle, AreIdleFrom};
-ghost use Rattle.sci_work.specs.Ended.{AreClosedOf};
+ghost use Rattle.sci_work.specs.Ended.{AreClosedOf, IsClosedOf};
 ghost use Rattle.sci_work.specs.Hands.{AtEach, IsHandOf};
 
 use crate::refusals::WorkRefusal;
@@ -56,6 +56,27 @@ fn extended<K: Keeps>(
     Ok(all)
 }
 
+// A line of zeros, and its seats in the order of the nodes.
+fn zeroed<K: Keeps>(
+    alloc: Global,
+    nodes: u16,
+    number: u16,
+    keep: K,
+) -> Result<(FineLine<K>, Vec<Seat<K>>), WorkRefusal>
+    requires nodes { (0 < nodes) × (nodes ≤ 64) }
+    requires fits { K.fits keep number (replicate 8 0) }
+    ensures line { IfOk result (λ r. IsLine nodes keep number r.0) }
+    ensures len { IfOk result (λ r. vec_len r.1 ≡ nodes) }
+    ensures seats { IfOk result (λ r. AreIdleFrom r.0 0 r.1.items) }
+    ensures err { IfErr result (λ e. e ≡ WorkRefusal.OutOfMemory) }
+{
+    match FineLine::new(alloc, nodes, number, Line::ZERO, keep) {
+        Ok(made) => Ok(made),
+        Err(OpenRefusal::BadNodes) => unreachable!(),
+        Err(OpenRefusal::OutOfMemory) => Err(WorkRefusal::OutOfMemory),
+    }
+}
+
 /// So many lines of zeros under one fact, numbered from 0, and each node's hand.
 pub fn opened<K: Keeps>(
     alloc: Global,
@@ -74,11 +95,7 @@ pub fn opened<K: Keeps>(
     let mut lines = Vec::with_capacity(alloc, usize::from(count))?;
     let mut hands = empty_hands(alloc, nodes)?;
     for number in 0..count {
-        let (line, seats) = match FineLine::new(alloc, nodes, number, Line::ZERO, keep) {
-            Ok(made) => made,
-            Err(OpenRefusal::BadNodes) => unreachable!(),
-            Err(OpenRefusal::OutOfMemory) => return Err(WorkRefusal::OutOfMemory),
-        };
+        let (line, seats) = zeroed(alloc, nodes, number, keep)?;
         hands = extended(alloc, &lines, &line, hands, seats)?;
         lines.push_reserved(line);
     }
@@ -99,8 +116,9 @@ fn last_seats<K: Keeps>(
 {
     let _ = lines;
     let _ = line;
-    let mut all = Vec::with_capacity(alloc, hands.len())?;
-    let mut seats = Vec::with_capacity(alloc, hands.len())?;
+    let count = hands.len();
+    let mut all = Vec::with_capacity(alloc, count)?;
+    let mut seats = Vec::with_capacity(alloc, count)?;
     for one in hands {
         let mut hand = one;
         let Some(seat) = hand.pop() else {
@@ -110,6 +128,23 @@ fn last_seats<K: Keeps>(
         all.push_reserved(hand);
     }
     Ok((all, seats))
+}
+
+// The line, closed with its seats.
+fn finished<K: Keeps>(
+    alloc: Global,
+    line: FineLine<K>,
+    seats: Vec<Seat<K>>,
+) -> Result<Closed, WorkRefusal>
+    requires { AreIdle line seats.items }
+    ensures ok { IfOk result (λ one. IsClosedOf K.fits line one) }
+    ensures err { IfErr result (λ e. e ≡ WorkRefusal.OutOfMemory) }
+{
+    match line.finish(alloc, seats) {
+        Ok(closed) => Ok(closed),
+        // 7, and not 9: the seats are the line's own, one per node in order
+        Err(_) => Err(WorkRefusal::OutOfMemory),
+    }
 }
 
 /// The lines, closed.
@@ -131,10 +166,7 @@ pub fn closed<K: Keeps>(
         };
         let (fewer, seats) = last_seats(alloc, &rest, &line, hands)?;
         hands = fewer;
-        let Ok(one) = line.finish(alloc, seats) else {
-            // 7, and not 9: the seats are the line's own, one per node in order
-            return Err(WorkRefusal::OutOfMemory);
-        };
+        let one = finished(alloc, line, seats)?;
         let Ok(()) = all.insert(0, one) else {
             unreachable!()
         };

@@ -29,7 +29,6 @@ pub enum Program<'a> {
     Stencil(Work<'a>),
 }
 
-#[tactic(auto, using(crate::proofs::Rests::led_then, crate::proofs::Rests::led_not))]
 fn counted<R: Wait, G: Gate, B: Bank>(
     rt: &R,
     door: &mut Door<'_, G>,

@@ -1,6 +1,7 @@
 //! A ring with its two nodes in threads of their own.
-ghost use Rattle.std.specs.Prelude.{◌≡◌, ◌+◌, ◌↔◌, Err, length, IfOk, IfErr};
+ghost use Rattle.std.specs.Prelude.{◌≡◌, ◌+◌, ◌↔◌, Err, length, IfOk, IfErr, vec_len};
 ghost use Rattle.sci_work.specs.Ended.{AreClosed, HaveNodes};
+ghost use Rattle.sci_work.specs.Hands.{AtEach};
 ghost use Rattle.sci_work.specs.Ring.{FitsRing, IsRingRun, IsRingSize};
 ghost use Rattle.sci_work.specs.Starts.{ComesInRun, ComesInStart};
 
@@ -15,6 +16,20 @@ use sci_core::Closed;
 use std::alloc::Global;
 use std::sync::Wait;
 use std::thread::Threads;
+
+// The share of the sink, which is the second of two.
+fn last_share(source: &[u64], shares: Vec<Vec<u64>>) -> Vec<u64>
+    requires two { vec_len shares ≡ 2 }
+    requires each { AtEach (λ k share. k ≡ 1 → share.items ≡ source.now) shares.items }
+    ensures { result.items ≡ source.now }
+{
+    let _ = source;
+    let mut shares = shares;
+    let Some(share) = shares.pop() else {
+        unreachable!()
+    };
+    share
+}
 
 // The items at the sink, and the ring's lines as they are closed.
 #[tactic(auto, using(crate::proofs::Refusing::of_memory))]
@@ -36,10 +51,7 @@ fn passed<R: Threads + Wait + Sync, G: Gate>(
     let program = Program::Ring { source, lines };
     let (hands, shares) = run_all(rt, alloc, gate, &shared, hands, program, capacity)?;
     let all = closed(alloc, shared, hands)?;
-    let mut shares = shares;
-    let Some(items) = shares.pop() else {
-        unreachable!()
-    };
+    let items = last_share(source, shares);
     Ok((items, all))
 }
 

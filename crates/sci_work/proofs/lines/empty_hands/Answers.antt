@@ -1,4 +1,4 @@
-use Rattle.std.proofs.Common.{rules, ◌≡◌, ℕ, List, [], length, vec_items, vec_len, arith, sym, subst}
+use Rattle.std.proofs.Common.{rules, ◌≡◌, List, [], length, vec_items, arith, sym, subst}
 use mathlib.Core.Option.{some, some-ne-none}
 use lib.ListN.{get_elem?}
 use Rattle.sci_work.specs.Hands.{IsHandOf}

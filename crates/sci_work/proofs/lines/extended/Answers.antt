@@ -1,24 +1,24 @@
-use Rattle.std.proofs.Common.{rules, ◌≡◌, ◌++◌, ◌∷◌, ℕ, ◌+◌, List, [], length, vec_items, vec_len, arith, sym, subst}
+use Rattle.std.proofs.Common.{◌≡◌, ◌++◌, ◌∷◌, ◌∙◌, ℕ, ◌+◌, ◌≤◌, List, [], length, vec_capacity, vec_items, vec_len, arith, ap, sym, subst}
 use Rattle.std.specs.Vec.Iter.{into_iter_items}
 use mathlib.Core.Option.{some, some-ne-none}
 use lib.ListN.{get_elem?}
 use Rattle.sci_work.specs.Hands.{IsHandOf, IsIdleSeat}
+use Rattle.sci_work.proofs.Counts.{both_less, from_none, moved_one, none_done}
 use Rattle.sci_work.proofs.Dealing.{hand_more}
 use Rattle.sci_work.proofs.Seated.{at_first, at_more}
 use Rattle.sci_work.proofs.lines.extended.Goals as goal
 
 pub loop-one-init : goal.loop-one-init
 loop-one-init g c = record {
-  rest = search rules;
-  same = search rules;
-  room = search rules;
+  rest = none_done (vec_len c.in_ok-all.all) _ _ c.in_ok-all.ensures.len c.into_iter-one-iterator.ensures.into_iter_gives.1;
+  same = c.into_iter-rest.ensures.len ∙ c.requires.count ∙ sym c.into_iter-one-iterator.ensures.into_iter_gives.1;
+  room = subst (λ (z : ℕ). z ≤ vec_capacity c.in_ok-all.all) c.len.ensures c.in_ok-all.ensures.capacity;
   hands = λ k x e.
       let h = c.requires.hands k x (subst (λ (z : List _). get_elem? z k ≡ some x) c.into_iter-one-iterator.ensures.into_iter_gives.0 e) in
-      let at : k ≡ k + vec_len c.in_ok-all.all = omega (arith, c.in_ok-all.ensures.len) in
-      subst (λ (z : ℕ). IsHandOf c.args.lines.now z (vec_items x)) at h;
+      subst (λ (z : ℕ). IsHandOf c.args.lines.now z (vec_items x)) (from_none k (vec_len c.in_ok-all.all) c.in_ok-all.ensures.len) h;
   seats = λ k s e.
       let h = c.requires.seats k s (subst (λ (z : List _). get_elem? z k ≡ some s) c.into_iter-rest.ensures.rest e) in
-      let at : k + 0 ≡ k + vec_len c.in_ok-all.all = omega (arith, c.in_ok-all.ensures.len) in
+      let at : k + 0 ≡ k + vec_len c.in_ok-all.all = ap (λ (z : ℕ). k + z) (sym c.in_ok-all.ensures.len) in
       subst (λ (z : ℕ). IsIdleSeat z c.args.line.now s) at record { of = h.0; node_is = h.1; idle = h.2 };
   each = λ k x e. absurd (some-ne-none x (sym (subst (λ (z : List _). get_elem? z k ≡ some x) c.in_ok-all.ensures.items e)));
 }
@@ -30,9 +30,9 @@ loop-one-preserved g c =
     let f = at_first (λ k hand. IsHandOf lines k (vec_items hand)) (into_iter_items c.loop-one.one-iterator) (into_iter_items c.next.new.self) c.in-Some.one (vec_len c.loop-one.all) step.0 i.hands in
     let s = at_first (λ k s. IsIdleSeat k line s) (into_iter_items c.loop-one.rest) (into_iter_items c.next-in-loop-one.new.self) c.in-Some-next.seat (vec_len c.loop-one.all) c.in-Some-next.ensures.items i.seats in
     record {
-      rest = omega (arith, i.rest, step.1, more.len);
-      same = omega (arith, i.same, step.1, c.in-Some-next.ensures.len);
-      room = search rules;
+      rest = moved_one _ _ _ _ _ i.rest step.1 more.len;
+      same = both_less _ _ _ _ i.same c.in-Some-next.ensures.cases.1 step.1;
+      room = subst (λ (z : ℕ). vec_len c.args.hands ≤ z) (sym more.capacity) i.room;
       hands = λ k x e. subst (λ (z : ℕ). IsHandOf lines (k + z) (vec_items x)) (sym more.len) (f.1 k x e);
       seats = λ k x e. subst (λ (z : ℕ). IsIdleSeat (k + z) line x) (sym more.len) (s.1 k x e);
       each = at_more (λ k hand. IsHandOf (lines ++ line ∷ []) k (vec_items hand)) c.loop-one.all.items c.push_reserved.new.self.items c.push.new.self more.items i.each

@@ -1,4 +1,4 @@
-use Rattle.std.proofs.Common.{rules, ◌≡◌, ◌++◌, ◌∷◌, ℕ, ◌+◌, ◌<◌, true, false, List, [], length, vec_items, vec_len, arith, sym, subst, length-append}
+use Rattle.std.proofs.Common.{◌≡◌, ◌++◌, ◌∷◌, ◌∙◌, ℕ, ◌+◌, ◌<◌, ◌≤◌, true, false, List, [], length, vec_capacity, vec_items, vec_len, arith, ap, sym, subst, length-append}
 use Rattle.std.specs.Vec.Iter.{into_iter_items}
 use mathlib.Core.Option.{some, some-ne-none}
 use lib.ListN.{get_elem?}
@@ -6,20 +6,20 @@ use Rattle.sci_core.specs.declared.pending.Pending.{Pending}
 use Rattle.sci_fine.proofs.Elements.{each_more}
 use Rattle.sci_fine.specs.Seats.{IsSeatOf}
 use Rattle.sci_work.specs.Hands.{IsHandOf}
+use Rattle.sci_work.proofs.Counts.{from_none, moved_one, none_done}
 use Rattle.sci_work.proofs.Dealing.{hand_less}
 use Rattle.sci_work.proofs.Seated.{at_first, at_more}
 use Rattle.sci_work.proofs.lines.last_seats.Goals as goal
 
 pub loop-one-init : goal.loop-one-init
 loop-one-init g c = record {
-  rest = search rules;
-  same = search rules;
-  room = search rules;
-  seat_room = search rules;
+  rest = none_done (vec_len c.in_ok-all.all) _ _ c.in_ok-all.ensures.len c.into_iter-one-iterator.ensures.into_iter_gives.1;
+  same = c.in_ok-seats.ensures.len ∙ sym c.in_ok-all.ensures.len;
+  room = subst (λ (z : ℕ). z ≤ vec_capacity c.in_ok-all.all) c.len-count.ensures c.in_ok-all.ensures.capacity;
+  seat_room = subst (λ (z : ℕ). z ≤ vec_capacity c.in_ok-seats.seats) c.len-count.ensures c.in_ok-seats.ensures.capacity;
   left = λ k x e.
       let h = c.requires k x (subst (λ (z : List _). get_elem? z k ≡ some x) c.into_iter-one-iterator.ensures.into_iter_gives.0 e) in
-      let at : k ≡ k + vec_len c.in_ok-all.all = omega (arith, c.in_ok-all.ensures.len) in
-      subst (λ (z : ℕ). IsHandOf (c.args.lines.now ++ c.args.line.now ∷ []) z (vec_items x)) at h;
+      subst (λ (z : ℕ). IsHandOf (c.args.lines.now ++ c.args.line.now ∷ []) z (vec_items x)) (from_none k (vec_len c.in_ok-all.all) c.in_ok-all.ensures.len) h;
   hands = λ k x e. absurd (some-ne-none x (sym (subst (λ (z : List _). get_elem? z k ≡ some x) c.in_ok-all.ensures.items e)));
   seats = λ k x e. absurd (some-ne-none x (sym (subst (λ (z : List _). get_elem? z k ≡ some x) c.in_ok-seats.ensures.items e)));
 }
@@ -40,10 +40,10 @@ loop-one-preserved g c =
     let f = at_first (λ k hand. IsHandOf (lines ++ line ∷ []) k (vec_items hand)) (into_iter_items c.loop-one.one-iterator) (into_iter_items c.next.new.self) c.in-Some.one (vec_len c.loop-one.all) step.0 i.left in
     let s = hand_less lines line (vec_len c.loop-one.all) c.in-Some.one.items c.pop.new.self.items c.in-Some-pop.seat c.in-Some-pop.ensures.items f.0 in
     record {
-      rest = omega (arith, i.rest, step.1, more.len);
-      same = omega (arith, i.same, more.len, put.len);
-      room = search rules;
-      seat_room = search rules;
+      rest = moved_one _ _ _ _ _ i.rest step.1 more.len;
+      same = put.len ∙ ap (λ (z : ℕ). z + 1) i.same ∙ sym more.len;
+      room = subst (λ (z : ℕ). vec_len c.args.hands ≤ z) (sym more.capacity) i.room;
+      seat_room = subst (λ (z : ℕ). vec_len c.args.hands ≤ z) (sym put.capacity) i.seat_room;
       left = λ k x e. subst (λ (z : ℕ). IsHandOf (lines ++ line ∷ []) (k + z) (vec_items x)) (sym more.len) (f.1 k x e);
       hands = at_more (λ k hand. IsHandOf lines k (vec_items hand)) c.loop-one.all.items c.push_reserved-in-loop-one.new.self.items c.pop.new.self more.items i.hands
           (subst (λ (z : ℕ). IsHandOf lines z (vec_items c.pop.new.self)) here s.0);

@@ -1,18 +1,36 @@
-use Rattle.std.proofs.Common.{rules, ◌≡◌, ◌∙◌, sym, refl, length, IfErr, subst}
+use Rattle.std.proofs.Common.{rules, ◌∙◌, sym, refl, IfErr, arith, subst}
 use Rattle.sci_work.specs.Made.{ComesInWork, none}
 use Rattle.sci_work.specs.Ring.{IsRingSize}
+use Rattle.sci_work.proofs.Residual.{if_ok_same, on_ok_same}
 use Rattle.sci_work.proofs.rings.consuming.consume.Goals as goal
 
-pub returns-then-not-is_ring_size-clause-limits : goal.returns-then-not-is_ring_size-clause-limits
-returns-then-not-is_ring_size-clause-limits g c = ((λ _ size. let e = c.is_ring_size.ensures.1 size in cc), λ _. refl)
+pub returns-then-not-is_ring_size : goal.returns-then-not-is_ring_size
+returns-then-not-is_ring_size g c =
+    record {
+      limits = ((λ _ size. let e = c.is_ring_size.ensures.1 size in cc), λ _. refl);
+      untouched = λ _. (refl, refl);
+      items = tt;
+      ok = tt;
+      err = λ size. absurd (let e = c.is_ring_size.ensures.1 size in cc);
+      ready = c.requires.ready;
+      made = record { count = 0; within = omega arith; made = none };
+      same_way = refl;
+      same_fact = refl;
+    }
 
-pub returns-then-not-is_ring_size-clause-err : goal.returns-then-not-is_ring_size-clause-err
-returns-then-not-is_ring_size-clause-err g c = λ size. absurd (let e = c.is_ring_size.ensures.1 size in cc)
-
-pub returns-then-not-is_ring_size-clause-made : goal.returns-then-not-is_ring_size-clause-made
-returns-then-not-is_ring_size-clause-made g c = record { count = 0; within = search rules; made = none }
-
-pub returns-clause-limits : goal.returns-clause-limits
-returns-clause-limits g c =
+pub returns : goal.returns
+returns g c =
     let size : IsRingSize c.args.n c.args.lines = c.is_ring_size.ensures.0 (search rules) in
-    ((λ e. absurd (subst (λ r. IfErr r ComesInWork) (sym c.told.ensures ∙ e) c.consumed-ended.ensures.err)), λ no. absurd (no size))
+    let ended = c.consumed-ended.ensures in
+    let same = sym c.told.ensures in
+    record {
+      limits = ((λ e. absurd (subst (λ r. IfErr r ComesInWork) (same ∙ e) ended.err)), λ no. absurd (no size));
+      untouched = λ no. absurd (no size);
+      items = if_ok_same _ _ _ c.told.ensures ended.items;
+      ok = on_ok_same _ _ _ c.told.ensures ended.ok;
+      err = λ _. subst (λ r. IfErr r ComesInWork) same ended.err;
+      ready = ended.ready;
+      made = ended.made;
+      same_way = ended.same_way;
+      same_fact = ended.same_fact;
+    }

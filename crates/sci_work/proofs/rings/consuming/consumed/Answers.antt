@@ -1,25 +1,56 @@
-use Rattle.std.proofs.Common.{rules, ◌≡◌, ℕ, ◌+◌, ◌∷◌, [], ◌++◌, List, length, take, vec_items, refl, ap, sym, subst, ◌∙◌, arith}
+use Rattle.std.proofs.Common.{rules, ◌≡◌, ℕ, ◌∷◌, [], ◌++◌, List, take, vec_items, refl, ap, subst, ◌∙◌, arith}
+use Rattle.std.proofs.lemmas.Result.{IfOk-from_err}
 use Rattle.sci_work.specs.Made.{Made, none}
-use Rattle.sci_work.specs.Ring.{IsRing, count_writes}
+use Rattle.sci_work.specs.Ring.{count_writes}
 use Rattle.sci_work.proofs.Making.{made_all}
 use Rattle.sci_work.proofs.Items.{count_more, take_more}
+use Rattle.sci_work.proofs.Refusing.{of_call}
+use Rattle.sci_work.proofs.Residual.{passed_on}
 use Rattle.sci_work.proofs.rings.consuming.consumed.Goals as goal
 
 pub loop-i-init : goal.loop-i-init
 loop-i-init g c = record { items = λ source ring enough. (search rules); ready = c.requires.ready; made = none; way = refl; fact = refl }
 
-pub returns-in_err-value-clause-made : goal.returns-in_err-value-clause-made
-returns-in_err-value-clause-made g c = record { count = c.loop-i.i; within = search rules; made = made_all g.B.Bank.gives g.B.Bank.at_step c.loop-i.invariant.made c.item.ensures.made }
-
-pub returns-then-is_err-clause-made : goal.returns-then-is_err-clause-made
-returns-then-is_err-clause-made g c = record { count = c.loop-i.i; within = search rules; made = made_all g.B.Bank.gives g.B.Bank.at_step c.loop-i.invariant.made c.item.ensures.made }
-
-pub returns-in_err-written-clause-made : goal.returns-in_err-written-clause-made
-returns-in_err-written-clause-made g c =
+pub returns-in_err-value : goal.returns-in_err-value
+returns-in_err-value g c =
+    let r = c.from_residual in
     record {
-      count = c.loop-i.i;
-      within = search rules;
-      made = made_all g.B.Bank.gives g.B.Bank.at_step (made_all g.B.Bank.gives g.B.Bank.at_step c.loop-i.invariant.made c.item.ensures.made) c.in_err-written.ensures.none;
+      items = IfOk-from_err r.result _ r.ensures.0;
+      ok = IfOk-from_err r.result _ r.ensures.0;
+      err = passed_on r.result _ _ r.ensures.1 c.in_err-value.ensures.err;
+      ready = c.item.ensures.ready;
+      made = record { count = c.loop-i.i; within = search rules; made = made_all g.B.Bank.gives g.B.Bank.at_step c.loop-i.invariant.made c.item.ensures.made };
+      same_way = c.item.ensures.same_way ∙ c.loop-i.invariant.way;
+      same_fact = c.item.ensures.same_fact ∙ c.loop-i.invariant.fact;
+    }
+
+pub returns-then-is_err : goal.returns-then-is_err
+returns-then-is_err g c =
+    record {
+      items = tt;
+      ok = tt;
+      err = tt;
+      ready = c.item.ensures.ready;
+      made = record { count = c.loop-i.i; within = search rules; made = made_all g.B.Bank.gives g.B.Bank.at_step c.loop-i.invariant.made c.item.ensures.made };
+      same_way = c.item.ensures.same_way ∙ c.loop-i.invariant.way;
+      same_fact = c.item.ensures.same_fact ∙ c.loop-i.invariant.fact;
+    }
+
+pub returns-in_err-written : goal.returns-in_err-written
+returns-in_err-written g c =
+    let r = c.from_residual-in_err-written in
+    record {
+      items = IfOk-from_err r.result _ r.ensures.0;
+      ok = IfOk-from_err r.result _ r.ensures.0;
+      err = passed_on r.result _ _ r.ensures.1 (of_call _ c.in_err-written.ensures.err);
+      ready = c.written.ensures.ready;
+      made = record {
+        count = c.loop-i.i;
+        within = search rules;
+        made = made_all g.B.Bank.gives g.B.Bank.at_step (made_all g.B.Bank.gives g.B.Bank.at_step c.loop-i.invariant.made c.item.ensures.made) c.in_err-written.ensures.none;
+      };
+      same_way = c.written.ensures.same_way ∙ c.item.ensures.same_way ∙ c.loop-i.invariant.way;
+      same_fact = c.written.ensures.same_fact ∙ c.item.ensures.same_fact ∙ c.loop-i.invariant.fact;
     }
 
 pub loop-i-preserved : goal.loop-i-preserved
@@ -39,15 +70,16 @@ loop-i-preserved g c =
       fact = c.written.ensures.same_fact ∙ c.item.ensures.same_fact ∙ c.loop-i.invariant.fact;
     }
 
-pub returns-clause-items : goal.returns-clause-items
-returns-clause-items g c = λ source ring enough.
+pub returns : goal.returns
+returns g c =
+    let i = c.loop-i.invariant in
     let all : c.loop-i.i ≡ c.args.n = search rules in
-    c.loop-i.invariant.items source ring enough ∙ ap (λ (k : ℕ). take k source) all
-
-pub returns-clause-ok : goal.returns-clause-ok
-returns-clause-ok g c =
-    let all : c.loop-i.i ≡ c.args.n = search rules in
-    subst (λ (k : ℕ). Made g.B.Bank.gives g.B.Bank.at_step (count_writes c.args.lines k) c.args.node.now c.args.bank.now c.loop-i.node c.loop-i.bank) all c.loop-i.invariant.made
-
-pub returns-clause-made : goal.returns-clause-made
-returns-clause-made g c = record { count = c.loop-i.i; within = search rules; made = c.loop-i.invariant.made }
+    record {
+      items = λ source ring enough. i.items source ring enough ∙ ap (λ (k : ℕ). take k source) all;
+      ok = subst (λ (k : ℕ). Made g.B.Bank.gives g.B.Bank.at_step (count_writes c.args.lines k) c.args.node.now c.args.bank.now c.loop-i.node c.loop-i.bank) all i.made;
+      err = tt;
+      ready = i.ready;
+      made = record { count = c.loop-i.i; within = search rules; made = i.made };
+      same_way = i.way;
+      same_fact = i.fact;
+    }

@@ -3,13 +3,25 @@ use Rattle.sci_work.specs.Made.{none}
 use Rattle.std.proofs.Common.{rules}
 use Rattle.sci_work.proofs.Items.{value_shown}
 use Rattle.sci_work.proofs.Making.{made_all}
+use Rattle.sci_work.proofs.Refusing.{of_call}
+use Rattle.sci_work.proofs.Residual.{passed_on}
+use Rattle.std.proofs.lemmas.Result.{IfOk-from_err}
 use Rattle.sci_work.proofs.rings.consuming.item.Goals as goal
 
 pub loop-init : goal.loop-init
 loop-init g c = record { can = tt; finite = tt; ready = c.requires.ready; made = none; way = refl; fact = refl }
 
-pub returns-in_err-words-clause-made : goal.returns-in_err-words-clause-made
-returns-in_err-words-clause-made g c = made_all g.B.Bank.gives g.B.Bank.at_step c.loop.invariant.made c.loaded.ensures.made
+pub returns-in_err-words : goal.returns-in_err-words
+returns-in_err-words g c =
+    let r = c.from_residual in
+    record {
+      value = IfOk-from_err r.result _ r.ensures.0;
+      err = passed_on r.result _ _ r.ensures.1 (of_call _ c.in_err-words.ensures.err);
+      ready = c.loaded.ensures.ready;
+      made = made_all g.B.Bank.gives g.B.Bank.at_step c.loop.invariant.made c.loaded.ensures.made;
+      same_way = c.loaded.ensures.same_way ∙ c.loop.invariant.way;
+      same_fact = c.loaded.ensures.same_fact ∙ c.loop.invariant.fact;
+    }
 
 pub loop-preserved : goal.loop-preserved
 loop-preserved g c =
@@ -22,12 +34,24 @@ loop-preserved g c =
       fact = c.loaded.ensures.same_fact ∙ c.loop.invariant.fact;
     }
 
-pub returns-then-words-i-clause-made : goal.returns-then-words-i-clause-made
-returns-then-words-i-clause-made g c = made_all g.B.Bank.gives g.B.Bank.at_step c.loop.invariant.made c.loaded.ensures.made
+pub returns-then-words-i : goal.returns-then-words-i
+returns-then-words-i g c =
+    record {
+      value = λ source ring. value_shown source c.args.lines _ c.in_ok-words.words c.args.i (search rules) (ring.gives _ _ (rw c.loop.invariant.fact at c.in_ok-words.ensures.fits)) (search rules);
+      err = tt;
+      ready = c.loaded.ensures.ready;
+      made = made_all g.B.Bank.gives g.B.Bank.at_step c.loop.invariant.made c.loaded.ensures.made;
+      same_way = c.loaded.ensures.same_way ∙ c.loop.invariant.way;
+      same_fact = c.loaded.ensures.same_fact ∙ c.loop.invariant.fact;
+    }
 
-pub returns-then-words-i-2-clause-made : goal.returns-then-words-i-2-clause-made
-returns-then-words-i-2-clause-made g c = made_all g.B.Bank.gives g.B.Bank.at_step c.loop.invariant.made c.loaded.ensures.made
-
-pub returns-then-words-i-clause-value : goal.returns-then-words-i-clause-value
-returns-then-words-i-clause-value g c = λ source ring.
-    value_shown source c.args.lines _ c.in_ok-words.words c.args.i (search rules) (ring.gives _ _ (rw c.loop.invariant.fact at c.in_ok-words.ensures.fits)) (search rules)
+pub returns-then-words-i-2 : goal.returns-then-words-i-2
+returns-then-words-i-2 g c =
+    record {
+      value = tt;
+      err = tt;
+      ready = c.loaded.ensures.ready;
+      made = made_all g.B.Bank.gives g.B.Bank.at_step c.loop.invariant.made c.loaded.ensures.made;
+      same_way = c.loaded.ensures.same_way ∙ c.loop.invariant.way;
+      same_fact = c.loaded.ensures.same_fact ∙ c.loop.invariant.fact;
+    }

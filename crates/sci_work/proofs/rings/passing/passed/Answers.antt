@@ -1,7 +1,5 @@
-use Rattle.std.proofs.Common.{◌≡◌, ◌∷◌, [], ℕ, ◌+◌, List, length, refl, ap, sym, subst, arith, length-append}
-use mathlib.Core.Option.{some}
-use lib.ListN.{get_elem?}
-use Rattle.atomic_table.proofs.Lists.{at_last}
+use Rattle.std.proofs.Common.{◌≡◌, ◌∷◌, [], ℕ, ◌+◌, List, length, ap, sym, ◌∙◌, subst, arith}
+use Rattle.std.proofs.lemmas.Result.{IfOk-from_err}
 use Rattle.sci_work.specs.Ended.{AreClosed}
 use Rattle.sci_work.specs.Ring.{FitsRing}
 use Rattle.sci_work.specs.Starts.{AreParts}
@@ -10,6 +8,8 @@ use Rattle.sci_work.specs.declared.programs.Program.{Program}
 use Rattle.sci_work.proofs.Closing.{closed_under, nodes_under}
 use Rattle.sci_work.proofs.Items.{is_ring}
 use Rattle.sci_work.proofs.Opening.{parts_of}
+use Rattle.sci_work.proofs.Refusing.{of_memory}
+use Rattle.sci_work.proofs.Residual.{passed_on}
 use Rattle.sci_work.proofs.rings.passing.passed.Goals as goal
 
 abbrev fits_of : RingFact → ℕ → List ℕ → Type 0
@@ -23,11 +23,11 @@ run_all-requires-after_bounds g c κs within =
     (parts_of fits_of 2 fact (lines + 1) (Program.Ring c.args.source lines) made.shared.items made.hands size (omega arith) (let few = c.requires.2 in omega (arith, few)) made.ensures.lines made.ensures.len (omega arith) made.ensures.hands
     (λ k low. (is_ring fact.source.now c.args.source.now fact.lines lines (ap (λ z. z.now) c.new.ensures.source) c.new.ensures.lines, c.requires, omega arith)))
 
+pub last_share-items-requires : goal.last_share-items-requires
+last_share-items-requires g c = let ended = c.in_ok-hands.ensures.ok in record { two = ended.share_count ∙ c.in_ok-shared.ensures.len; each = ended.shares_are }
+
 pub returns-clause-items : goal.returns-clause-items
-returns-clause-items g c =
-    let ended = c.in_ok-hands.ensures.ok in let rest = c.pop.new.self.items in let last = c.in-Some.items in
-    let one : length rest ≡ 1 = omega (arith, ended.share_count, c.in_ok-shared.ensures.len, c.in_ok-hands.shares.ok, ap length c.in-Some.ensures.items, length-append rest (last ∷ [])) in
-    ended.shares_are 1 last (subst (λ (z : List _). get_elem? z 1 ≡ some last) (sym c.in-Some.ensures.items) (at_last rest last 1 one)) refl
+returns-clause-items g c = c.last_share-items.ensures
 
 pub returns-clause-closed : goal.returns-clause-closed
 returns-clause-closed g c =
@@ -39,3 +39,33 @@ returns-clause-closed g c =
 
 pub returns-clause-nodes : goal.returns-clause-nodes
 returns-clause-nodes g c = nodes_under fits_of 2 c.new.result c.in_ok-shared.shared.items c.in_ok-all.all.items c.in_ok-shared.ensures.lines c.in_ok-all.ensures.ok
+
+pub returns-in_err-shared : goal.returns-in_err-shared
+returns-in_err-shared g c =
+    let r = c.from_residual in
+    record {
+      items = IfOk-from_err r.result _ r.ensures.0;
+      closed = IfOk-from_err r.result _ r.ensures.0;
+      nodes = IfOk-from_err r.result _ r.ensures.0;
+      err = passed_on r.result _ _ r.ensures.1 (of_memory (Program.Ring c.args.source c.args.lines) _ c.in_err-shared.ensures.err);
+    }
+
+pub returns-in_err-hands : goal.returns-in_err-hands
+returns-in_err-hands g c =
+    let r = c.from_residual-in_err-hands in
+    record {
+      items = IfOk-from_err r.result _ r.ensures.0;
+      closed = IfOk-from_err r.result _ r.ensures.0;
+      nodes = IfOk-from_err r.result _ r.ensures.0;
+      err = passed_on r.result _ _ r.ensures.1 c.in_err-hands.ensures.err;
+    }
+
+pub returns-in_err-all : goal.returns-in_err-all
+returns-in_err-all g c =
+    let r = c.from_residual-in_err-all in
+    record {
+      items = IfOk-from_err r.result _ r.ensures.0;
+      closed = IfOk-from_err r.result _ r.ensures.0;
+      nodes = IfOk-from_err r.result _ r.ensures.0;
+      err = passed_on r.result _ _ r.ensures.1 (of_memory (Program.Ring c.args.source c.args.lines) _ c.in_err-all.ensures.err);
+    }

@@ -1,22 +1,41 @@
-use Rattle.std.proofs.Common.{rules, ◌≡◌, ℕ, ◌∷◌, List, length, refl, ap, subst, ◌∙◌}
+use Rattle.std.proofs.Common.{rules, ◌≡◌, ℕ, List, length, refl, subst, ◌∙◌}
+use Rattle.std.proofs.lemmas.Result.{IfOk-from_err}
 use Rattle.sci_work.specs.Made.{Made, none}
 use Rattle.sci_work.specs.Ring.{item_writes}
 use Rattle.sci_work.proofs.Making.{made_all}
 use Rattle.sci_work.proofs.Items.{item_more}
+use Rattle.sci_work.proofs.Residual.{passed_on}
 use Rattle.sci_work.proofs.rings.producing.produced.Goals as goal
 
 pub loop-i-init : goal.loop-i-init
 loop-i-init g c = record { ready = c.requires.ready; made = none; way = refl; fact = refl }
 
-pub returns-in_err-free-clause-made : goal.returns-in_err-free-clause-made
-returns-in_err-free-clause-made g c = record { count = c.loop-i.i; within = search rules; made = made_all g.B.Bank.gives g.B.Bank.at_step c.loop-i.invariant.made c.free.ensures.made }
-
-pub returns-in_err-written-clause-made : goal.returns-in_err-written-clause-made
-returns-in_err-written-clause-made g c =
+pub returns-in_err-free : goal.returns-in_err-free
+returns-in_err-free g c =
+    let r = c.from_residual in
     record {
-      count = c.loop-i.i;
-      within = search rules;
-      made = made_all g.B.Bank.gives g.B.Bank.at_step (made_all g.B.Bank.gives g.B.Bank.at_step c.loop-i.invariant.made c.free.ensures.made) c.in_err-written.ensures.none;
+      ok = IfOk-from_err r.result _ r.ensures.0;
+      err = passed_on r.result _ _ r.ensures.1 c.in_err-free.ensures.err;
+      ready = c.free.ensures.ready;
+      made = record { count = c.loop-i.i; within = search rules; made = made_all g.B.Bank.gives g.B.Bank.at_step c.loop-i.invariant.made c.free.ensures.made };
+      same_way = c.free.ensures.same_way ∙ c.loop-i.invariant.way;
+      same_fact = c.free.ensures.same_fact ∙ c.loop-i.invariant.fact;
+    }
+
+pub returns-in_err-written : goal.returns-in_err-written
+returns-in_err-written g c =
+    let r = c.from_residual-in_err-written in
+    record {
+      ok = IfOk-from_err r.result _ r.ensures.0;
+      err = passed_on r.result _ _ r.ensures.1 c.in_err-written.ensures.err;
+      ready = c.written.ensures.ready;
+      made = record {
+        count = c.loop-i.i;
+        within = search rules;
+        made = made_all g.B.Bank.gives g.B.Bank.at_step (made_all g.B.Bank.gives g.B.Bank.at_step c.loop-i.invariant.made c.free.ensures.made) c.in_err-written.ensures.none;
+      };
+      same_way = c.written.ensures.same_way ∙ c.free.ensures.same_way ∙ c.loop-i.invariant.way;
+      same_fact = c.written.ensures.same_fact ∙ c.free.ensures.same_fact ∙ c.loop-i.invariant.fact;
     }
 
 pub loop-i-preserved : goal.loop-i-preserved
@@ -31,10 +50,15 @@ loop-i-preserved g c =
       fact = c.written.ensures.same_fact ∙ c.free.ensures.same_fact ∙ c.loop-i.invariant.fact;
     }
 
-pub returns-clause-ok : goal.returns-clause-ok
-returns-clause-ok g c =
+pub returns : goal.returns
+returns g c =
+    let i = c.loop-i.invariant in
     let all : c.loop-i.i ≡ length c.args.source.now = search rules in
-    subst (λ (k : ℕ). Made g.B.Bank.gives g.B.Bank.at_step (item_writes c.args.source.now c.args.lines k) c.args.node.now c.args.bank.now c.loop-i.node c.loop-i.bank) all c.loop-i.invariant.made
-
-pub returns-clause-made : goal.returns-clause-made
-returns-clause-made g c = record { count = c.loop-i.i; within = search rules; made = c.loop-i.invariant.made }
+    record {
+      ok = subst (λ (k : ℕ). Made g.B.Bank.gives g.B.Bank.at_step (item_writes c.args.source.now c.args.lines k) c.args.node.now c.args.bank.now c.loop-i.node c.loop-i.bank) all i.made;
+      err = tt;
+      ready = i.ready;
+      made = record { count = c.loop-i.i; within = search rules; made = i.made };
+      same_way = i.way;
+      same_fact = i.fact;
+    }
