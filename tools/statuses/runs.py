@@ -95,6 +95,8 @@ CASES = [
     (["run", "long"], COUNT, 1, "", refused("23")),
     (["run"], COUNT.ljust(LIMIT), 0, "count 4000\n", ""),
     (["run"], COUNT.ljust(LIMIT + 1), 1, "", refused("23")),
+    (["run"], COUNT.ljust(LIMIT, "\n"), 0, "count 4000\n", ""),
+    (["run"], COUNT.ljust(LIMIT + 1, "\n"), 1, "", refused("23")),
     (["run", "missing"], COUNT, 1, "", READ),
     (["run", "folder"], COUNT, 1, "", READ),
     (["run", b"\xff"], COUNT, 1, "", READ),
