@@ -25,8 +25,8 @@ ANSWER = re.compile(r": error: `[^`]+`: ")
 NAMES = re.compile(r"has no field|\(nearest: |is not in scope|has no `|was not admitted")
 
 
-# from how many CPU seconds on a function under an edit is named: its answers are worth a look
-DEAR = 15
+# from how many CPU seconds on a function is named under an edit: its answers are worth a look
+DEAR = 10
 
 
 def cpu_of(pid):
@@ -41,7 +41,7 @@ def cpu_of(pid):
 
 def run(words, folder, costs=None):
     """Runs rattle and returns its status, what it said and the CPU seconds that it took; costs gets those of each function that it
-    says to have checked. The first has the start of the check too."""
+    says to have checked, but for the first, which has the start of the check too."""
     before, spent, lines = time.monotonic(), 0, []
     how = {"cwd": folder, "stdin": subprocess.DEVNULL, "stdout": subprocess.PIPE, "stderr": subprocess.STDOUT}
     started = subprocess.Popen([*RT.rtlib.guarded(), RATTLE, *words], **how)
@@ -50,7 +50,9 @@ def run(words, folder, costs=None):
         checked = CHECKED.match(lines[-1])
         if checked and costs is not None:
             now = cpu_of(started.pid)
-            costs[checked[1]], spent = now - spent, now
+            if spent:
+                costs[checked[1]] = now - spent
+            spent = now
     said = "".join(lines)
     _, status, used = os.wait4(started.pid, 0)
     started.returncode = os.waitstatus_to_exitcode(status) if hasattr(os, "waitstatus_to_exitcode") else ended(status)
