@@ -1,6 +1,6 @@
 """Tries the edits of crates/NAME/refused/, many in one check: the prover must refuse each by a goal of its own function.
 
-    python3 tools/refused [--warm] [--built] [--size N] [NAME ..]
+    python3 tools/refused [--warm] [--built] [--seeds FOLDER] [--size N] [NAME ..]
 
 README.md beside this file says how. The last line is `N passed, M failed`; the status is 0 where none failed.
 """
@@ -31,12 +31,12 @@ def say(text):
 
 
 def copy_of(root, room, kept):
-    """Copies what a check reads of the repository, and what earlier checks kept of these crates."""
+    """Copies what a check reads of the repository, and what earlier checks kept of these crates, given by their folders."""
     shutil.copyfile(f"{root}/crates.txt", f"{room}/crates.txt")
     shutil.copytree(f"{root}/crates", f"{room}/crates", ignore=shutil.ignore_patterns("out"))
-    for name in kept:
-        if os.path.isdir(f"{root}/crates/{name}/out/incremental"):
-            shutil.copytree(f"{root}/crates/{name}/out/incremental", f"{room}/kept/{name}")
+    for name, folder in kept.items():
+        if os.path.isdir(folder):
+            RT.linked(folder, f"{room}/kept/{name}")
 
 
 def take_libraries(root, crates):
@@ -129,13 +129,17 @@ def main():
     parser.add_argument("--size", type=int, default=40, help="how many edits at most in one check")
     parser.add_argument("--warm", action="store_true", help="begin over what rt check kept in out/, and not from nothing")
     parser.add_argument("--built", action="store_true", help="take the libraries below as rt ci has just built them")
+    parser.add_argument("--seeds", metavar="FOLDER", help="begin over what rt ci proved, where seeds.py kept it there")
     parser.add_argument("--root", default=str(ROOT), help="the repository, if another than this one")
     parser.add_argument("names", nargs="*", metavar="NAME", help="the crates; all, if none is named")
     given = parser.parse_args()
+    root = os.path.realpath(given.root)
     # (over libraries as they are built, no other crate is proved)
-    kept = given.names if given.built and given.names else os.listdir(f"{given.root}/crates")
+    names = given.names if given.built and given.names else os.listdir(f"{root}/crates")
+    kept = {it: f"{root}/crates/{it}/out/incremental" for it in names if given.warm}
+    kept |= {it: f"{given.seeds}/{it}" for it in names if given.seeds}
     with tempfile.TemporaryDirectory(prefix="refused-") as room:
-        copy_of(os.path.realpath(given.root), room, kept if given.warm else [])
+        copy_of(root, room, kept)
         crates = sorted(RT.rtlib.crates_below(room), key=lambda it: len(it.below()))
         unknown = {*given.names} - {it.name for it in crates}
         if unknown:
@@ -144,7 +148,7 @@ def main():
             for it in crates:
                 if it.name not in given.names:
                     shutil.rmtree(f"{it.folder}/refused", ignore_errors=True)
-        trials, tasks = tasks_of(crates, os.path.realpath(given.root), room, max(given.size, 1), given.built)
+        trials, tasks = tasks_of(crates, root, room, max(given.size, 1), given.built)
         RT.in_lanes(tasks)
         return 1 if report(trials) else 0
 

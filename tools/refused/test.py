@@ -1,4 +1,5 @@
-"""Tests tools/refused on a small crate: edits that are refused, and each way in which an edit fails."""
+"""Tests tools/refused on a small crate: edits that are refused, and each way in which an edit fails. Tests that seeds.py keeps what
+`rt ci` is about to remove, on a command that only makes such folders."""
 
 import pathlib
 import subprocess
@@ -100,6 +101,30 @@ def make(root):
         (crate / "refused" / f"{name}.edit").write_text(text, encoding="utf-8")
 
 
+# makes two seeds, of which one is whole, since an edit is tried beside it; removes both, and ends with 3
+SEEDS = """
+import os, shutil, tempfile, time
+rooms = [f"{tempfile.gettempdir()}/rt-edits-{os.getpid()}-{it}" for it in ("whole", "begun")]
+for room, crate in zip(rooms, ("lib_of_halves", "lib_of_thirds")):
+    os.makedirs(f"{room}/seed/of_this_prover")
+    open(f"{room}/seed/of_this_prover/Rattle-{crate}-proofs.next.Met.oantt", "w").close()
+os.mkdir(f"{rooms[0]}/0")
+time.sleep(3)
+for room in rooms:
+    shutil.rmtree(room)
+os._exit(3)
+"""
+
+
+def faults_of_seeds():
+    """Returns what isn't as it must be of the seeds that are kept."""
+    with tempfile.TemporaryDirectory(prefix="refused-test-") as folder:
+        ran = subprocess.run([sys.executable, str(TOOL / "seeds.py"), folder, sys.executable, "-c", SEEDS], stdin=subprocess.DEVNULL)
+        kept = [str(it.relative_to(folder)) for it in pathlib.Path(folder).rglob("*.oantt")]
+    wanted = ["lib_of_halves/of_this_prover/Rattle-lib_of_halves-proofs.next.Met.oantt"]
+    return [] if (kept, ran.returncode) == (wanted, 3) else [f"seeds.py kept {kept} and ended with {ran.returncode}"]
+
+
 def main():
     with tempfile.TemporaryDirectory(prefix="refused-test-") as folder:
         root = pathlib.Path(folder)
@@ -108,7 +133,7 @@ def main():
         ran = subprocess.run(words, stdin=subprocess.DEVNULL, stdout=subprocess.PIPE, stderr=subprocess.STDOUT)
         said = ran.stdout.decode(errors="replace")
         is_kept = not (root / "crates" / "lib_of_halves" / "out").exists()
-    faults = [] if is_kept else ["it wrote into the repository"]
+    faults = faults_of_seeds() + ([] if is_kept else ["it wrote into the repository"])
     for name, _, word in EDITS:
         line = next((it for it in said.split("\n") if f"/{name}.edit: " in it), "no line")
         is_refused = ": refused, as it must be: " in line

@@ -125,8 +125,8 @@ class Trial:
                         it.write(text)
                 changed |= {*texts}
             with tempfile.TemporaryDirectory(prefix="refused-") as kept:
-                shutil.copytree(self.kept, kept, dirs_exist_ok=True)
-                words = ["check", *self.words(1, kept), "--progress", *only(it.function for it in edits)]
+                RT.linked(self.kept, f"{kept}/{self.crate.name}")
+                words = ["check", *self.words(1, f"{kept}/{self.crate.name}"), "--progress", *only(it.function for it in edits)]
                 status, said, used, _ = run(words, room, costs)
         return status, changed, said, used
 

@@ -8,6 +8,7 @@ mod closing;
 mod growths;
 mod memory;
 mod texts;
+mod words;
 
 use sci_core::*;
 use sci_words::{Kind, LineNo, MemState, NodeId, Tag};

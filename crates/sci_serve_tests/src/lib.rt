@@ -1,4 +1,4 @@
-//! The tests of sci_serve, in a crate above it: so what it has proved isn't proved once more for them.
+//! The tests of sci_trace and sci_serve, in a crate above them: so what they have proved isn't proved once more for them.
 #![tactic(auto)]
 
 #[cfg(test)]

@@ -3,6 +3,7 @@ ghost use Rattle.std.specs.Prelude.{Some};
 mod checks;
 mod faltering;
 mod growths;
+mod pages;
 mod runs;
 mod settings;
 mod works;

@@ -1,17 +1,19 @@
-//! Each growth may be refused: the command `check`, the reader of settings, or the command `trace` or `run` then answers 7,
-//! and a second try has the memory. Nothing is written then by `check` and `run`, and by `trace` whole lines at the front of
-//! its text. Where the memory of a workload's thread is refused, `run` answers 26. With ample memory this test passes. tools/allocations runs it once for each growth of its table, with that one
-//! refused, and the test ends by saying which call answered it. Where a call makes up for a refused growth by a later one, it
-//! answers Ok.
+//! Each growth may be refused: the command `check`, the reader of settings, the command `trace` or `run`, or a call of sci_trace
+//! then answers 7, and a second try has the memory. Nothing is written then by `check` and `run`, and by traces whole lines at
+//! the front of their text. Where the memory of a workload's thread is refused, `run` answers 26. With ample memory these tests
+//! pass. tools/allocations runs each once for each growth of its table, with that one refused, and the test ends by saying which
+//! call answered it. Where a call makes up for a refused growth by a later one, it answers Ok.
 ghost use Rattle.std.specs.Prelude.{None};
 
 use super::checks::{LAWFUL, SHARED};
 use super::runs::{ALONE, ALONE_COUNTED};
 use crate::tests::same;
-use sci_script::ScriptRefusal;
+use sci_script::{Script, ScriptRefusal, read_script};
 use sci_serve::{
     Settings, SettingsRefusal, SimFault, read_settings, serve_check, serve_run, serve_trace,
 };
+use sci_trace::parts::NoteText;
+use sci_trace::{TraceDesk, trace};
 use sci_work::WorkRefusal;
 use std::alloc::Global;
 use std::io;
@@ -184,4 +186,52 @@ fn refused_growths(rt: HostRuntime) -> Result<(), Fail> {
     reads(&rt, rt.alloc())?;
     traces(&rt, rt.alloc())?;
     runs(&rt, rt.alloc())
+}
+
+// A trace of a script that is read.
+fn traces_a_script(rt: &impl Abort, alloc: Global, script: &Script) -> Result<(), Fail> {
+    let Ok(mut desk) = TraceDesk::open(alloc, script) else {
+        TraceDesk::open(alloc, script)?;
+        return Err(Fail::new("open answered 7"));
+    };
+    let mut out = empty();
+    match trace(alloc, script, &mut desk, &mut out) {
+        Ok(()) => {
+            assert!(rt; out.text() == TOLD.as_bytes());
+            Ok(())
+        }
+        Err(refusal) => {
+            assert_eq!(rt; refusal, ScriptRefusal::OutOfMemory);
+            assert!(rt; out.length < TOLD.len());
+            assert!(rt; is_front(out.text(), TOLD.as_bytes()));
+            Err(Fail::new("trace answered 7"))
+        }
+    }
+}
+
+// A piece that is longer than what may wait.
+fn pushes(rt: &impl Abort, alloc: Global) -> Result<(), Fail> {
+    let mut text = NoteText::new(alloc);
+    let piece = [b'#'; 2_049];
+    match text.push_bytes(&piece) {
+        Ok(()) => {
+            assert!(rt; text.front() == piece.as_slice());
+            Ok(())
+        }
+        Err(_) => {
+            assert!(rt; text.front().is_empty() && text.waiting().is_empty());
+            text.push_bytes(&piece)?;
+            Err(Fail::new("push_bytes answered 7"))
+        }
+    }
+}
+
+/// Growths: 3 made up for, 1 of read_script, 11 of open, 5 of trace, 1 of push_bytes.
+#[test]
+fn refused_growths_of_traces(rt: HostRuntime) -> Result<(), Fail> {
+    let Ok(script) = read_script(rt.alloc(), SCRIPT.as_bytes()) else {
+        return Err(Fail::new("read_script answered 7"));
+    };
+    traces_a_script(&rt, rt.alloc(), &script)?;
+    pushes(&rt, rt.alloc())
 }

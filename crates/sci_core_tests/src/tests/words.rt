@@ -1,12 +1,6 @@
 //! Words worked out by hand from the table of layout 1.
+use crate::tests::{same, same_at};
 use sci_words::*;
-use std::fmt::Debug;
-use std::process::Abort;
-
-/// Both are the same. Each `assert_eq!` is proved by itself; this one is proved once.
-fn same<T: Debug + PartialEq>(rt: &impl Abort, left: &T, right: &T) {
-    assert_eq!(rt; left, right);
-}
 
 fn tag(kind: Kind, held: bool, forw: Option<NodeId>, back: Option<NodeId>) -> Tag {
     Tag {
@@ -66,8 +60,8 @@ fn reads_and_writes_memory_words(rt: HostRuntime) {
         (0x211, mem(MemState::Fresh, true, node(2)), "FRESH"),
         (0x102, mem(MemState::Gone, false, node(1)), "GONE"),
     ] {
-        assert_eq!(rt; read_mem(word), Ok(want), "at {word:x}");
-        assert!(rt; want.well_formed(), "at {word:x}");
+        same_at(&rt, &word, &read_mem(word), &Ok(want));
+        assert!(rt; want.well_formed());
         same(&rt, &write_mem(want), &word);
         same(&rt, &mem_name(want), &text);
     }
@@ -80,7 +74,7 @@ fn refuses_memory_words(rt: HostRuntime) {
         (0, WordRefusal::LinkUnwanted, 4),
         (3, WordRefusal::UnknownKind, 1),
     ] {
-        assert_eq!(rt; read_mem(word), Err(refusal), "at {word:x}");
+        same_at(&rt, &word, &read_mem(word), &Err(refusal));
         same(&rt, &refusal.number(), &number);
     }
 }

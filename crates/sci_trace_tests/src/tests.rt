@@ -1,4 +1,0 @@
-//! What no walk of `tools/statuses` shows: refused growths, and what a page escapes.
-
-mod growths;
-mod pages;
