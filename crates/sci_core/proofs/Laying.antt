@@ -1,5 +1,5 @@
 -- What is put together from steps without lines and the bytes of slots, read by the node.
-use Rattle.std.proofs.Common.{◌≡◌, ℕ, zero, suc, ◌+◌, ◌<◌, ◌≤◌, true, false, Option, Some, None, List, [], ◌∷◌, length, map, get_or, replicate, refl, sym, ap, ◌∙◌, ⊎_elim, arith}
+use Rattle.std.proofs.Common.{◌≡◌, ℕ, zero, suc, ◌+◌, ◌<◌, ◌≤◌, true, false, Option, Some, None, List, [], ◌∷◌, length, map, get_or, replicate, refl, sym, subst, ap, ◌∙◌, ⊎_elim, arith}
 use Rattle.std.proofs.lemmas.Bool.{cases_lt}
 use Rattle.std.proofs.lemmas.List.{get_or_past}
 use mathlib.Core.Path.{fun_ext}
@@ -12,7 +12,7 @@ use Rattle.sci_core.specs.State.{State, invalid, blank}
 use Rattle.sci_core.specs.Shape.{line_of}
 use Rattle.sci_core.specs.Stage.{pending_of, stage_of}
 use Rattle.sci_core.specs.Laid.{slot_of, memory_slot_of, tabled, step_laid, steps_of, slots_of, seen_whole}
-use Rattle.sci_core.specs.Whole.{WholeLine, state_of}
+use Rattle.sci_core.specs.Whole.{WholeLine, nodes_of, state_of}
 
 pub length-tabled : {A : Type 0} (f : ℕ → A) (i n : ℕ) → length (tabled f i n) ≡ n
 length-tabled f i zero = refl
@@ -102,3 +102,7 @@ step_at_node {K} keep number memory tags stages bytes lines es el w view j =
 
 pub step_of : (s : Stage) (l : Line) (p : Pending) → s ≡ stage_of p → l ≡ line_of p → pending_of s l ≡ p
 step_of s l p e f = ap (λ (t : Stage). pending_of t l) e ∙ ap (pending_of (stage_of p)) f ∙ whole_step p
+
+-- a node of the line that callers see is one of the line as it lies
+pub node_inside : {K : Type 0} {w v : WholeLine K} {i : ℕ} → w ≡ v → i < nodes_of v → i < nodes_of w
+node_inside {K} {w} {v} {i} e h = subst (λ (u : WholeLine K). i < nodes_of u) (sym e) h

@@ -46,14 +46,14 @@ module _ {K : Type 0} (fits : List ℕ → Type 0) (keep : K) (number : ℕ) (me
         let e : 0 + j ≡ j = omega arith in
         ap (λ (n : ℕ). line_in (slot_of (get_or tags n invalid) (get_or stages n Stage.Idle) (get_or lines n blank))) e ∙ rest_line j
 
-    rest_lines : lines ≡ map line_in (slots_of tags stages lines)
+    pub rest_lines : lines ≡ map line_in (slots_of tags stages lines)
     rest_lines =
         sym (ap (λ (n : ℕ). map line_in (tabled (λ i. slot_of (get_or tags i invalid) (get_or stages i Stage.Idle) (get_or lines i blank)) 0 n)) (sym laid.of_lines)
         ∙ tabled_back (λ i. slot_of (get_or tags i invalid) (get_or stages i Stage.Idle) (get_or lines i blank)) line_in 0 lines blank (λ j h. rest_line_from j))
 
-    pub rests : (ts : List Tag) (ls : List Line) → ts ≡ tags → ls ≡ lines → Rests (seen_whole keep number memory tags stages bytes lines) record { mem = memory; memory = bytes; tags = ts; lines = ls }
+    pub rests : (ts : List Tag) (ls : List Line) → ts ≡ tags → ls ≡ map line_in (slots_of tags stages lines) → Rests (seen_whole keep number memory tags stages bytes lines) record { mem = memory; memory = bytes; tags = ts; lines = ls }
     rests ts ls t l = record {
-      closed = closed_as fits w laid.sound bytes ts ls rest_memory t (l ∙ rest_lines);
-      exact = exact_as fits w laid.sound bytes ts ls rest_memory t (l ∙ rest_lines) idle;
-      read = read_off_as fits w laid.sound bytes ts ls rest_memory t (l ∙ rest_lines) idle;
+      closed = closed_as fits w laid.sound bytes ts ls rest_memory t l;
+      exact = exact_as fits w laid.sound bytes ts ls rest_memory t l idle;
+      read = read_off_as fits w laid.sound bytes ts ls rest_memory t l idle;
     }

@@ -1,7 +1,8 @@
 //! A line once nobody uses it any more.
-ghost use Rattle.std.specs.Prelude.{◌≡◌, ℕ, ◌<◌, ◌≤◌, [], IfOk, length, vec_capacity};
+ghost use Rattle.std.specs.Prelude.{◌≡◌, ℕ, ◌<◌, ◌≤◌, [], IfOk, length, map, vec_capacity};
 ghost use Rattle.sci_core.specs.declared.pending.Pending.TheVariants.{Idle};
 ghost use Rattle.sci_core.specs.Closed.{IsExactClosed, IsReadOff};
+ghost use Rattle.sci_core.specs.Step.{line_in};
 ghost use Rattle.sci_core.specs.Whole.{nodes_of, state_of};
 
 use crate::keeps::Keeps;
@@ -44,6 +45,22 @@ fn copied_into<T: Copy>(mut room: Vec<T>, items: &[T]) -> Vec<T>
 }
 
 impl<K: Keeps> Whole<K> {
+    // The line at rest, with copies of its tags and of the lines in its slots.
+    fn read_off(&self, tags: Vec<Tag>, lines: Vec<Line>) -> Closed
+        requires idle { (i : ℕ) → i < nodes_of self.now → (state_of self.now).steps i ≡ Idle }
+        requires tags { tags.items ≡ self.now.tags }
+        requires lines { lines.items ≡ map line_in self.now.slots }
+        ensures read { IsReadOff self.now result }
+        ensures exact { IsExactClosed result }
+    {
+        Closed {
+            mem: self.memory,
+            memory: self.memory_bytes,
+            tags,
+            lines,
+        }
+    }
+
     /// The line as it stands while nobody is doing anything on it: an exact sharing list. Err: memory ran
     /// out.
     pub fn closed(&self, alloc: Global) -> Result<Closed, AllocError>
@@ -51,12 +68,9 @@ impl<K: Keeps> Whole<K> {
         ensures read { IfOk result (IsReadOff self.now) }
         ensures exact { IfOk result IsExactClosed }
     {
-        Ok(Closed {
-            mem: self.memory,
-            memory: self.memory_bytes,
-            tags: Vec::from_slice(alloc, &self.tags)?,
-            lines: Vec::from_slice(alloc, &self.lines)?,
-        })
+        let tags = Vec::from_slice(alloc, &self.tags)?;
+        let lines = Vec::from_slice(alloc, &self.lines)?;
+        Ok(self.read_off(tags, lines))
     }
 
     /// The same, in room for all nodes' tags and lines that was taken before.
@@ -68,13 +82,8 @@ impl<K: Keeps> Whole<K> {
         ensures read { IsReadOff self.now result }
         ensures exact { IsExactClosed result }
     {
-        let mem = self.memory;
-        let memory = self.memory_bytes;
-        Closed {
-            mem,
-            memory,
-            tags: copied_into(tags, &self.tags),
-            lines: copied_into(lines, &self.lines),
-        }
+        let tags = copied_into(tags, &self.tags);
+        let lines = copied_into(lines, &self.lines);
+        self.read_off(tags, lines)
     }
 }

@@ -76,3 +76,15 @@ pub enum Event {
     /// Planned: a store that finds HOME goes straight to GONE. Never in turn yet.
     HomeWrite,
 }
+
+impl Event {
+    ghost use Rattle.std.specs.Prelude.{◌≡◌};
+    ghost use Rattle.sci_core.specs.Step.{is_look};
+
+    #[inline(always)]
+    pub(crate) fn is_look(&self) -> bool
+        ensures { result ≡ is_look self.now }
+    {
+        matches!(self, Event::Look)
+    }
+}

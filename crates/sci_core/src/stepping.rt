@@ -2,12 +2,15 @@
 ghost use Rattle.std.specs.Prelude.{All, ◌≡◌, ◌≢◌, ◌<◌, ◌≤◌, ◌↔◌, true, cond, Some, None, IsTrue, MatchOption, length, slice_index_or};
 ghost use Rattle.sci_words.specs.Codes.{tag_code, mem_code};
 ghost use Rattle.sci_core.specs.Answers.{Answers, Exchanges, FitsEvent, Makes, found_code, is_allowed, row_at};
-ghost use Rattle.sci_core.specs.Ranges.{ChangesBelow};
+ghost use Rattle.sci_core.specs.declared.events.Event.{Event};
+ghost use Rattle.sci_core.specs.declared.outlines.Motion.TheVariants.{Takes, Gives};
+ghost use Rattle.sci_core.specs.declared.stages.Stage.{Stage};
+ghost use Rattle.sci_core.specs.Ranges.{ChangesBelow, PlaceBelow};
 ghost use Rattle.sci_core.specs.Laid.{given_lines, lines_after, bytes_after, MovesBelow, CanCountIn};
 ghost use Rattle.sci_core.specs.Stage.{outline_of};
 ghost use Rattle.sci_core.specs.State.{blank};
 ghost use Rattle.sci_core.specs.Run.{done_in, IsLawfulLine, KeepsLawful, RunsTo};
-ghost use Rattle.sci_core.specs.Step.{Finds, is_look, looked, memory_after};
+ghost use Rattle.sci_core.specs.Step.{Finds, looked, memory_after};
 ghost use Rattle.sci_core.specs.Table.{has_row};
 ghost use Rattle.sci_core.specs.Whole.{nodes_of, state_of, tag_list_after, IsSameLine};
 
@@ -27,13 +30,6 @@ fn place_of(node: NodeId) -> usize
     ensures { result ≡ node }
 {
     usize::from(node.get())
-}
-
-#[inline(always)]
-fn is_look(event: &Event) -> bool
-    ensures { result ≡ is_look event.now }
-{
-    matches!(event, Event::Look)
 }
 
 // How many done events an outcome is.
@@ -84,8 +80,40 @@ fn give(lines: &mut [Line], me: NodeId, event: &Event)
     }
 }
 
-// Moves bytes where an exchange moves them: from the slot that is taken to the node's own, and from there to the slot that
-// is given back.
+// Copies the bytes of the slot that is taken into the node's own; memory's only where a fetch takes them.
+#[inline(always)]
+fn take_bytes(bytes: &Line, lines: &mut [Line], me: NodeId, place: &Place, after: &Stage)
+    requires own { me < length lines.old }
+    requires place { PlaceBelow (length lines.old) place.now }
+    ensures { (e : Event) → lines.new ≡ lines_after bytes.now lines.old me e (Takes place.now) after.now }
+{
+    match place {
+        Place::Memory => {
+            if matches!(after, Stage::Fetching { .. }) {
+                lines[place_of(me)] = *bytes;
+            }
+        }
+        Place::Node(node) => lines[place_of(me)] = lines[place_of(*node)],
+    }
+}
+
+// Copies the node's own bytes into the slot that is given back.
+#[inline(always)]
+fn give_bytes(bytes: &mut Line, lines: &mut [Line], me: NodeId, event: &Event, place: &Place)
+    requires own { me < length lines.old }
+    requires place { PlaceBelow (length lines.old) place.now }
+    requires stamp { CanCountIn (slice_index_or lines.old me blank) event.now }
+    ensures memory { bytes.new ≡ bytes_after bytes.old lines.old me event.now (Gives place.now) }
+    ensures lines { (s : Stage) → lines.new ≡ lines_after bytes.old lines.old me event.now (Gives place.now) s }
+{
+    give(lines, me, event);
+    match place {
+        Place::Memory => *bytes = lines[place_of(me)],
+        Place::Node(node) => lines[place_of(*node)] = lines[place_of(me)],
+    }
+}
+
+// Moves bytes where an exchange moves them.
 #[inline(always)]
 fn move_bytes(bytes: &mut Line, lines: &mut [Line], me: NodeId, event: &Event, outline: &Outline)
     requires own { me < length lines.old }
@@ -94,22 +122,10 @@ fn move_bytes(bytes: &mut Line, lines: &mut [Line], me: NodeId, event: &Event, o
     ensures memory { bytes.new ≡ bytes_after bytes.old lines.old me event.now outline.now.motion }
     ensures lines { lines.new ≡ lines_after bytes.old lines.old me event.now outline.now.motion outline.now.after }
 {
-    match outline.motion {
+    match &outline.motion {
         Motion::Stays => {}
-        Motion::Takes(Place::Memory) => {
-            if matches!(outline.after, Stage::Fetching { .. }) {
-                lines[place_of(me)] = *bytes;
-            }
-        }
-        Motion::Takes(Place::Node(node)) => lines[place_of(me)] = lines[place_of(node)],
-        Motion::Gives(Place::Memory) => {
-            give(lines, me, event);
-            *bytes = lines[place_of(me)];
-        }
-        Motion::Gives(Place::Node(node)) => {
-            give(lines, me, event);
-            lines[place_of(node)] = lines[place_of(me)];
-        }
+        Motion::Takes(place) => take_bytes(bytes, lines, me, place, &outline.after),
+        Motion::Gives(place) => give_bytes(bytes, lines, me, event, place),
     }
 }
 
@@ -257,7 +273,7 @@ impl<K: Keeps> Whole<K> {
         if !self.allows(node, &event) {
             return Err(NotInTurn);
         }
-        if is_look(&event) {
+        if event.is_look() {
             self.look(node);
             Ok(Outcome::Done(None))
         } else {

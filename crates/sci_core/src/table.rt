@@ -1,5 +1,5 @@
 //! The table of exchanges: which event a pending step allows, and what its exchange does.
-ghost use Rattle.std.specs.Prelude.{◌≡◌, ◌||◌};
+ghost use Rattle.std.specs.Prelude.{◌≡◌, ◌||◌, cond, Some, None};
 ghost use Rattle.sci_core.specs.declared.lines.Line as a_line;
 ghost use Rattle.sci_core.specs.Row.{exchange_with};
 ghost use Rattle.sci_core.specs.Shape.{line_of};
@@ -25,15 +25,20 @@ use crate::rows::Exchange;
 use crate::stages::Stage;
 use sci_words::{NodeId, Tag};
 
+// The copy that a step in the queue keeps.
+#[inline(always)]
+fn copy_kept(has_copy: bool, line: &Line) -> Option<Line>
+    ensures { result ≡ cond has_copy (Some line.now) None }
+{
+    if has_copy { Some(*line) } else { None }
+}
+
 impl Stage {
-    // Whether the node `me` may make this event in this step, which keeps this line where it keeps one.
+    // Whether the table has a row for this event of the node `me` in this step, which keeps this line where it keeps one.
     #[inline(always)]
-    pub(crate) fn allows(&self, me: NodeId, nodes: u16, event: &Event, line: &Line) -> bool
-        ensures { result ≡ (is_look event.now || has_row nodes me (pending_of self.now line.now) event.now) }
+    fn has_row(&self, me: NodeId, nodes: u16, event: &Event, line: &Line) -> bool
+        ensures { result ≡ has_row nodes me (pending_of self.now line.now) event.now }
     {
-        if matches!(event, Event::Look) {
-            return true;
-        }
         match self {
             Stage::Idle => idle::idle_allows(nodes, event),
             Stage::Holding { .. } => idle::holding_allows(event),
@@ -57,6 +62,14 @@ impl Stage {
             Stage::Rolling { told, seen } => rolling::rolling_allows(me, *told, seen, event),
             Stage::Unlinked { .. } => rolling::unlinked_allows(event),
         }
+    }
+
+    // Whether the node `me` may make this event in this step: a look always.
+    #[inline(always)]
+    pub(crate) fn allows(&self, me: NodeId, nodes: u16, event: &Event, line: &Line) -> bool
+        ensures { result ≡ (is_look event.now || has_row nodes me (pending_of self.now line.now) event.now) }
+    {
+        event.is_look() || self.has_row(me, nodes, event, line)
     }
 
     /// The exchange that an allowed event asks for, but for lines.
@@ -123,7 +136,7 @@ impl Stage {
                 dirty,
                 has_copy,
             } => {
-                let copy = if has_copy { Some(line) } else { None };
+                let copy = copy_kept(has_copy, &line);
                 Pending::InQueue { forw, dirty, copy }
             }
             Stage::Copying { forw, word } => Pending::Copying { forw, word, line },

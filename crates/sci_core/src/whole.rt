@@ -1,5 +1,5 @@
 //! One line's whole state as a value.
-ghost use Rattle.std.specs.Prelude.{◌≡◌, ◌<◌, ◌≤◌, ◌⊎◌, ◌↔◌, IfOk, IsTrue};
+ghost use Rattle.std.specs.Prelude.{◌≡◌, ◌<◌, ◌≤◌, ◌⊎◌, ◌↔◌, true, false, IfOk, IsTrue};
 ghost use Rattle.sci_words.specs.Tag.{tag_well_formed, tag_links_below};
 ghost use Rattle.sci_words.specs.Mem.{mem_well_formed, mem_links_below};
 ghost use Rattle.sci_core.specs.Run.{HasValue, IsLawfulLine};
@@ -40,6 +40,14 @@ impl<K: Keeps> Model for Whole<K> {
     ghost invariant = { λ w. IsLaid (K.fits w.keep w.number) w.keep w.number w.memory w.tags.items w.stages.items w.memory_bytes w.lines.items };
 }
 
+// A line has 1 to 64 nodes.
+fn is_node_count(nodes: u16) -> bool
+    ensures good { result ≡ true → (0 < nodes) × (nodes ≤ 64) }
+    ensures bad { result ≡ false → (nodes ≡ 0) ⊎ (64 < nodes) }
+{
+    nodes != 0 && nodes <= 64
+}
+
 impl<K: Keeps> Whole<K> {
     /// A line that nobody has used: HOME, all tags Invalid, and `line` in every slot. The refusals: 6 for 0 or more than
     /// 64 nodes, then 7 where memory ran out. The line is lawful, and its value is `line`.
@@ -55,7 +63,7 @@ impl<K: Keeps> Whole<K> {
         ensures opened { IfOk result (λ w. w ≡ opened_whole keep number nodes line) }
         ensures value { IfOk result (λ w. HasValue nodes (K.fits keep number) (state_of w) line) }
     {
-        if nodes == 0 || nodes > 64 {
+        if !is_node_count(nodes) {
             return Err(OpenRefusal::BadNodes);
         }
         let invalid = Tag {
@@ -64,9 +72,10 @@ impl<K: Keeps> Whole<K> {
             forw: None,
             back: None,
         };
-        let tags = vec![in alloc; invalid; usize::from(nodes)]?;
-        let stages = vec![in alloc; Stage::Idle; usize::from(nodes)]?;
-        let lines = vec![in alloc; line; usize::from(nodes)]?;
+        let count = usize::from(nodes);
+        let tags = vec![in alloc; invalid; count]?;
+        let stages = vec![in alloc; Stage::Idle; count]?;
+        let lines = vec![in alloc; line; count]?;
         Ok(Whole {
             keep,
             number,

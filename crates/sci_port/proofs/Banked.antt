@@ -1,21 +1,26 @@
 -- What a line among lines that are lent gives.
-use Rattle.std.proofs.Common.{◌≡◌, ◌≢◌, ◌⊎◌, inl, inr, ℕ, ◌<◌, ◌≤◌, true, List, length, get_or, set, take, drop, ◌++◌, refl, sym, ap, subst, ◌∙◌}
+use Rattle.std.proofs.Common.{◌≡◌, ◌≢◌, ◌⊎◌, inl, inr, ℕ, ◌<◌, ◌≤◌, true, Some, Ok, List, length, get_or, set, take, drop, ◌++◌, refl, sym, ap, subst, ◌∙◌}
 use Rattle.std.proofs.lemmas.Bool.{cases_eq}
 use Rattle.std.proofs.Math.Seq.{take-append_seam}
 use Rattle.std.proofs.lemmas.List.{get_or-set_same, get_or-set_other, get_or_default, length-set}
 use Rattle.std.specs.Borrow.{GName}
 use Rattle.sci_words.specs.Tag.{tag_well_formed, tag_links_below}
+use Rattle.sci_words.specs.Mem.{mem_well_formed, mem_links_below}
+use Rattle.sci_words.specs.declared.memory.Mem.{Mem}
 use Rattle.sci_words.specs.declared.tags.Tag.{Tag}
+use Rattle.sci_core.specs.declared.events.Event.{Event}
+use Rattle.sci_core.specs.declared.outcomes.Outcome.{Outcome}
 use Rattle.sci_core.specs.declared.pending.Pending.{Pending}
 use Rattle.sci_core.specs.Run.{IsLawfulLine}
 use Rattle.sci_core.specs.State.{blank}
 use Rattle.sci_core.specs.Whole.{WholeLine, nodes_of, state_of, opened_whole}
-use Rattle.sci_port.specs.Banks.{LentLines, AreLinesOf, IsLineOf, GivesAt, Stays, lent_lines, whole_at, nodes_at, state_at, step_at}
+use Rattle.sci_port.specs.Banks.{BankWay, LentLines, AreLinesOf, IsLineOf, GivesAt, Stays, lent_lines, whole_at, nodes_at, state_at, step_at}
 use Rattle.sci_port.specs.declared.calls.Call.{Call}
+use Rattle.sci_port.specs.declared.calls.Call.TheVariants.{MemWas, Own, Stepped, TagWas}
 use Rattle.sci_port.specs.Owes.{IsSoundStep, Owes}
 use Rattle.sci_port.specs.Solo.{Gives}
 use Rattle.sci_port.specs.Way.{Way, way_to}
-use Rattle.sci_port.proofs.Lent.{is_sound}
+use Rattle.sci_port.proofs.Lent.{is_sound, look_owed}
 
 -- a list's slice with one element set, written back into the list
 pub written_back : {X : Type 0} (items slice : List X) (count i : ℕ) (x : X) → slice ≡ items → length slice ≡ count → take count (set slice i x ++ drop (length (set slice i x)) items) ≡ set items i x
@@ -53,6 +58,26 @@ module _ {K : Type 0} (fits : K → ℕ → List ℕ → Type 0) (s : LentLines 
       let at_x : IsSoundStep (nodes_of x) (fits x.keep x.number) p = is_sound (nodes_of x) (fits x.keep x.number) (state_of x) s.node p t ep et form links lawful in
       let at_w : IsSoundStep (nodes_at s line) (fits (whole_at s line).keep (whole_at s line).number) p = subst (λ (y : WholeLine K). IsSoundStep (nodes_of y) (fits y.keep y.number) p) (read_at i x il r) at_x in
       subst (λ (k : K). IsSoundStep (nodes_at s line) (fits k line) p) is.fact (subst (λ (n : ℕ). IsSoundStep (nodes_at s line) (fits (whole_at s line).keep n) p) is.number at_w)
+
+  -- a load leaves all lines as they are
+  load_kept : (call : Call) → Gives (nodes_at s line) (fits s.keep line) (state_at s line) s.node call (state_at s line) → Owes (nodes_at s line) (fits s.keep line) s.node (step_at s line) call (step_at s line) → GivesAt fits s line call s
+  load_kept call given owed = record {
+    stays = record { way = refl; fact = refl; nodes = λ m. refl; wholes = λ m other. refl; steps = λ m other. refl };
+    gives = given;
+    owes = owed;
+  }
+
+  pub mem_given : (i : ℕ) (x : WholeLine K) (m : Mem) → i ≡ line → x ≡ get_or s.wholes i x → m ≡ (state_of x).memory → mem_well_formed m ≡ true → mem_links_below (nodes_of x) m ≡ true → GivesAt fits s line (MemWas (Some m)) s
+  mem_given i x m il r value form links =
+      let here : x ≡ whole_at s line = read_at i x il r in
+      load_kept (MemWas (Some m)) (ap Some (subst (λ (w : WholeLine K). m ≡ (state_of w).memory) here value), refl)
+      (refl, (form, subst (λ (w : WholeLine K). mem_links_below (nodes_of w) m ≡ true) here links))
+
+  pub tag_given : (i : ℕ) (x : WholeLine K) (node : ℕ) (t : Tag) → i ≡ line → x ≡ get_or s.wholes i x → t ≡ (state_of x).tags node → tag_well_formed t ≡ true → tag_links_below (nodes_of x) t ≡ true → GivesAt fits s line (TagWas node (Some t)) s
+  tag_given i x node t il r value form links =
+      let here : x ≡ whole_at s line = read_at i x il r in
+      load_kept (TagWas node (Some t)) (ap Some (subst (λ (w : WholeLine K). t ≡ (state_of w).tags node) here value), refl)
+      (refl, (form, subst (λ (w : WholeLine K). tag_links_below (nodes_of w) t ≡ true) here links))
 
   -- what the port to one line of the node gives there
   abbrev pub LentGives : Call → WholeLine K → ℕ → WholeLine K → ℕ → GName → GName → Type 0
@@ -138,3 +163,19 @@ module _ {K : Type 0} {fits : K → ℕ → List ℕ → Type 0} {s t : LentLine
   -- where the step on the line stays, so do all
   pub same_steps : (m : ℕ) → step_at t m ≡ step_at s m
   same_steps m = each_step m (cases_eq m line)
+
+-- a step that was a look, and the own tag behind it
+pub look_given : {K : Type 0} (fits : K → ℕ → List ℕ → Type 0) (s t : LentLines K) (line : ℕ) (inside : line < length t.wholes) (are : AreLinesOf t.keep t.node t.wholes) (o : Outcome) (i : ℕ) (y : WholeLine K) (x : Tag)
+    → GivesAt fits s line (Stepped Event.Look o) t → i ≡ line → y ≡ get_or t.wholes i y → x ≡ (state_of y).tags t.node → tag_well_formed x ≡ true → tag_links_below (nodes_of y) x ≡ true
+    → GivesAt fits s line (Own (Some x)) t
+look_given {K} fits s t line inside are o i y x h il r value form links =
+    let here : y ≡ whole_at t line = read_at fits t line inside are i y il r in
+    let node : t.node ≡ s.node = ap (λ (w : BankWay). w.node) h.stays.way in
+    let is_tag : x ≡ (state_at t line).tags s.node = subst (λ (m : ℕ). x ≡ (state_at t line).tags m) node (subst (λ (w : WholeLine K). x ≡ (state_of w).tags t.node) here value) in
+    let below : tag_links_below (nodes_at s line) x ≡ true = subst (λ (n : ℕ). tag_links_below n x ≡ true) (h.stays.nodes line) (subst (λ (w : WholeLine K). tag_links_below (nodes_of w) x ≡ true) here links) in
+    let owed = look_owed (nodes_at s line) (fits s.keep line) (state_at s line) s.node (Ok o) (state_at t line) x h.gives.0 h.gives.1 is_tag form below in
+    record {
+      stays = h.stays;
+      gives = owed.0;
+      owes = subst (λ (m : ℕ). Owes (nodes_at s line) (fits s.keep line) s.node (step_at s line) (Own (Some x)) ((state_at t line).steps m)) (sym node) owed.1;
+    }

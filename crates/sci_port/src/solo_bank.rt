@@ -110,21 +110,22 @@ impl<K: Keeps> Bank for SoloBank<K> {
 
     #[inline(always)]
     fn own(&mut self, line: LineNo) -> Option<Tag> {
-        let me = self.node;
-        let wholes = self.wholes.as_mut_slice();
-        Solo::new(&mut wholes[usize::from(line)], me).own()
+        let _ = self.step(line, Event::Look);
+        let wholes = &self.wholes;
+        let whole = &wholes[usize::from(line)];
+        Some(whole.tag(self.node))
     }
 
     fn mem(&mut self, line: LineNo) -> Option<Mem> {
-        let me = self.node;
-        let wholes = self.wholes.as_mut_slice();
-        Solo::new(&mut wholes[usize::from(line)], me).mem()
+        let wholes = &self.wholes;
+        let whole = &wholes[usize::from(line)];
+        Some(whole.mem())
     }
 
     fn tag(&mut self, line: LineNo, node: NodeId) -> Option<Tag> {
-        let me = self.node;
-        let wholes = self.wholes.as_mut_slice();
-        Solo::new(&mut wholes[usize::from(line)], me).tag(node)
+        let wholes = &self.wholes;
+        let whole = &wholes[usize::from(line)];
+        Some(whole.tag(node))
     }
 
     #[inline(always)]

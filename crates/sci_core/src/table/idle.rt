@@ -1,6 +1,7 @@
 //! The rows of a node that is Idle or Holding.
 ghost use Rattle.std.specs.Prelude.{◌≡◌};
 ghost use Rattle.sci_core.specs.declared.lines.Line as a_line;
+ghost use Rattle.sci_core.specs.declared.events.Event.TheVariants.{Convert, Roll, Leave};
 ghost use Rattle.sci_core.specs.Stage.{outline_of};
 ghost use Rattle.sci_core.specs.Table.Idle.{idle_allows, idle_row, holding_allows, holding_row};
 
@@ -31,6 +32,43 @@ pub fn idle_allows(nodes: u16, event: &Event) -> bool
 }
 
 #[inline(always)]
+fn convert_outline(me: NodeId, own: &Tag) -> Outline
+    ensures { result ≡ outline_of (idle_row me (Convert own.now)) }
+{
+    let after = Stage::Converting {
+        forw: own.forw,
+        turned: false,
+    };
+    stays(tag(me, *own, word(Kind::Convert, own.forw, None)), after)
+}
+
+#[inline(always)]
+fn roll_outline(me: NodeId, own: &Tag) -> Outline
+    ensures { result ≡ outline_of (idle_row me (Roll own.now)) }
+{
+    let after = Stage::Rolling {
+        told: false,
+        seen: None,
+    };
+    stays(tag(me, *own, word(Kind::Roll, own.forw, own.back)), after)
+}
+
+#[inline(always)]
+fn leave_outline(me: NodeId, own: &Tag) -> Outline
+    ensures { result ≡ outline_of (idle_row me (Leave own.now)) }
+{
+    let after = Stage::Leaving {
+        dirty: found::is_dirty(own),
+        seen: None,
+    };
+    takes(
+        tag(me, *own, leaving_word(own.forw)),
+        Place::Node(me),
+        after,
+    )
+}
+
+#[inline(always)]
 pub fn idle_outline(me: NodeId, event: &Event) -> Outline
     ensures { result ≡ outline_of (idle_row me event.now) }
 {
@@ -44,31 +82,13 @@ pub fn idle_outline(me: NodeId, event: &Event) -> Outline
             let after = Stage::Holding { word: *own };
             takes(tag(me, *own, held_word(own)), mine, after)
         }
-        Event::Convert(own) => {
-            let after = Stage::Converting {
-                forw: own.forw,
-                turned: false,
-            };
-            stays(tag(me, *own, word(Kind::Convert, own.forw, None)), after)
-        }
+        Event::Convert(own) => convert_outline(me, own),
         Event::BeginPurge(own) => {
             let change = tag(me, *own, purging_word(own.forw));
             answering(takes(change, mine, purges()))
         }
-        Event::Roll(own) => {
-            let after = Stage::Rolling {
-                told: false,
-                seen: None,
-            };
-            stays(tag(me, *own, word(Kind::Roll, own.forw, own.back)), after)
-        }
-        Event::Leave(own) => {
-            let after = Stage::Leaving {
-                dirty: found::is_dirty(own),
-                seen: None,
-            };
-            takes(tag(me, *own, leaving_word(own.forw)), mine, after)
-        }
+        Event::Roll(own) => roll_outline(me, own),
+        Event::Leave(own) => leave_outline(me, own),
         _ => no_outline(),
     }
 }

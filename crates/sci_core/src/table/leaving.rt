@@ -1,6 +1,7 @@
 //! The rows of a head on its way out.
-ghost use Rattle.std.specs.Prelude.{◌≡◌};
+ghost use Rattle.std.specs.Prelude.{◌≡◌, ◌&&◌};
 ghost use Rattle.sci_core.specs.declared.lines.Line as a_line;
+ghost use Rattle.sci_core.specs.Found.{is_found, is_settled_body, names};
 ghost use Rattle.sci_core.specs.Stage.{outline_of};
 ghost use Rattle.sci_core.specs.Table.Leaving.{leaving_allows, leaving_row, promoted_allows, promoted_row, writing_back_allows, writing_back_row, parted_allows, parted_row};
 
@@ -13,16 +14,22 @@ use crate::table::shorthand::{
     gives, home, invalid, leaving_word, lent_word, listed, memory, no_outline, queued_word,
     settled_word, stays, tag, takes,
 };
-use sci_words::NodeId;
+use sci_words::{NodeId, Tag};
+
+// The tag was found Valid, right behind this node.
+#[inline(always)]
+fn stands_behind(me: NodeId, found: &Tag) -> bool
+    ensures { result ≡ (is_found is_settled_body found.now && names me found.now.back) }
+{
+    found::settled_body(found) && found::names(me, &found.back)
+}
 
 #[inline(always)]
 pub fn leaving_allows(me: NodeId, dirty: bool, seen: &Option<Option<NodeId>>, event: &Event) -> bool
     ensures { result ≡ leaving_allows me dirty event.now seen.now }
 {
     match (event, seen) {
-        (Event::Promote(found), Some(Some(_))) => {
-            found::settled_body(found) && found::names(me, &found.back)
-        }
+        (Event::Promote(found), Some(Some(_))) => stands_behind(me, found),
         (Event::Stay, Some(_)) => true,
         (Event::ReturnHomeFresh, Some(None)) => !dirty,
         (Event::ReturnHomeDirty, Some(None)) => dirty,

@@ -1,4 +1,8 @@
 //! Two nodes on one line: what stands is shown, in a slot or in a hand, and at rest it is closed.
+ghost use Rattle.std.specs.Prelude.{◌≡◌, true};
+ghost use Rattle.sci_core.specs.declared.pending.Pending.TheVariants.{Idle};
+ghost use Rattle.sci_core.specs.Whole.{state_of};
+
 use super::{ALONE, node, opened, same, same_at};
 use sci_core::{AnyWords, Closed, Event, Line, NotInTurn, Outcome, Pending, Whole};
 use sci_words::{Kind, Mem, MemState, NodeId, Tag};
@@ -142,13 +146,19 @@ fn all_show(
     }
 }
 
+// Whether there is this node, and it is in no step.
+fn is_idle(whole: &Whole<AnyWords>, number: u16) -> bool
+    ensures { result ≡ true → (state_of whole.now).steps number ≡ Idle }
+{
+    match NodeId::new(number) {
+        Some(node) => { node.get() < whole.nodes() && matches!(whole.pending(node), Pending::Idle) }
+        None => false,
+    }
+}
+
 // A line of two nodes, closed. None: a node is in a step, or memory ran out.
 fn closed(alloc: Global, whole: &Whole<AnyWords>) -> Option<Closed> {
-    let (zero, one) = (NodeId::new(0)?, NodeId::new(1)?);
-    if whole.nodes() == 2
-        && whole.pending(zero) == Pending::Idle
-        && whole.pending(one) == Pending::Idle
-    {
+    if whole.nodes() == 2 && is_idle(whole, 0) && is_idle(whole, 1) {
         whole.closed(alloc).ok()
     } else {
         None

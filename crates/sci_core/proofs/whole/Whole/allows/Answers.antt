@@ -1,4 +1,4 @@
-use Rattle.std.proofs.Common.{rules, ◌∙◌, ◌<◌, ℕ, length, get_or, ap, arith}
+use Rattle.std.proofs.Common.{◌∙◌, ◌<◌, ℕ, length, get_or, ap, arith}
 use Rattle.sci_core.specs.declared.lines.Line.{Line}
 use Rattle.sci_core.specs.declared.pending.Pending.{Pending}
 use Rattle.sci_core.specs.declared.stages.Stage.{Stage}
@@ -7,12 +7,12 @@ use Rattle.sci_core.specs.Answers.{is_allowed}
 use Rattle.sci_core.specs.Stage.{pending_of}
 use Rattle.sci_core.specs.Whole.{state_of}
 use Rattle.sci_core.proofs.States.{read_node}
-use Rattle.sci_core.proofs.Laying.{step_at_node}
+use Rattle.sci_core.proofs.Laying.{node_inside, step_at_node}
 use Rattle.sci_core.proofs.whole.Whole.allows.Goals as goal
 
 pub returns-clause-allowed : goal.returns-clause-allowed
 returns-clause-allowed g c =
-    let inside : c.args.node < length c.self.inside.tags.items = search rules in
+    let inside : c.args.node < length c.self.inside.tags.items = node_inside c.self.view_is c.requires in
     let below : c.args.node < length c.self.inside.stages.items = omega (arith, c.self.invariant.of_stages) in
     let below_lines : c.args.node < length c.self.inside.lines.items = omega (arith, c.self.invariant.of_lines) in
     let stage = read_node c.self.inside.stages.items c.place_of-place.result c.args.node c.index.result.now Stage.Idle c.place_of-place.ensures below c.index.ensures in

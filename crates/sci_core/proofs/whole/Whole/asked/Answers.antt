@@ -1,4 +1,4 @@
-use Rattle.std.proofs.Common.{rules, ◌∙◌, ◌<◌, length, get_or, ap, sym, subst, arith}
+use Rattle.std.proofs.Common.{◌∙◌, ◌<◌, length, get_or, ap, sym, subst, arith}
 use Rattle.sci_core.specs.declared.pending.Pending.{Pending}
 use Rattle.sci_core.specs.declared.stages.Stage.{Stage}
 use Rattle.sci_core.specs.declared.outlines.Outline.{Outline}
@@ -11,13 +11,13 @@ use Rattle.sci_core.specs.Whole.{WholeLine, IsSound, nodes_of}
 use Rattle.sci_core.proofs.States.{read_node}
 use Rattle.sci_core.proofs.Lawfully.{lawful_line}
 use Rattle.sci_core.proofs.Sound.{asked_below}
-use Rattle.sci_core.proofs.Laying.{step_at_node}
+use Rattle.sci_core.proofs.Laying.{node_inside, step_at_node}
 use Rattle.sci_core.proofs.Filling.{motion_below}
 use Rattle.sci_core.proofs.whole.Whole.asked.Goals as goal
 
 pub returns-clause-outline : goal.returns-clause-outline
 returns-clause-outline g c =
-    let inside : c.args.node < length c.self.inside.tags.items = search rules in
+    let inside : c.args.node < length c.self.inside.tags.items = node_inside c.self.view_is c.requires in
     let below : c.args.node < length c.self.inside.stages.items = omega (arith, c.self.invariant.of_stages) in
     let stage = read_node c.self.inside.stages.items c.place_of.result c.args.node c.index.result.now Stage.Idle c.place_of.ensures below c.index.ensures in
     let step = ap (λ (s : Stage). pending_of s (get_or c.self.inside.lines.items c.args.node blank)) stage

@@ -1,28 +1,14 @@
-use Rattle.std.proofs.Common.{rules, ◌≡◌, ℕ, ◌<◌, sym, subst}
+use Rattle.std.proofs.Common.{◌≡◌, ◌∙◌, ℕ, ◌<◌, map, sym, subst, ap}
 use Rattle.sci_core.specs.declared.pending.Pending.{Pending}
-use Rattle.sci_core.specs.Closed.{IsReadOff}
+use Rattle.sci_core.specs.Step.{line_in}
 use Rattle.sci_core.specs.Whole.{WholeLine, nodes_of, state_of}
-use Rattle.sci_core.proofs.Resting.{rests}
+use Rattle.sci_core.proofs.Resting.{rest_lines}
 use Rattle.sci_core.proofs.whole.Whole.closed.Goals as goal
 
-pub invariant_of-result : goal.invariant_of-result
-invariant_of-result g c =
-    let tags : c.in_ok-from_slice.field-0.items ≡ c.self.inside.tags.items = search rules in
-    let lines : c.in_ok-from_slice-2.field-0.items ≡ c.self.inside.lines.items = search rules in
-    let idle = subst (λ (u : WholeLine g.row.K.Denot). (i : ℕ) → i < nodes_of u → (state_of u).steps i ≡ Pending.Idle) (sym c.self.view_is) c.requires in
-    (rests (g.K.Keeps.fits c.self.inside.keep c.self.inside.number) c.self.inside.keep c.self.inside.number c.self.inside.memory c.self.inside.tags.items c.self.inside.stages.items c.self.inside.memory_bytes c.self.inside.lines.items c.self.invariant idle c.in_ok-from_slice.field-0.items c.in_ok-from_slice-2.field-0.items tags lines).closed
+pub read_off-requires-clause-tags : goal.read_off-requires-clause-tags
+read_off-requires-clause-tags g c = c.in_ok-tags.ensures.items ∙ c.deref.ensures.value ∙ ap (λ (u : WholeLine g.row.K.Denot). u.tags) c.self.view_is
 
-pub returns-clause-exact : goal.returns-clause-exact
-returns-clause-exact g c =
-    let tags : c.in_ok-from_slice.field-0.items ≡ c.self.inside.tags.items = search rules in
-    let lines : c.in_ok-from_slice-2.field-0.items ≡ c.self.inside.lines.items = search rules in
+pub read_off-requires-clause-lines : goal.read_off-requires-clause-lines
+read_off-requires-clause-lines g c =
     let idle = subst (λ (u : WholeLine g.row.K.Denot). (i : ℕ) → i < nodes_of u → (state_of u).steps i ≡ Pending.Idle) (sym c.self.view_is) c.requires in
-    (rests (g.K.Keeps.fits c.self.inside.keep c.self.inside.number) c.self.inside.keep c.self.inside.number c.self.inside.memory c.self.inside.tags.items c.self.inside.stages.items c.self.inside.memory_bytes c.self.inside.lines.items c.self.invariant idle c.in_ok-from_slice.field-0.items c.in_ok-from_slice-2.field-0.items tags lines).exact
-
-pub returns-clause-read : goal.returns-clause-read
-returns-clause-read g c =
-    let tags : c.in_ok-from_slice.field-0.items ≡ c.self.inside.tags.items = search rules in
-    let lines : c.in_ok-from_slice-2.field-0.items ≡ c.self.inside.lines.items = search rules in
-    let idle = subst (λ (u : WholeLine g.row.K.Denot). (i : ℕ) → i < nodes_of u → (state_of u).steps i ≡ Pending.Idle) (sym c.self.view_is) c.requires in
-    subst (λ (u : WholeLine g.row.K.Denot). IsReadOff u record { mem = c.self.inside.memory; memory = c.self.inside.memory_bytes; tags = c.in_ok-from_slice.field-0.items; lines = c.in_ok-from_slice-2.field-0.items }) c.self.view_is
-    (rests (g.K.Keeps.fits c.self.inside.keep c.self.inside.number) c.self.inside.keep c.self.inside.number c.self.inside.memory c.self.inside.tags.items c.self.inside.stages.items c.self.inside.memory_bytes c.self.inside.lines.items c.self.invariant idle c.in_ok-from_slice.field-0.items c.in_ok-from_slice-2.field-0.items tags lines).read
+    c.in_ok-lines.ensures.items ∙ c.deref-2.ensures.value ∙ rest_lines (g.K.Keeps.fits c.self.inside.keep c.self.inside.number) c.self.inside.keep c.self.inside.number c.self.inside.memory c.self.inside.tags.items c.self.inside.stages.items c.self.inside.memory_bytes c.self.inside.lines.items c.self.invariant idle ∙ ap (λ (u : WholeLine g.row.K.Denot). map line_in u.slots) c.self.view_is

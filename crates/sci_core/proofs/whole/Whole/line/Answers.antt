@@ -12,14 +12,14 @@ use Rattle.sci_core.specs.Stage.{pending_of}
 use Rattle.sci_core.specs.Whole.{WholeLine, state_of}
 use Rattle.sci_core.proofs.States.{read_node}
 use Rattle.sci_core.proofs.InHand.{line_is, sharer_line_is}
-use Rattle.sci_core.proofs.Laying.{state_seen}
+use Rattle.sci_core.proofs.Laying.{node_inside, state_seen}
 use Rattle.sci_core.proofs.whole.Whole.line.Goals as goal
 
 pub returns : goal.returns
 returns g c =
     let w : WholeLine g.row.K.Denot = seen_whole c.self.inside.keep c.self.inside.number c.self.inside.memory c.self.inside.tags.items c.self.inside.stages.items c.self.inside.memory_bytes c.self.inside.lines.items in
     let seen = state_seen c.self.inside.tags.items c.self.inside.stages.items c.self.inside.lines.items c.self.invariant.of_stages c.self.invariant.of_lines c.self.inside.keep c.self.inside.number c.self.inside.memory c.self.inside.memory_bytes in
-    let in_tags : c.args.node < length c.self.inside.tags.items = search rules in
+    let in_tags : c.args.node < length c.self.inside.tags.items = node_inside c.self.view_is c.requires in
     let place : c.from-place.result ≡ c.args.node = search rules in
     let in_stages : c.args.node < length c.self.inside.stages.items = omega (arith, c.self.invariant.of_stages) in
     let in_lines : c.args.node < length c.self.inside.lines.items = omega (arith, c.self.invariant.of_lines) in

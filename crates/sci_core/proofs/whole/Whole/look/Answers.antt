@@ -1,4 +1,4 @@
-use Rattle.std.proofs.Common.{rules, ◌≡◌, ◌∙◌, ◌<◌, length, get_or, ap, subst, arith}
+use Rattle.std.proofs.Common.{◌≡◌, ◌∙◌, ◌<◌, length, get_or, ap, subst, arith}
 use Rattle.sci_words.specs.declared.tags.Tag.{Tag}
 use Rattle.sci_core.specs.declared.lines.Line.{Line}
 use Rattle.sci_core.specs.declared.stages.Stage.{Stage}
@@ -8,11 +8,12 @@ use Rattle.sci_core.specs.Whole.{WholeLine, IsSound, state_of}
 use Rattle.sci_core.proofs.States.{read_node}
 use Rattle.sci_core.proofs.Lawfully.{look_keeps}
 use Rattle.sci_core.proofs.Making.{looked_as}
+use Rattle.sci_core.proofs.Laying.{node_inside}
 use Rattle.sci_core.proofs.whole.Whole.look.Goals as goal
 
 pub invariant_of-self : goal.invariant_of-self
 invariant_of-self g c =
-    let below : c.args.node < length c.self.inside.tags.items = search rules in
+    let below : c.args.node < length c.self.inside.tags.items = node_inside c.self.view_is c.requires.node in
     let in_stages : c.args.node < length c.self.inside.stages.items = omega (arith, c.self.invariant.of_stages) in
     let stage = read_node c.self.inside.stages.items c.place_of.result c.args.node c.index_mut.result.now Stage.Idle c.place_of.ensures in_stages c.index_mut.ensures.value in
     let after : (l : Line) → pending_of c.look.new.self l ≡ look_of (pending_of (get_or c.self.inside.stages.items c.args.node Stage.Idle) l) ((state_of c.args.self.now).tags c.args.node) =
@@ -21,7 +22,7 @@ invariant_of-self g c =
 
 pub returns-clause-looked : goal.returns-clause-looked
 returns-clause-looked g c =
-    let below : c.args.node < length c.self.inside.tags.items = search rules in
+    let below : c.args.node < length c.self.inside.tags.items = node_inside c.self.view_is c.requires.node in
     let in_stages : c.args.node < length c.self.inside.stages.items = omega (arith, c.self.invariant.of_stages) in
     let stage = read_node c.self.inside.stages.items c.place_of.result c.args.node c.index_mut.result.now Stage.Idle c.place_of.ensures in_stages c.index_mut.ensures.value in
     let after : (l : Line) → pending_of c.look.new.self l ≡ look_of (pending_of (get_or c.self.inside.stages.items c.args.node Stage.Idle) l) ((state_of c.args.self.now).tags c.args.node) =

@@ -6,19 +6,36 @@ use Rattle.sci_core.specs.declared.stages.Stage.{Stage}
 use Rattle.sci_core.specs.State.{State, blank}
 use Rattle.sci_core.specs.Answers.{Makes}
 use Rattle.sci_core.specs.Laid.{lines_after, bytes_after, seen_whole, step_laid, CanCountIn, MovesBelow}
+use Rattle.sci_core.specs.Ranges.{ChangesBelow}
 use Rattle.sci_core.specs.Table.{has_row}
 use Rattle.sci_core.specs.Whole.{WholeLine, IsSound, nodes_of, state_of, tag_list_after}
 use Rattle.sci_core.proofs.Filling.{counts_allowed}
-use Rattle.sci_core.proofs.Laying.{step_at_node}
+use Rattle.sci_core.proofs.Laying.{node_inside, step_at_node}
 use Rattle.sci_core.proofs.Lawfully.{done_keeps}
 use Rattle.sci_core.proofs.Making.{made_as}
 use Rattle.sci_core.proofs.Sound.{all_of, tags_long}
 use Rattle.sci_core.proofs.States.{read_node}
 use Rattle.sci_core.proofs.whole.Whole.make.Goals as goal
 
+pub write_word-requires : goal.write_word-requires
+write_word-requires g c =
+    let there : length c.deref_mut.result.now ≡ length c.self.inside.tags.items = ap (length {A = Tag}) c.deref_mut.ensures.value in
+    let count : length c.self.inside.tags.items ≡ nodes_of c.args.self.now = ap (λ (u : WholeLine g.row.K.Denot). nodes_of u) c.self.view_is in
+    subst (λ (n : ℕ). ChangesBelow n c.args.outline.now.change) (sym (there ∙ count)) c.requires.change
+
+pub index_mut-requires : goal.index_mut-requires
+index_mut-requires g c =
+    let inside : c.args.node < length c.self.inside.tags.items = node_inside c.self.view_is c.requires.node in
+    omega (arith, c.self.invariant.of_stages, c.place_of-place.ensures)
+
+pub index-requires : goal.index-requires
+index-requires g c =
+    let inside : c.args.node < length c.self.inside.tags.items = node_inside c.self.view_is c.requires.node in
+    omega (arith, c.self.invariant.of_lines, c.place_of-place.ensures)
+
 pub move_bytes-requires-clause-own : goal.move_bytes-requires-clause-own
 move_bytes-requires-clause-own g c =
-    let inside : c.args.node < length c.self.inside.tags.items = search rules in
+    let inside : c.args.node < length c.self.inside.tags.items = node_inside c.self.view_is c.requires.node in
     let there : length c.deref_mut-2.result.now ≡ length c.self.inside.lines.items = ap (length {A = Line}) c.deref_mut-2.ensures.value in
     omega (arith, c.self.invariant.of_lines)
 
@@ -82,7 +99,7 @@ returns-clause-makes g c =
     }
     c.write_word.new.memory tags c.place_of-place.result c.move_bytes.new.bytes lines
     c.write_word.ensures.memory tags_are c.place_of-place.ensures bytes_are lines_are in
-    let below : c.args.node < length c.self.inside.tags.items = search rules in
+    let below : c.args.node < length c.self.inside.tags.items = node_inside c.self.view_is c.requires.node in
     let there : c.args.node < length lines = omega (arith, made.laid.of_lines, ap (length {A = Tag}) tags_are, tags_long c.self.inside.tags.items c.args.outline.now.change) in
     let line : c.index.result.now ≡ get_or lines c.args.node blank = read_node lines c.place_of-place.result c.args.node c.index.result.now blank c.place_of-place.ensures there c.index.ensures in
     let answers : c.answer.result ≡ cond c.args.outline.now.answers (Some (get_or lines c.args.node blank)) None = c.answer.ensures ∙ ap (λ (l : Line). cond c.args.outline.now.answers (Some l) None) line in

@@ -4,12 +4,12 @@ use Rattle.sci_core.specs.declared.stages.Stage.{Stage}
 use Rattle.sci_core.specs.State.{blank}
 use Rattle.sci_core.specs.Stage.{pending_of}
 use Rattle.sci_core.proofs.States.{read_node}
-use Rattle.sci_core.proofs.Laying.{step_at_node}
+use Rattle.sci_core.proofs.Laying.{node_inside, step_at_node}
 use Rattle.sci_core.proofs.whole.Whole.pending.Goals as goal
 
 pub returns : goal.returns
 returns g c =
-    let inside : c.args.node < length c.self.inside.tags.items = search rules in
+    let inside : c.args.node < length c.self.inside.tags.items = node_inside c.self.view_is c.requires in
     let below : c.args.node < length c.self.inside.stages.items = omega (arith, c.self.invariant.of_stages) in
     let below_lines : c.args.node < length c.self.inside.lines.items = omega (arith, c.self.invariant.of_lines) in
     let place : c.from-place.result ≡ c.args.node = search rules in

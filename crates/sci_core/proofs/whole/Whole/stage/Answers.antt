@@ -4,12 +4,12 @@ use Rattle.sci_core.specs.State.{State}
 use Rattle.sci_core.specs.Stage.{stage_of}
 use Rattle.sci_core.specs.Whole.{WholeLine, state_of}
 use Rattle.sci_core.proofs.States.{read_node}
-use Rattle.sci_core.proofs.Laying.{stage_with, state_seen}
+use Rattle.sci_core.proofs.Laying.{node_inside, stage_with, state_seen}
 use Rattle.sci_core.proofs.whole.Whole.stage.Goals as goal
 
 pub returns : goal.returns
 returns g c =
-    let inside : c.args.node < length c.self.inside.tags.items = search rules in
+    let inside : c.args.node < length c.self.inside.tags.items = node_inside c.self.view_is c.requires in
     let below : c.args.node < length c.self.inside.stages.items = omega (arith, c.self.invariant.of_stages) in
     let read = read_node c.self.inside.stages.items c.from.result c.args.node c.index.result.now Stage.Idle (search rules) below c.index.ensures in
     read ∙ sym (stage_with _ _)

@@ -1,10 +1,19 @@
-use Rattle.std.proofs.Common.{◌≡◌, ◌<◌, rules, length, subst, sym, refl, true, slice_index_or}
+use Rattle.std.proofs.Common.{◌≡◌, ◌∙◌, ◌<◌, rules, length, ap, subst, sym, refl, true, slice_index_or}
 use Rattle.std.proofs.lemmas.List.{get_or_read_under}
 use Rattle.sci_words.specs.declared.tags.Tag.{Tag}
 use Rattle.sci_words.specs.Tag.{tag_well_formed, tag_links_below}
 use Rattle.sci_core.specs.State.{invalid}
+use Rattle.sci_core.specs.Whole.{WholeLine, state_of}
+use Rattle.sci_core.proofs.Laying.{node_inside}
+use Rattle.sci_core.proofs.States.{read_node}
 use Rattle.sci_core.proofs.Sound.{tag_links}
 use Rattle.sci_core.proofs.whole.Whole.tag.Goals as goal
+
+pub returns-clause-value : goal.returns-clause-value
+returns-clause-value g c =
+    let inside : c.args.node < length c.self.inside.tags.items = node_inside c.self.view_is c.requires in
+    read_node c.self.inside.tags.items c.from.result c.args.node c.index.result.now invalid (c.from.ensures ∙ c.get.ensures.value) inside c.index.ensures
+    ∙ ap (λ (w : WholeLine g.row.K.Denot). (state_of w).tags c.args.node) c.self.view_is
 
 pub returns-clause-well_formed : goal.returns-clause-well_formed
 returns-clause-well_formed g c =

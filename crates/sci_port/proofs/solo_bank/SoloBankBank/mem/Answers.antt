@@ -1,36 +1,9 @@
-use borrow.Author.Rules.{scaled_Fits}
-use Rattle.std.proofs.Common.{ap, ◌∙◌, get_or, rules}
 use Rattle.sci_port.specs.Banks.{lent_lines}
-use Rattle.sci_port.specs.declared.calls.Call.TheVariants.{MemWas}
-use Rattle.sci_port.proofs.Banked.{are_after, gives_at, node_below, same_steps, written_back}
+use Rattle.sci_port.proofs.Banked.{mem_given}
 use Rattle.sci_port.proofs.solo_bank.SoloBankBank.mem.Goals as goal
 
-pub invariant_of-self : goal.invariant_of-self
-invariant_of-self g c = record { of = are_after g.K.Keeps.fits (lent_lines c.args.self.now.keep c.args.self.now.node c.args.self.now.wholes.items) c.args.line c.requires c.args.self.now.of (MemWas c.mem.result) c.from.result c.index-wholes-from.result c.new.result.whole.now c.mem.new.self.whole.now c.new.result.node c.mem.new.self.node c.new.result.whole.ghost_name c.mem.new.self.whole.ghost_name (search rules) (c.new.ensures.same_line ∙ ap (λ l. get_or l c.from.result c.index-wholes-from.result) c.as_mut_slice-wholes.ensures.value) c.new.ensures.node c.mem.ensures.gives _ (written_back c.args.self.now.wholes.items c.as_mut_slice-wholes.result.now c.args.self.now.wholes.len c.from.result c.mem.new.self.whole.now c.as_mut_slice-wholes.ensures.value c.as_mut_slice-wholes.ensures.len) }
-
 pub returns-clause-gives : goal.returns-clause-gives
-returns-clause-gives g c = (gives_at g.K.Keeps.fits (lent_lines c.args.self.now.keep c.args.self.now.node c.args.self.now.wholes.items) c.args.line c.requires c.args.self.now.of (MemWas c.mem.result) c.from.result c.index-wholes-from.result c.new.result.whole.now c.mem.new.self.whole.now c.new.result.node c.mem.new.self.node c.new.result.whole.ghost_name c.mem.new.self.whole.ghost_name (search rules) (c.new.ensures.same_line ∙ ap (λ l. get_or l c.from.result c.index-wholes-from.result) c.as_mut_slice-wholes.ensures.value) c.new.ensures.node c.mem.ensures.gives _ (written_back c.args.self.now.wholes.items c.as_mut_slice-wholes.result.now c.args.self.now.wholes.len c.from.result c.mem.new.self.whole.now c.as_mut_slice-wholes.ensures.value c.as_mut_slice-wholes.ensures.len))
-
-pub returns-clause-same_way : goal.returns-clause-same_way
-returns-clause-same_way g c = (returns-clause-gives g c).stays.way
-
-pub returns-clause-same_nodes : goal.returns-clause-same_nodes
-returns-clause-same_nodes g c = (returns-clause-gives g c).stays.nodes
-
-pub returns-clause-same_steps : goal.returns-clause-same_steps
-returns-clause-same_steps g c = same_steps (returns-clause-gives g c) (returns-clause-gives g c).owes.0
+returns-clause-gives g c = mem_given g.K.Keeps.fits (lent_lines c.args.self.now.keep c.args.self.now.node c.args.self.now.wholes.items) c.args.line c.requires c.args.self.now.of c.from.result c.index-whole.result.now c.mem.result c.from.ensures c.index-whole.ensures c.mem.ensures.value c.mem.ensures.well_formed c.mem.ensures.links
 
 pub returns-clause-form : goal.returns-clause-form
 returns-clause-form g c = (returns-clause-gives g c).owes.1
-
-pub returns-clause-same_fact : goal.returns-clause-same_fact
-returns-clause-same_fact g c = (returns-clause-gives g c).stays.fact
-
-pub bounds-wholes-from : goal.bounds-wholes-from
-bounds-wholes-from g c = rw (c.as_mut_slice-wholes.ensures.value, c.from.ensures) c.requires
-
-pub offset_bounds-wholes-from : goal.offset_bounds-wholes-from
-offset_bounds-wholes-from g c = scaled_Fits _ _ _ (bounds-wholes-from g c) (search rules)
-
-pub new-requires : goal.new-requires
-new-requires g c = node_below g.K.Keeps.fits (lent_lines c.args.self.now.keep c.args.self.now.node c.args.self.now.wholes.items) c.args.line c.requires c.args.self.now.of c.from.result c.index-wholes-from.result _ c.from.ensures (ap (λ l. get_or l c.from.result c.index-wholes-from.result) c.as_mut_slice-wholes.ensures.value)

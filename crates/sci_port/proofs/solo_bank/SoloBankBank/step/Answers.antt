@@ -8,10 +8,10 @@ use Rattle.sci_port.proofs.Banked.{are_after, gives_at, fits_as_read, holds_of_r
 use Rattle.sci_port.proofs.solo_bank.SoloBankBank.step.Goals as goal
 
 pub invariant_of-self : goal.invariant_of-self
-invariant_of-self g c = record { of = are_after g.K.Keeps.fits (lent_lines c.args.self.now.keep c.args.self.now.node c.args.self.now.wholes.items) c.args.line c.requires.line c.args.self.now.of (Stepped c.args.event c.step.result) c.from.result c.index-wholes-from.result c.new.result.whole.now c.step.new.self.whole.now c.new.result.node c.step.new.self.node c.new.result.whole.ghost_name c.step.new.self.whole.ghost_name (search rules) (c.new.ensures.same_line ∙ ap (λ l. get_or l c.from.result c.index-wholes-from.result) c.as_mut_slice-wholes.ensures.value) c.new.ensures.node c.step.ensures.gives _ (written_back c.args.self.now.wholes.items c.as_mut_slice-wholes.result.now c.args.self.now.wholes.len c.from.result c.step.new.self.whole.now c.as_mut_slice-wholes.ensures.value c.as_mut_slice-wholes.ensures.len) }
+invariant_of-self g c = record { of = are_after g.K.Keeps.fits (lent_lines c.args.self.now.keep c.args.self.now.node c.args.self.now.wholes.items) c.args.line c.requires.line c.args.self.now.of (Stepped c.args.event c.step.result) c.from.result c.index-wholes-from.result c.new.result.whole.now c.step.new.self.whole.now c.new.result.node c.step.new.self.node c.new.result.whole.ghost_name c.step.new.self.whole.ghost_name c.from.ensures (c.new.ensures.same_line ∙ ap (λ l. get_or l c.from.result c.index-wholes-from.result) c.as_mut_slice-wholes.ensures.value) c.new.ensures.node c.step.ensures.gives _ (written_back c.args.self.now.wholes.items c.as_mut_slice-wholes.result.now c.args.self.now.wholes.len c.from.result c.step.new.self.whole.now c.as_mut_slice-wholes.ensures.value c.as_mut_slice-wholes.ensures.len) }
 
 pub returns-clause-gives : goal.returns-clause-gives
-returns-clause-gives g c = (gives_at g.K.Keeps.fits (lent_lines c.args.self.now.keep c.args.self.now.node c.args.self.now.wholes.items) c.args.line c.requires.line c.args.self.now.of (Stepped c.args.event c.step.result) c.from.result c.index-wholes-from.result c.new.result.whole.now c.step.new.self.whole.now c.new.result.node c.step.new.self.node c.new.result.whole.ghost_name c.step.new.self.whole.ghost_name (search rules) (c.new.ensures.same_line ∙ ap (λ l. get_or l c.from.result c.index-wholes-from.result) c.as_mut_slice-wholes.ensures.value) c.new.ensures.node c.step.ensures.gives _ (written_back c.args.self.now.wholes.items c.as_mut_slice-wholes.result.now c.args.self.now.wholes.len c.from.result c.step.new.self.whole.now c.as_mut_slice-wholes.ensures.value c.as_mut_slice-wholes.ensures.len))
+returns-clause-gives g c = (gives_at g.K.Keeps.fits (lent_lines c.args.self.now.keep c.args.self.now.node c.args.self.now.wholes.items) c.args.line c.requires.line c.args.self.now.of (Stepped c.args.event c.step.result) c.from.result c.index-wholes-from.result c.new.result.whole.now c.step.new.self.whole.now c.new.result.node c.step.new.self.node c.new.result.whole.ghost_name c.step.new.self.whole.ghost_name c.from.ensures (c.new.ensures.same_line ∙ ap (λ l. get_or l c.from.result c.index-wholes-from.result) c.as_mut_slice-wholes.ensures.value) c.new.ensures.node c.step.ensures.gives _ (written_back c.args.self.now.wholes.items c.as_mut_slice-wholes.result.now c.args.self.now.wholes.len c.from.result c.step.new.self.whole.now c.as_mut_slice-wholes.ensures.value c.as_mut_slice-wholes.ensures.len))
 
 pub returns-clause-same_way : goal.returns-clause-same_way
 returns-clause-same_way g c = (returns-clause-gives g c).stays.way
