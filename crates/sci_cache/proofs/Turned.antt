@@ -1,5 +1,6 @@
 -- A turn of a node's call, by what was done on the line at work.
-use Rattle.std.proofs.Common.{◌≡◌, ◌≢◌, ℕ, Option, Some, None, IfSome, Result, Ok, List, [], ◌∷◌, refl, sym, ap, subst, ◌∙◌}
+use Rattle.std.proofs.Common.{◌≡◌, ◌≢◌, ◌⊎◌, inl, inr, ℕ, ◌<◌, Option, Some, None, IfSome, Ok, Err, List, [], ◌∷◌, refl, sym, ap, subst, ◌∙◌}
+use Rattle.std.proofs.lemmas.Bool.{cases_eq}
 use Rattle.sci_core.specs.declared.pending.Pending.{Pending}
 use Rattle.sci_port.specs.declared.calls.Call.{Call}
 use Rattle.sci_ops.specs.declared.goals.Goal.{Goal}
@@ -11,7 +12,7 @@ use Rattle.sci_ops.specs.Plan.{Takes, LoadsAtMost}
 use Rattle.sci_ops.specs.Table.{turn_of}
 use Rattle.sci_cache.specs.declared.calls.OpenCall.{OpenCall}
 use Rattle.sci_cache.specs.declared.refusals.NodeRefusal.{NodeRefusal}
-use Rattle.sci_cache.specs.Nodes.{NodeState, TurnsAt, TurnsBy, line_by, op_by, shown_by, call_after, residents_after, taken_by, node_state, LeavesBy}
+use Rattle.sci_cache.specs.Nodes.{NodeState, TurnsAt, TurnsBy, line_by, op_by, shown_by, call_after, residents_after, taken_by, node_state, LeavesBy, ShowsAnswerTo, IsSameNode, IsLine, IsSoundCall, IsIdleBut}
 use Rattle.sci_cache.specs.Residents.{without}
 
 -- what an eviction answers
@@ -92,3 +93,71 @@ module _ (n : NodeState) (c : OpenCall) (answer : Answer) (g : Goal) (is : g ≡
   ends_evict capacity xs h same taken =
       let all : xs ≡ taken_by c.op.goal c.line n.residents = taken ∙ ap (λ (k : Goal). taken_by k c.line n.residents) (sym h ∙ is) in
       λ i. node_state n.id n.lines (same i) (all i) None
+
+-- ---- what a turn leaves of the node and of the pending steps
+
+pub same_kept : (n : NodeState) → IsSameNode n n
+same_kept n = record { id = refl; lines = refl; capacity = refl }
+
+pub same_with : (n now m : NodeState) → n ≡ now → IsSameNode n m → IsSameNode now m
+same_with n now m view h = subst (λ (k : NodeState). IsSameNode k m) view h
+
+pub if_none : (n now : NodeState) → n ≡ now → n.call ≡ None → now.call ≡ None
+if_none n now view e = ap (λ (k : NodeState). k.call) (sym view) ∙ e
+
+pub nothing_of : (call : Option OpenCall) → call ≡ None → (P : OpenCall → Type 0) → IfSome call P
+nothing_of call e P = subst (λ (o : Option OpenCall). IfSome o P) (sym e) tt
+
+pub none_turns : {U : Type 0} (gives : U → ℕ → Call → U → Type 0) (step : U → ℕ → Pending) (n : NodeState) (call : Option OpenCall) (u : U) → call ≡ None → TurnsBy gives step n call u (Err NodeRefusal.NoCall) u n
+none_turns gives step n call u e = subst (λ (o : Option OpenCall). TurnsBy gives step n o u (Err NodeRefusal.NoCall) u n) (sym e) (refl, refl, refl)
+
+pub shows_none : (fits : List ℕ → Type 0) (g : Goal) (t : Turn) → ((answer : Answer) → t ≡ Turn.Done answer → ⊥) → ShowsAnswerTo fits g t
+shows_none fits g (Turn.Done answer) h = absurd (h answer refl)
+shows_none fits g Turn.Moved h = tt
+shows_none fits g Turn.Waiting h = tt
+
+line_inside : (lines line : ℕ) (w : Option ℕ) → line < lines → IsLine lines w → line_by w line < lines
+line_inside lines line None h k = h
+line_inside lines line (Some x) h k = k
+
+module _ (n now : NodeState) (view : n ≡ now) (c : OpenCall) (calls : n.call ≡ Some c) where
+  call_now : now.call ≡ Some c
+  call_now = ap (λ (k : NodeState). k.call) (sym view) ∙ calls
+
+  pub of_call : (P : OpenCall → Type 0) → P c → IfSome now.call P
+  of_call P h = subst (λ (o : Option OpenCall). IfSome o P) (sym call_now) h
+
+  pub call_has : (P : OpenCall → Type 0) → IfSome now.call P → P c
+  call_has P h = subst (λ (o : Option OpenCall). IfSome o P) call_now h
+
+  pub sound : IsSoundCall n.lines n.call → (c.line < n.lines) × (c.op.answer ≡ None) × IsLine n.lines c.victim
+  sound h = subst (IsSoundCall n.lines) calls h
+
+  pub below_by : IsSoundCall n.lines n.call → IfSome now.call (λ (d : OpenCall). line_by d.victim d.line < now.lines)
+  below_by h =
+      let s = sound h in
+      of_call (λ (d : OpenCall). line_by d.victim d.line < now.lines) (subst (λ (k : NodeState). line_by c.victim c.line < k.lines) view (line_inside n.lines c.line c.victim s.0 s.2))
+
+  module _ (w : Option ℕ) (victim : c.victim ≡ w) (before after : ℕ → Pending) (others : (m : ℕ) → m ≢ line_by w c.line → after m ≡ before m) where
+    pub others_now : IfSome now.call (λ (d : OpenCall). (m : ℕ) → m ≢ line_by d.victim d.line → after m ≡ before m)
+    others_now = others_by {P = λ m. after m ≡ before m} now.call c w call_now victim others
+
+    pub idle_at : (new : Option OpenCall) → after (line_by w c.line) ≡ Pending.Idle → IfSome now.call (λ (d : OpenCall). (new ≡ now.call) ⊎ (after (line_by d.victim d.line) ≡ Pending.Idle))
+    idle_at new h = of_call (λ (d : OpenCall). (new ≡ now.call) ⊎ (after (line_by d.victim d.line) ≡ Pending.Idle)) (inr (subst (λ (o : Option ℕ). after (line_by o c.line) ≡ Pending.Idle) (sym victim) h))
+
+    was_idle : IsIdleBut now.call before → (m : ℕ) → m ≢ line_by w c.line → before m ≡ Pending.Idle
+    was_idle h = subst (λ (o : Option ℕ). (m : ℕ) → m ≢ line_by o c.line → before m ≡ Pending.Idle) victim (subst (λ (o : Option OpenCall). IsIdleBut o before) call_now h)
+
+    -- the line at work goes on
+    pub idle_stays : IsIdleBut now.call before → IsIdleBut now.call after
+    idle_stays h =
+        subst (λ (o : Option OpenCall). IsIdleBut o after) (sym call_now)
+        (subst (λ (o : Option ℕ). (m : ℕ) → m ≢ line_by o c.line → after m ≡ Pending.Idle) (sym victim) (λ m other. others m other ∙ was_idle h m other))
+
+    idle_by : IsIdleBut now.call before → after (line_by w c.line) ≡ Pending.Idle → (m : ℕ) → (m ≡ line_by w c.line) ⊎ (m ≢ line_by w c.line) → after m ≡ Pending.Idle
+    idle_by h here m (inl e) = ap after e ∙ here
+    idle_by h here m (inr other) = others m other ∙ was_idle h m other
+
+    -- the line at work is Idle, and so every line is
+    pub all_idle : after (line_by w c.line) ≡ Pending.Idle → IsIdleBut now.call before → (m : ℕ) → after m ≡ Pending.Idle
+    all_idle here h m = idle_by h here m (cases_eq m (line_by w c.line))

@@ -1,15 +1,16 @@
 -- A call's turns, one after another.
-use Rattle.std.proofs.Common.{◌≡◌, ◌⊎◌, inl, inr, ℕ, Option, Some, None, IfSome, Result, Ok, Err, List, refl, sym, ap, subst, ◌∙◌}
+use Rattle.std.proofs.Common.{◌≡◌, ◌⊎◌, inl, inr, ℕ, nat_lt, Bool, true, false, not, if◌then◌else◌, Option, Some, None, is_some, IfSome, Result, Ok, Err, List, refl, sym, ap, subst, ◌∙◌}
 use Rattle.sci_core.specs.declared.pending.Pending.{Pending}
 use Rattle.sci_port.specs.declared.calls.Call.{Call}
 use Rattle.sci_ops.specs.declared.answers.Answer.{Answer}
 use Rattle.sci_ops.specs.declared.answers.Turn.{Turn}
+use Rattle.sci_ops.specs.Change.{StoresFitting}
 use Rattle.sci_ops.specs.Table.{begun}
 use Rattle.sci_cache.specs.declared.calls.OpenCall.{OpenCall}
 use Rattle.sci_cache.specs.declared.refusals.NodeRefusal.{NodeRefusal}
 use Rattle.sci_cache.specs.declared.requests.Request.{Request}
-use Rattle.sci_cache.specs.Requests.{line_of, goal_of}
-use Rattle.sci_cache.specs.Nodes.{NodeState, TurnsAt, TurnsBy, line_by, shown_by, node_after, node_with, node_ended, refusal_of, residents_with, victim_with, GoesOn, IsIdleBut, IsSameNode}
+use Rattle.sci_cache.specs.Requests.{line_of, goal_of, has_bad_word}
+use Rattle.sci_cache.specs.Nodes.{NodeState, TurnsBy, Runs, EndsWith, Waits, IsRefused, IsAnswerTo, line_by, shown_by, node_after, node_with, node_ended, refusal_of, residents_with, GoesOn, IsIdleBut, LeavesIdle, IsSameNode}
 
 pub still_same : {n k m : NodeState} → IsSameNode n k → IsSameNode k m → IsSameNode n m
 still_same h g = record { id = g.id ∙ h.id; lines = g.lines ∙ h.lines; capacity = g.capacity ∙ h.capacity }
@@ -92,3 +93,33 @@ module _ {U : Type 0} (gives : U → ℕ → Call → U → Type 0) (step : U �
   turn_idles a h idle =
       let t = at_work (Ok (Turn.Done a)) h in
       idle_end n r work.0 t.turn a (step v) m t.shows (turn_ends a h) (subst (λ (x : NodeState). IfSome x.call (λ (d : OpenCall). (m.call ≡ x.call) ⊎ (step v (line_by d.victim d.line) ≡ Pending.Idle))) work.1 idle)
+
+  -- what fits the request fits the call at work, and what is answered there is an answer to the request
+  pub fits_at_work : (fits : ℕ → List ℕ → Type 0) → StoresFitting (fits (line_of r)) (goal_of r) → IfSome k.call (λ (c : OpenCall). StoresFitting (fits c.line) c.op.goal)
+  fits_at_work fits h = subst (λ (x : NodeState). IfSome x.call (λ (c : OpenCall). StoresFitting (fits c.line) c.op.goal)) (sym work.1) h
+
+  pub answers_at_work : (fits : ℕ → List ℕ → Type 0) (a : Answer) → IfSome k.call (λ (c : OpenCall). IsAnswerTo (fits c.line) c.op.goal a) → IsAnswerTo (fits (line_of r)) (goal_of r) a
+  answers_at_work fits a h = subst (λ (x : NodeState). IfSome x.call (λ (c : OpenCall). IsAnswerTo (fits c.line) c.op.goal a)) work.1 h
+
+  pub ends_with : (from : U) (a : Answer) → refusal_of n r ≡ None → Runs gives step (node_with n r) from k u → TurnsBy gives step k k.call u (Ok (Turn.Done a)) v m → EndsWith gives step n r from a v m
+  ends_with from a accepted runs last = record { accepted = accepted; before = k; at = u; runs = runs; last = last; node = turn_ends a last }
+
+-- ---- a request that is refused
+
+none_spent : (a b d : Bool) → ◌≡◌ {A = Option NodeRefusal} (if a then Some NodeRefusal.CallOpen else (if b then Some NodeRefusal.BadLine else (if d then Some NodeRefusal.BadWord else None))) (Some NodeRefusal.StampsSpent) → ⊥
+none_spent true b d h = cc
+none_spent false true d h = cc
+none_spent false false true h = cc
+none_spent false false false h = cc
+
+refused_spent : (n : NodeState) (r : Request) → IsRefused n r NodeRefusal.StampsSpent → ⊥
+refused_spent n r (inl h) = none_spent (is_some n.call) (not (nat_lt (line_of r) n.lines)) (has_bad_word r) h
+refused_spent n r (inr h) = let e = h.1 in cc
+
+pub refused_idle : (n : NodeState) (r : Request) (e : NodeRefusal) (p : Pending) → IsRefused n r e → LeavesIdle (Err e) p
+refused_idle n r NodeRefusal.StampsSpent p h = absurd (refused_spent n r h)
+refused_idle n r _ p h = tt
+
+pub refused_waits : {U : Type 0} (gives : U → ℕ → Call → U → Type 0) (step : U → ℕ → Pending) (n : NodeState) (r : Request) (e : NodeRefusal) (u : U) (m : NodeState) → IsRefused n r e → m ≡ n → Waits gives step n r u (Err e) u m
+refused_waits gives step n r NodeRefusal.StampsSpent u m h same = absurd (refused_spent n r h)
+refused_waits gives step n r _ u m h same = (h, refl, same)

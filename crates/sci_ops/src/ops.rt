@@ -88,7 +88,6 @@ impl Op {
         self.goal
     }
 
-    #[tactic(auto, using(crate::proofs::Short::three_loads))]
     /// One turn, by the table of turns: at most three loads and then at most one exchange, which the pending step allows. An
     /// answer is what the last of these calls gave. Seen: a load; Settle or Unhold was done, and answered this line. Wrote: a
     /// write; from Purging of a line with these words and a stamp one less, what the write makes of them was written. Spent: a

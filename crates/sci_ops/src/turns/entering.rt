@@ -34,7 +34,6 @@ pub fn queueing<P: Port>(port: &mut P, forw: Option<NodeId>) -> Turn
     }
 }
 
-#[tactic(auto, using(crate::proofs::Carried::when_carried))]
 /// InQueue: it attaches the old head behind itself, or settles where there was none.
 pub fn in_queue<P: Port>(
     port: &mut P,

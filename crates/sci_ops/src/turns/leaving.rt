@@ -31,7 +31,6 @@ pub fn leaving<P: Port>(port: &mut P, dirty: bool) -> Turn
     leave(port, dirty, tag.forw)
 }
 
-#[tactic(auto, using(crate::proofs::Carried::carried_with))]
 // It promotes the next entry, or returns the line home where there is none.
 fn leave<P: Port>(port: &mut P, dirty: bool, forw: Option<NodeId>) -> Turn
     requires step { (line : _) × (P.at_step port.old ≡ Pending.Leaving dirty line (Some forw)) }
@@ -98,7 +97,6 @@ pub fn rolling<P: Port>(port: &mut P, told: bool) -> Turn
     }
 }
 
-#[tactic(auto, using(crate::proofs::Carried::carried_with))]
 // It tells the entry behind it.
 fn successor<P: Port>(port: &mut P, next: NodeId) -> Turn
     requires node { next < (P.way port.old).nodes }
@@ -118,7 +116,6 @@ fn successor<P: Port>(port: &mut P, next: NodeId) -> Turn
     }
 }
 
-#[tactic(auto, using(crate::proofs::Carried::carried_with))]
 // It tells the entry in front of it.
 fn predecessor<P: Port>(port: &mut P, previous: NodeId) -> Turn
     requires node { previous < (P.way port.old).nodes }

@@ -55,7 +55,6 @@ pub fn purging<P: Port>(port: &mut P, goal: Goal) -> Turn
     }
 }
 
-#[tactic(auto, using(crate::proofs::Carried::carried, crate::proofs::Carried::carried_with))]
 // It purges the next entry, or lets one that leaves know who is in front of it.
 fn purge<P: Port>(port: &mut P, next: NodeId) -> Turn
     requires node { next < (P.way port.old).nodes }
@@ -92,7 +91,8 @@ fn write<P: Port>(port: &mut P, goal: Goal, line: &Line) -> Turn
     let Goal::Write(write) = goal else {
         return go_on(port, Event::Written(None));
     };
-    if stamp < u64::MAX {
+    let can_count = stamp < u64::MAX;
+    if can_count {
         let words = write.change(&line.words);
         let before = line.words;
         let stamp = stamp + 1;

@@ -9,7 +9,6 @@ use std::process::Abort;
 use std::test::Fail;
 
 // One turn of a node's operation, through a port that records it.
-#[tactic(auto, using(sci_ops::proofs::Storing::any_store_fits))]
 pub(crate) fn turn(
     whole: &mut Whole<AnyWords>,
     trace: &mut Trace,

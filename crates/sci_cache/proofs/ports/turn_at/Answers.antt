@@ -1,7 +1,14 @@
-use Rattle.std.proofs.Common.{rules, refl, ◌≡◌}
+use Rattle.std.proofs.Common.{rules, refl, sym, subst, ℕ}
+use Rattle.sci_ops.specs.Change.{StoresFitting}
 use Rattle.sci_cache.proofs.Leaving.{ends_idle}
 use Rattle.sci_cache.proofs.Through.{turn_through, answer_through, chain_keeps, shows_answer, owes_fit}
 use Rattle.sci_cache.proofs.ports.turn_at.Goals as goal
+
+pub new-requires : goal.new-requires
+new-requires g c = c.requires.line
+
+pub turn-requires : goal.turn-requires
+turn-requires g c = record { fits = subst (λ u. StoresFitting (g.B.Keep.Keeps.fits (g.B.Bank.keep u) c.new.result.line) c.args.op.now.goal) (sym c.new.ensures.same_bank) (subst (λ (l : ℕ). StoresFitting (g.B.Keep.Keeps.fits (g.B.Bank.keep c.args.bank.now) l) c.args.op.now.goal) (sym c.new.ensures.line) c.requires.fits) }
 
 pub returns-clause-calls : goal.returns-clause-calls
 returns-clause-calls g c =

@@ -1,10 +1,14 @@
-use Rattle.std.proofs.Common.{refl, arith, suc, ◌∙◌}
+use Rattle.std.proofs.Common.{refl, arith, suc, ap, sym, subst, ◌∙◌}
 use Rattle.sci_core.specs.Whole.{nodes_of, state_of}
 use Rattle.sci_port.specs.declared.solo.Solo.{Solo}
 use Rattle.sci_ops.specs.declared.answers.Turn.{Turn}
 use Rattle.sci_ops.specs.Alone.{turn, no_turn}
+use Rattle.sci_ops.specs.Change.{StoresFitting}
+use Rattle.sci_ops.specs.Operation.{Operation}
+use Rattle.sci_ops.specs.Table.{after_turn}
 use Rattle.sci_ops.proofs.Ending.Falls.{alone_at_rest, bound_at_rest}
 use Rattle.sci_ops.proofs.Ending.Turning.{turns}
+use Rattle.sci_ops.proofs.Staged.{stores_on}
 use Rattle.sci_ops.proofs.ops.Op.alone.Goals as goal
 
 pub turns-init : goal.turns-init
@@ -16,6 +20,12 @@ turns-init g c = record {
   alone = alone_at_rest _ _ _ _ c.requires.rest;
   cost = omega arith;
 }
+
+pub turn-requires : goal.turn-requires
+turn-requires g c =
+    let i = c.turns.invariant in
+    let fits = stores_on g.K.Keeps.fits _ _ _ _ c.args.self.now.goal i.same_fact i.same_way c.requires.fits in
+    record { fits = subst (λ (x : Operation). StoresFitting (g.K.Keeps.fits c.turns.solo.whole.now.keep c.turns.solo.whole.now.number) x.goal) (sym i.same_op) fits }
 
 pub turns-preserved : goal.turns-preserved
 turns-preserved g c =
@@ -40,20 +50,16 @@ unreachable-requires g c =
     let i = c.turns.invariant in
     (turns (Solo g.row.K.Denot g.K.Keeps) g.K.Keeps.fits (λ s. s.whole.ghost_name) (λ s. s.whole.now) (λ s. s.node) c.args.solo.now c.turns.solo c.turn.new.port c.args.self.now c.turns.self Turn.Waiting c.requires.begins i.same_op i.same_way i.same_fact i.alone c.in-Waiting.ensures.calls).1
 
-pub returns-in-Done-clause-turns : goal.returns-in-Done-clause-turns
-returns-in-Done-clause-turns g c =
-    let i = c.turns.invariant in
-    let h = turns (Solo g.row.K.Denot g.K.Keeps) g.K.Keeps.fits (λ s. s.whole.ghost_name) (λ s. s.whole.now) (λ s. s.node) c.args.solo.now c.turns.solo c.turn.new.port c.args.self.now c.turns.self (Turn.Done c.in-Done.answer) c.requires.begins i.same_op i.same_way i.same_fact i.alone c.in-Done.ensures.calls in
-    (suc i.turns.0, omega (arith, c.count.ensures, i.turns.1), record { before = i.turns.0; mid = state_of c.turns.solo.whole.now; moves = i.turns.2; last = h.0; count = refl })
-
-pub returns-in-Done-clause-bound : goal.returns-in-Done-clause-bound
-returns-in-Done-clause-bound g c =
+pub returns-in-Done : goal.returns-in-Done
+returns-in-Done g c =
     let i = c.turns.invariant in
     let h = turns (Solo g.row.K.Denot g.K.Keeps) g.K.Keeps.fits (λ s. s.whole.ghost_name) (λ s. s.whole.now) (λ s. s.node) c.args.solo.now c.turns.solo c.turn.new.port c.args.self.now c.turns.self (Turn.Done c.in-Done.answer) c.requires.begins i.same_op i.same_way i.same_fact i.alone c.in-Done.ensures.calls in
     let bound = bound_at_rest (nodes_of c.args.solo.now.whole.now) c.args.self.now.goal c.args.solo.now.node (state_of c.args.solo.now.whole.now) c.requires.rest in
-    omega (arith, h.1.0, i.cost, c.count.ensures, bound)
-
-pub returns-in-Done-clause-rest : goal.returns-in-Done-clause-rest
-returns-in-Done-clause-rest g c =
-    let i = c.turns.invariant in
-    (turns (Solo g.row.K.Denot g.K.Keeps) g.K.Keeps.fits (λ s. s.whole.ghost_name) (λ s. s.whole.now) (λ s. s.node) c.args.solo.now c.turns.solo c.turn.new.port c.args.self.now c.turns.self (Turn.Done c.in-Done.answer) c.requires.begins i.same_op i.same_way i.same_fact i.alone c.in-Done.ensures.calls).1.1
+    record {
+      turns = (suc i.turns.0, omega (arith, c.count.ensures, i.turns.1), record { before = i.turns.0; mid = state_of c.turns.solo.whole.now; moves = i.turns.2; last = h.0; count = refl });
+      bound = omega (arith, h.1.0, i.cost, c.count.ensures, bound);
+      op = c.in-Done.ensures.op ∙ ap (λ (x : Operation). after_turn x (Turn.Done c.in-Done.answer)) i.same_op;
+      rest = h.1.1;
+      same_way = c.in-Done.ensures.same_way ∙ i.same_way;
+      same_fact = c.in-Done.ensures.same_fact ∙ i.same_fact;
+    }

@@ -1,12 +1,18 @@
-use Rattle.std.proofs.Common.{rules}
+use Rattle.std.proofs.Common.{rules, ◌≡◌, ◌∙◌, ℕ, Bool, false, Option, Some, ap, sym}
+use Rattle.sci_port.specs.Way.{Way}
+use Rattle.sci_ops.specs.Plan.{tag}
+use Rattle.sci_ops.specs.Table.{roll, tell_successor}
 use Rattle.sci_ops.proofs.Took.{took_own, no_own}
 use Rattle.sci_ops.proofs.turns.leaving.rolling.Goals as goal
 
-pub returns-in_default-clause-calls : goal.returns-in_default-clause-calls
-returns-in_default-clause-calls g c = no_own c.in_default.ensures.gives
+tells : (me : ℕ) (told : Bool) (f b : Option ℕ) (next : ℕ) → told ≡ false → f ≡ Some next → roll me told f b ≡ tag next (tell_successor me)
+tells me told f b next e h = ap (λ (x : Bool). roll me x f b) e ∙ ap (λ (o : Option ℕ). roll me false o b) h
 
-pub returns-in-Some-forw-clause-calls : goal.returns-in-Some-forw-clause-calls
-returns-in-Some-forw-clause-calls g c = took_own _ c.in-Some.ensures.gives (search rules) c.successor.ensures.calls
+pub returns-in_default : goal.returns-in_default
+returns-in_default g c = record { calls = no_own c.in_default.ensures.gives; same_way = c.in_default.ensures.same_way; same_fact = c.in_default.ensures.same_fact }
+
+pub returns-in-Some-forw : goal.returns-in-Some-forw
+returns-in-Some-forw g c = record { calls = took_own _ c.in-Some.ensures.gives (tells _ _ _ _ _ c.if-not-told.true c.in-Some-forw.is ∙ ap (λ n. tag c.in-Some-forw.next (tell_successor n)) (ap (λ (w : Way). w.node) (sym (c.in-Some.ensures.same_way)))) c.successor.ensures.calls; same_way = c.successor.ensures.same_way ∙ c.in-Some.ensures.same_way; same_fact = c.successor.ensures.same_fact ∙ c.in-Some.ensures.same_fact }
 
 pub returns-in-Some-back-clause-calls : goal.returns-in-Some-back-clause-calls
 returns-in-Some-back-clause-calls g c = took_own _ c.in-Some.ensures.gives (search rules) c.predecessor.ensures.calls

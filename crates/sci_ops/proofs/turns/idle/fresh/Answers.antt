@@ -1,0 +1,24 @@
+use Rattle.std.proofs.Common.{refl}
+use Rattle.sci_core.specs.declared.events.Event.{Event}
+use Rattle.sci_core.specs.Found.{is_fresh, is_settled, is_settled_front}
+use Rattle.sci_ops.proofs.Staged.{allowed_in}
+use Rattle.sci_ops.proofs.Carried.{found_as}
+use Rattle.sci_ops.proofs.turns.idle.fresh.Goals as goal
+
+pub go_on-requires : goal.go_on-requires
+go_on-requires g c = record { allowed = allowed_in (g.P.Port.way c.args.port.now) (Event.Hold c.args.tag) _ _ (c.requires.step) (found_as is_settled _ _ c.requires.kind refl c.requires.free c.requires.form.0); fits = tt }
+
+pub at_front-requires : goal.at_front-requires
+at_front-requires g c = record { allowed = allowed_in (g.P.Port.way c.args.port.now) (Event.Convert c.args.tag) _ _ (c.requires.step) (found_as is_fresh _ _ c.requires.kind refl c.requires.free c.requires.form.0); fits = tt }
+
+pub at_front-requires-in-Evict : goal.at_front-requires-in-Evict
+at_front-requires-in-Evict g c = record { allowed = allowed_in (g.P.Port.way c.args.port.now) (Event.Leave c.args.tag) _ _ (c.requires.step) (found_as is_settled_front _ _ c.requires.kind refl c.requires.free c.requires.form.0); fits = tt }
+
+pub returns-in-Load : goal.returns-in-Load
+returns-in-Load g c = record { calls = rw c.in-Load.is c.go_on.ensures.calls; same_way = c.go_on.ensures.same_way; same_fact = c.go_on.ensures.same_fact }
+
+pub returns-in-Write : goal.returns-in-Write
+returns-in-Write g c = record { calls = rw c.in-Write.is c.at_front.ensures.calls; same_way = c.at_front.ensures.same_way; same_fact = c.at_front.ensures.same_fact }
+
+pub returns-in-Evict : goal.returns-in-Evict
+returns-in-Evict g c = record { calls = rw c.in-Evict.is c.at_front-in-Evict.ensures.calls; same_way = c.at_front-in-Evict.ensures.same_way; same_fact = c.at_front-in-Evict.ensures.same_fact }

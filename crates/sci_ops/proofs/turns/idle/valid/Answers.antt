@@ -1,0 +1,15 @@
+use Rattle.std.proofs.Common.{refl}
+use Rattle.sci_core.specs.declared.events.Event.{Event}
+use Rattle.sci_core.specs.Found.{is_settled, is_settled_body}
+use Rattle.sci_ops.proofs.Staged.{allowed_in}
+use Rattle.sci_ops.proofs.Carried.{found_as}
+use Rattle.sci_ops.proofs.turns.idle.valid.Goals as goal
+
+pub go_on-requires : goal.go_on-requires
+go_on-requires g c = record { allowed = allowed_in (g.P.Port.way c.args.port.now) (Event.Hold c.args.tag) _ _ (c.requires.step) (found_as is_settled _ _ c.requires.kind refl c.requires.free c.requires.form.0); fits = tt }
+
+pub go_on-requires-in-Write : goal.go_on-requires-in-Write
+go_on-requires-in-Write g c = record { allowed = allowed_in (g.P.Port.way c.args.port.now) (Event.Roll c.args.tag) _ _ (c.requires.step) (found_as is_settled_body _ _ c.requires.kind refl c.requires.free c.requires.form.0); fits = tt }
+
+pub returns-in-Load : goal.returns-in-Load
+returns-in-Load g c = record { calls = rw c.in-Load.is c.go_on.ensures.calls; same_way = c.go_on.ensures.same_way; same_fact = c.go_on.ensures.same_fact }
