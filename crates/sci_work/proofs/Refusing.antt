@@ -33,6 +33,11 @@ part_of_work program WorkRefusal.BadSettings awaits h = absurd h
 part_of_work program WorkRefusal.Stopped awaits h = tt
 part_of_work program WorkRefusal.NoThread awaits h = absurd h
 
+-- a worker's result, of a program whose nodes await others
+pub part_of_worked : {T : Type 0} (r : Result T WorkRefusal) (program : Program) → Awaits program → IfErr r ComesInWork → IfErr r (ComesInPart program)
+part_of_worked (Ok x) program awaits h = tt
+part_of_worked (Err e) program awaits h = part_of_work program e awaits h
+
 -- a node's own refusal
 pub of_part : (program : Program) (e : WorkRefusal) → ComesInPart program e → e ≢ WorkRefusal.Stopped → ComesInStart program e
 of_part program WorkRefusal.OutOfMemory h own = tt

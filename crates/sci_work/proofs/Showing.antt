@@ -5,6 +5,8 @@ use lib.ListN.{get_or-eq_default}
 use Rattle.sci_work.proofs.Plain.{get_or-plain, length-plain}
 use Rattle.sci_work.specs.Stencil.{HoldsTile, FitsStencil, before, behind}
 use Rattle.sci_work.specs.Plain.{plain}
+use Rattle.sci_work.specs.Shares.{IsWork}
+use Rattle.sci_port.specs.Banks.{BankWay}
 
 half : (tile odd : ℕ) → odd < 2 → (2 * tile + odd) / 2 ≡ tile
 half tile odd low = omega arith
@@ -84,3 +86,8 @@ opens cells phases tile words small inside number holds =
 pub zeros_fit : (cells : List ℕ) (phases line : ℕ) → FitsStencil cells phases line (replicate 8 0)
 unfolding FitsStencil
 zeros_fit cells phases line = inl refl
+
+-- a stencil's work over a bank with the same fact and the same lines
+pub work_again : {F : Type 0} (fits : F → ℕ → List ℕ → Type 0) (cells : List ℕ) (phases tiles : ℕ) (k m : F) (w v : BankWay) → m ≡ k → v ≡ w → IsWork (fits k) cells phases tiles w.lines → IsWork (fits m) cells phases tiles v.lines
+work_again {F} fits cells phases tiles k m w v fact way work =
+    subst (λ (f : F). IsWork (fits f) cells phases tiles v.lines) (sym fact) (subst (λ (x : BankWay). IsWork (fits k) cells phases tiles x.lines) (sym way) work)

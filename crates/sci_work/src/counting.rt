@@ -5,13 +5,13 @@ ghost use Rattle.sci_work.specs.Ended.{HaveNodes, IsCounted, IsCountSize};
 ghost use Rattle.sci_work.specs.Starts.{ComesInCount, ComesInStart};
 
 use crate::gates::Gate;
+use crate::lines::{finished, zeroed};
 use crate::programs::Program;
 use crate::refusals::WorkRefusal;
 use crate::seating::{dealt, gathered};
 use crate::starting::run_all;
 use crate::values::value_of;
-use sci_core::{AnyWords, Closed, Line, OpenRefusal};
-use sci_fine::FineLine;
+use sci_core::{AnyWords, Closed};
 use std::alloc::Global;
 use std::slice;
 use std::sync::Wait;
@@ -25,7 +25,6 @@ fn is_count_size(nodes: u16, adds: u64, capacity: u16) -> bool
 }
 
 // The line as it is closed, once each node has ended its adds.
-#[tactic(auto, using(crate::proofs::Refusing::of_memory))]
 fn counted<R: Threads + Wait + Sync, G: Gate>(
     rt: &R,
     alloc: Global,
@@ -39,11 +38,7 @@ fn counted<R: Threads + Wait + Sync, G: Gate>(
     ensures nodes { IfOk result (λ closed. length closed.tags ≡ nodes) }
     ensures err { IfErr result (ComesInStart (Program.Count adds)) }
 {
-    let (line, seats) = match FineLine::new(alloc, nodes, 0, Line::ZERO, AnyWords) {
-        Ok(made) => made,
-        Err(OpenRefusal::BadNodes) => unreachable!(),
-        Err(OpenRefusal::OutOfMemory) => return Err(WorkRefusal::OutOfMemory),
-    };
+    let (line, seats) = zeroed(alloc, nodes, 0, AnyWords)?;
     let hands = dealt(alloc, &line, seats)?;
     let program = Program::Count { adds };
     let (hands, _) = run_all(
@@ -56,18 +51,13 @@ fn counted<R: Threads + Wait + Sync, G: Gate>(
         capacity,
     )?;
     let seats = gathered(alloc, &line, hands)?;
-    match line.finish(alloc, seats) {
-        Ok(closed) => Ok(closed),
-        // 7, and not 9: the seats are the line's own, one per node in order
-        Err(_) => Err(WorkRefusal::OutOfMemory),
-    }
+    finished(alloc, line, seats)
 }
 
 /// Each of 1 to 64 nodes, in a thread of its own, adds 1 to word 0 of line 0, at most 1,000,000 times. Gives the word once the
 /// line is closed, and the closed line, an exact sharing list. A node's table names up to 1,024 lines. It may wait for ever. The
 /// refusals: 22 for a number outside these limits; then that of the lowest node whose refusal isn't 25: 7, 11, 20 where the gate
 /// held a call back to its limit, and 26 where the node's thread couldn't be started. A refused growth outside the nodes is 7.
-#[tactic(auto, using(crate::proofs::Refusing::in_count))]
 pub fn count<R: Threads + Wait + Sync, G: Gate>(
     rt: &R,
     alloc: Global,

@@ -56,8 +56,8 @@ fn extended<K: Keeps>(
     Ok(all)
 }
 
-// A line of zeros, and its seats in the order of the nodes.
-fn zeroed<K: Keeps>(
+/// A line of zeros, and its seats in the order of the nodes.
+pub(crate) fn zeroed<K: Keeps>(
     alloc: Global,
     nodes: u16,
     number: u16,
@@ -130,8 +130,8 @@ fn last_seats<K: Keeps>(
     Ok((all, seats))
 }
 
-// The line, closed with its seats.
-fn finished<K: Keeps>(
+/// The line, closed with its seats.
+pub(crate) fn finished<K: Keeps>(
     alloc: Global,
     line: FineLine<K>,
     seats: Vec<Seat<K>>,

@@ -52,7 +52,6 @@ fn counted<R: Wait, G: Gate, B: Bank>(
 }
 
 /// The node's part. It ends with no call open.
-#[tactic(auto, using(crate::proofs::Refusing::part_of_call, crate::proofs::Refusing::part_of_work))]
 pub fn run<R: Wait, G: Gate, B: Bank>(
     rt: &R,
     alloc: Global,

@@ -195,7 +195,6 @@ fn start_all<'s, 'a: 's, E, R: Threads + Wait + Sync, G: Gate, K: Keeps + Send +
 }
 
 // The refusal of the first node whose refusal isn't 25, if there is one.
-#[tactic(auto, using(crate::proofs::Refusing::of_part))]
 fn first_refusal<K: Keeps>(
     done: &[Done<K, Vec<u64>>],
     program: Program<'_>,
@@ -309,7 +308,6 @@ fn run_each<R: Threads + Wait + Sync, G: Gate, K: Keeps + Send + Sync>(
 /// Runs the program in a thread for each node, over these lines: their seats again, all Idle, and each node's share. The
 /// refusals: 7 before the first start, then that of the first node whose refusal isn't 25, then 26 where a node's thread
 /// couldn't be started.
-#[tactic(auto, using(crate::proofs::Refusing::of_memory))]
 pub fn run_all<R: Threads + Wait + Sync, G: Gate, K: Keeps + Send + Sync>(
     rt: &R,
     alloc: Global,

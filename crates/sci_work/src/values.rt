@@ -6,7 +6,6 @@ ghost use Rattle.sci_work.specs.Ended as ended;
 use sci_core::{Closed, Line};
 
 /// What the line holds: the bytes of the list's first node, or memory's where there is no list.
-#[tactic(auto, using(crate::proofs::Seated::head_inside))]
 pub fn value_of(closed: &Closed) -> &Line
     requires { IsExactClosed closed.now }
     ensures { result.now ≡ ended.value_of closed.now }

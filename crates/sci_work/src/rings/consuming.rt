@@ -7,7 +7,7 @@ use crate::calls::{loaded, written};
 use crate::doors::Door;
 use crate::gates::Gate;
 use crate::refusals::WorkRefusal;
-use crate::rings::limits::is_ring_size;
+use crate::rings::limits::{is_ring_size, line_of};
 use crossbeam_utils::Backoff;
 use sci_cache::Node;
 use sci_port::{Bank, Keeps};
@@ -22,7 +22,6 @@ fn count_of(count: u64) -> [u64; 8]
 }
 
 /// Item i, once its line shows it. Refusal 19 where the line shows a later one.
-#[tactic(auto, using(crate::proofs::Refusing::of_call))]
 fn item<R: Wait, G: Gate, B: Bank>(
     rt: &R,
     door: &mut Door<'_, G>,
@@ -41,14 +40,15 @@ fn item<R: Wait, G: Gate, B: Bank>(
     ensures same_way { B.way bank.new ≡ B.way bank.old }
     ensures same_fact { B.keep bank.new ≡ B.keep bank.old }
 {
-    let line = (i % u64::from(lines)) as u16;
+    let line = line_of(i, lines);
+    let number = i + 1;
     let backoff = Backoff::new();
     for _ in rt.forever() {
         let words = loaded(rt, door, node, bank, line)?;
-        if words[0] == i + 1 {
+        if words[0] == number {
             return Ok(words[1]);
         }
-        if words[0] > i + 1 {
+        if words[0] > number {
             return Err(WorkRefusal::Overrun);
         }
         backoff.snooze();
@@ -57,7 +57,6 @@ fn item<R: Wait, G: Gate, B: Bank>(
 }
 
 /// The first n items, in order. Each is counted as consumed once it was read.
-#[tactic(auto, using(crate::proofs::Refusing::of_call))]
 pub(crate) fn consumed<R: Wait, G: Gate, B: Bank>(
     rt: &R,
     alloc: Global,

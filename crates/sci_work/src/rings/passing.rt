@@ -32,7 +32,6 @@ fn last_share(source: &[u64], shares: Vec<Vec<u64>>) -> Vec<u64>
 }
 
 // The items at the sink, and the ring's lines as they are closed.
-#[tactic(auto, using(crate::proofs::Refusing::of_memory))]
 fn passed<R: Threads + Wait + Sync, G: Gate>(
     rt: &R,
     alloc: Global,
@@ -60,7 +59,6 @@ fn passed<R: Threads + Wait + Sync, G: Gate>(
 /// 1,024 lines. It may wait for ever. The refusals: 22 for a number outside these limits; then that of the lower node whose
 /// refusal isn't 25: 7, 11, 19, 20 where the gate held a call back to its limit, and 26 where the node's thread couldn't be
 /// started. A refused growth outside the nodes is 7.
-#[tactic(auto, using(crate::proofs::Refusing::in_run))]
 pub fn ring<R: Threads + Wait + Sync, G: Gate>(
     rt: &R,
     alloc: Global,

@@ -7,7 +7,7 @@ use crate::calls::{loaded, written};
 use crate::doors::Door;
 use crate::gates::Gate;
 use crate::refusals::WorkRefusal;
-use crate::rings::limits::is_ring_size;
+use crate::rings::limits::{is_ring_size, line_of};
 use crossbeam_utils::Backoff;
 use sci_cache::Node;
 use sci_port::{Bank, Keeps};
@@ -18,6 +18,33 @@ fn words_of(number: u64, value: u64) -> [u64; 8]
     ensures { result ≡ number ∷ value ∷ replicate 6 0 }
 {
     [number, value, 0, 0, 0, 0, 0, 0]
+}
+
+// Waits until at least so many items were consumed.
+fn consumed_up_to<R: Wait, G: Gate, B: Bank>(
+    rt: &R,
+    door: &mut Door<'_, G>,
+    node: &mut Node,
+    bank: &mut B,
+    lines: u16,
+    least: u64,
+) -> Result<(), WorkRefusal>
+    requires ready { IsBankOf (B.way bank.old) node.old }
+    requires room { lines < (B.way bank.old).lines }
+    ensures err { IfErr result ComesInCall }
+    ensures ready { IsBankOf (B.way bank.new) node.new }
+    ensures made { Made B.gives B.at_step [] node.old bank.old node.new bank.new }
+    ensures same_way { B.way bank.new ≡ B.way bank.old }
+    ensures same_fact { B.keep bank.new ≡ B.keep bank.old }
+{
+    let backoff = Backoff::new();
+    for _ in rt.forever() {
+        if loaded(rt, door, node, bank, lines)?[0] >= least {
+            return Ok(());
+        }
+        backoff.snooze();
+    }
+    unreachable!()
 }
 
 // Waits until so many items were consumed that item i's line is free.
@@ -42,14 +69,7 @@ fn free<R: Wait, G: Gate, B: Bank>(
     if least == 0 {
         return Ok(());
     }
-    let backoff = Backoff::new();
-    for _ in rt.forever() {
-        if loaded(rt, door, node, bank, lines)?[0] >= least {
-            return Ok(());
-        }
-        backoff.snooze();
-    }
-    unreachable!()
+    consumed_up_to(rt, door, node, bank, lines, least)
 }
 
 /// Writes all items.
@@ -75,7 +95,7 @@ pub(crate) fn produced<R: Wait, G: Gate, B: Bank>(
     for (i, value) in source.iter().enumerate() {
         let number = i as u64;
         free(rt, door, node, bank, lines, number)?;
-        let line = (number % u64::from(lines)) as u16;
+        let line = line_of(number, lines);
         written(rt, door, node, bank, line, words_of(number + 1, *value))?;
     }
     Ok(())

@@ -15,7 +15,6 @@ use std::alloc::Global;
 use std::sync::Wait;
 
 /// Node 0 writes the items, and gives none. Node 1 reads them all.
-#[tactic(auto, using(crate::proofs::Refusing::of_call))]
 pub(crate) fn worked<R: Wait, G: Gate, B: Bank>(
     rt: &R,
     alloc: Global,

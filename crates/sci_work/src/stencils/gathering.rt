@@ -9,7 +9,6 @@ use crate::stencils::worker::Work;
 use std::alloc::Global;
 
 // The cells of a tile, in its node's share.
-#[tactic(auto, using(crate::proofs::Sharing::inside_share))]
 fn tile_in<'d>(share: &'d [u64], work: Work<'_>, tile: u16) -> &'d [u64]
     requires nodes { 0 < work.nodes }
     requires tile { tile < work.tiles }

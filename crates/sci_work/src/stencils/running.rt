@@ -58,7 +58,6 @@ fn ended<K: Keeps>(
 }
 
 // The cells after the last phase, and the lines as they are closed.
-#[tactic(auto, using(crate::proofs::Refusing::of_memory))]
 fn run<R: Threads + Wait + Sync, G: Gate>(
     rt: &R,
     alloc: Global,
@@ -89,7 +88,6 @@ fn run<R: Threads + Wait + Sync, G: Gate>(
 /// modulo 2, its word 0 is p + 1 and its words 1 to 7 are tile t after that phase. It may wait for ever. The refusals: 22 for a
 /// number outside these limits; then that of the lowest node whose refusal isn't 25: 7, 11, 19, 20 where the gate held a call
 /// back to its limit, and 26 where the node's thread couldn't be started. A refused growth outside the nodes is 7.
-#[tactic(auto, using(crate::proofs::Refusing::in_run))]
 pub fn stencil<R: Threads + Wait + Sync, G: Gate>(
     rt: &R,
     alloc: Global,

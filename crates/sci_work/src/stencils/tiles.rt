@@ -1,6 +1,14 @@
-//! A tile's words, one phase on.
-ghost use Rattle.std.specs.Prelude.{◌≡◌, ℕ, ◌+◌, ◌%◌, ◌^◌, ◌<◌, ◌≤◌, length, slice_index};
+//! A tile's lines, and its words, one phase on.
+ghost use Rattle.std.specs.Prelude.{◌≡◌, ℕ, ◌+◌, ◌*◌, ◌%◌, ◌^◌, ◌<◌, ◌≤◌, length, slice_index};
 ghost use Rattle.sci_work.specs.Stencil.{before, behind};
+
+/// The line that a tile stands in at a phase.
+pub(crate) fn line_at(tile: u16, phase: u64) -> u16
+    requires { tile < 512 }
+    ensures { result ≡ 2 * tile + phase % 2 }
+{
+    2 * tile + (phase % 2) as u16
+}
 
 /// The words of a tile one phase on, from its words and the cells at its two sides.
 pub(crate) fn advanced(left: u64, own: &[u64; 8], right: u64) -> [u64; 8]

@@ -10,7 +10,7 @@ use crate::calls::{loaded, written};
 use crate::doors::Door;
 use crate::gates::Gate;
 use crate::refusals::WorkRefusal;
-use crate::stencils::tiles::{advanced, opening};
+use crate::stencils::tiles::{advanced, line_at, opening};
 use crossbeam_utils::Backoff;
 use sci_cache::Node;
 use sci_port::Bank;
@@ -48,14 +48,15 @@ fn awaited<R: Wait, G: Gate, B: Bank>(
     ensures same_way { B.way bank.new ≡ B.way bank.old }
     ensures same_fact { B.keep bank.new ≡ B.keep bank.old }
 {
-    let line = 2 * tile + (phase % 2) as u16;
+    let line = line_at(tile, phase);
+    let number = phase + 1;
     let backoff = Backoff::new();
     for _ in rt.forever() {
         let words = loaded(rt, door, node, bank, line)?;
-        if words[0] == phase + 1 {
+        if words[0] == number {
             return Ok(words);
         }
-        if words[0] > phase + 1 {
+        if words[0] > number {
             return Err(WorkRefusal::Overrun);
         }
         backoff.snooze();
@@ -142,7 +143,7 @@ fn advance<R: Wait, G: Gate, B: Bank>(
     let own = awaited(rt, door, node, bank, work, tile, phase)?;
     let left = cell_before(rt, door, node, bank, work, tile, phase)?;
     let right = cell_behind(rt, door, node, bank, work, tile, phase)?;
-    let line = 2 * tile + ((phase + 1) % 2) as u16;
+    let line = line_at(tile, phase + 1);
     written(rt, door, node, bank, line, advanced(left, &own, right))
 }
 

@@ -34,3 +34,15 @@ returns-in-Err g c =
       same_way = c.load-answer.ensures.same_way;
       same_fact = c.load-answer.ensures.same_fact;
     }
+
+pub returns-in-Ok-Seen-clause-err : goal.returns-in-Ok-Seen-clause-err
+returns-in-Ok-Seen-clause-err g c = tt
+
+pub returns-in-Ok-Seen-clause-same_way : goal.returns-in-Ok-Seen-clause-same_way
+returns-in-Ok-Seen-clause-same_way g c = c.load-answer.ensures.same_way
+
+pub returns-in-Ok-Seen-clause-same_fact : goal.returns-in-Ok-Seen-clause-same_fact
+returns-in-Ok-Seen-clause-same_fact g c = c.load-answer.ensures.same_fact
+
+pub load-answer-requires : goal.load-answer-requires
+load-answer-requires g c = record { node = c.requires.ready.node; lines = c.requires.ready.lines }

@@ -39,3 +39,6 @@ returns-in-Err g c =
       same_way = c.write_line-answer.ensures.same_way;
       same_fact = c.write_line-answer.ensures.same_fact;
     }
+
+pub write_line-answer-requires : goal.write_line-answer-requires
+write_line-answer-requires g c = record { node = c.requires.ready.node; lines = c.requires.ready.lines; fits = λ _ _ _. c.requires.fits }

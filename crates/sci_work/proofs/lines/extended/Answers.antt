@@ -1,10 +1,12 @@
-use Rattle.std.proofs.Common.{◌≡◌, ◌++◌, ◌∷◌, ◌∙◌, ℕ, ◌+◌, ◌≤◌, List, [], length, vec_capacity, vec_items, vec_len, arith, ap, sym, subst}
+use Rattle.std.proofs.Common.{◌≡◌, ◌++◌, ◌∷◌, ◌∙◌, ℕ, ◌+◌, ◌≤◌, List, [], length, vec_capacity, vec_items, vec_len, arith, ap, refl, sym, subst}
+use Rattle.std.proofs.lemmas.Result.{IfOk-from_err}
 use Rattle.std.specs.Vec.Iter.{into_iter_items}
 use mathlib.Core.Option.{some, some-ne-none}
 use lib.ListN.{get_elem?}
 use Rattle.sci_work.specs.Hands.{IsHandOf, IsIdleSeat}
 use Rattle.sci_work.proofs.Counts.{both_less, from_none, moved_one, none_done}
 use Rattle.sci_work.proofs.Dealing.{hand_more}
+use Rattle.sci_work.proofs.Residual.{passed_on}
 use Rattle.sci_work.proofs.Seated.{at_first, at_more}
 use Rattle.sci_work.proofs.lines.extended.Goals as goal
 
@@ -39,3 +41,15 @@ loop-one-preserved g c =
           (hand_more lines line (length c.loop-one.all.items) c.in-Some.one.items c.push.new.self.items c.in-Some-next.seat c.in-Ok.ensures.items
           (subst (λ (z : ℕ). IsHandOf lines z (vec_items c.in-Some.one)) here f.0) (subst (λ (z : ℕ). IsIdleSeat z line c.in-Some-next.seat) here s.0));
     }
+
+pub push_reserved-requires : goal.push_reserved-requires
+push_reserved-requires g c = let i = c.loop-one.invariant in omega (arith, i.rest, i.room, c.in-Some.ensures.steps.1)
+
+pub returns : goal.returns
+returns g c = let i = c.loop-one.invariant in record { len = omega (arith, i.rest, c.in-None.ensures.steps.0); each = i.each; err = tt }
+
+pub returns-in_default-push : goal.returns-in_default-push
+returns-in_default-push g c = record { len = tt; each = tt; err = refl }
+
+pub returns-in_err-all : goal.returns-in_err-all
+returns-in_err-all g c = let r = c.from_residual in record { len = IfOk-from_err r.result _ r.ensures.0; each = IfOk-from_err r.result _ r.ensures.0; err = passed_on r.result _ _ r.ensures.1 refl }

@@ -1,4 +1,5 @@
-use Rattle.std.proofs.Common.{◌≡◌, ◌++◌, ◌∷◌, ◌∙◌, ℕ, ◌+◌, ◌<◌, ◌≤◌, true, false, List, [], length, vec_capacity, vec_items, vec_len, arith, ap, sym, subst, length-append}
+use Rattle.std.proofs.Common.{◌≡◌, ◌++◌, ◌∷◌, ◌∙◌, ℕ, ◌+◌, ◌<◌, ◌≤◌, true, false, List, [], length, vec_capacity, vec_items, vec_len, arith, ap, refl, sym, subst, length-append}
+use Rattle.std.proofs.lemmas.Result.{IfOk-from_err}
 use Rattle.std.specs.Vec.Iter.{into_iter_items}
 use mathlib.Core.Option.{some, some-ne-none}
 use lib.ListN.{get_elem?}
@@ -8,6 +9,7 @@ use Rattle.sci_fine.specs.Seats.{IsSeatOf}
 use Rattle.sci_work.specs.Hands.{IsHandOf}
 use Rattle.sci_work.proofs.Counts.{from_none, moved_one, none_done}
 use Rattle.sci_work.proofs.Dealing.{hand_less}
+use Rattle.sci_work.proofs.Residual.{passed_on}
 use Rattle.sci_work.proofs.Seated.{at_first, at_more}
 use Rattle.sci_work.proofs.lines.last_seats.Goals as goal
 
@@ -50,3 +52,18 @@ loop-one-preserved g c =
       seats = subst (λ (z : List _). (k : ℕ) (x : _) → get_elem? z k ≡ some x → IsSeatOf line x × (x.standing.pending ≡ Pending.Idle)) (sym put.items)
           (each_more (λ x. IsSeatOf line x × (x.standing.pending ≡ Pending.Idle)) c.loop-one.seats.items c.in-Some-pop.seat i.seats (s.1.of, s.1.idle));
     }
+
+pub push_reserved-requires : goal.push_reserved-requires
+push_reserved-requires g c = let i = c.loop-one.invariant in omega (arith, i.rest, i.same, i.seat_room, c.in-Some.ensures.steps.1)
+
+pub push_reserved-requires-in-loop-one : goal.push_reserved-requires-in-loop-one
+push_reserved-requires-in-loop-one g c = let i = c.loop-one.invariant in omega (arith, i.rest, i.room, c.in-Some.ensures.steps.1)
+
+pub returns : goal.returns
+returns g c = let i = c.loop-one.invariant in record { hands = i.hands; seats = i.seats; err = tt }
+
+pub returns-in_err-all : goal.returns-in_err-all
+returns-in_err-all g c = let r = c.from_residual in record { hands = IfOk-from_err r.result _ r.ensures.0; seats = IfOk-from_err r.result _ r.ensures.0; err = passed_on r.result _ _ r.ensures.1 refl }
+
+pub returns-in_err-seats : goal.returns-in_err-seats
+returns-in_err-seats g c = let r = c.from_residual-in_err-seats in record { hands = IfOk-from_err r.result _ r.ensures.0; seats = IfOk-from_err r.result _ r.ensures.0; err = passed_on r.result _ _ r.ensures.1 refl }

@@ -1,4 +1,4 @@
-use Rattle.std.proofs.Common.{rules, ◌≡◌, ◌∷◌, ℕ, ◌+◌, List, [], length, vec_items, vec_len, arith, sym, subst, ◌∙◌}
+use Rattle.std.proofs.Common.{◌≡◌, ◌∷◌, ℕ, ◌+◌, List, [], length, vec_items, vec_len, arith, refl, sym, subst, ◌∙◌}
 use Rattle.std.specs.Vec.Iter.{into_iter_items}
 use mathlib.Core.Option.{some, some-ne-none}
 use lib.ListN.{get_elem?}
@@ -8,7 +8,7 @@ use Rattle.sci_work.proofs.seating.dealt.Goals as goal
 
 pub loop-seat-init : goal.loop-seat-init
 loop-seat-init g c = record {
-  rest = search rules;
+  rest = omega (arith, c.new-hands.ensures.len, c.into_iter-seat-iterator.ensures.into_iter_gives.1);
   left = λ k s e.
       let h = c.requires k s (subst (λ (z : List _). get_elem? z k ≡ some s) c.into_iter-seat-iterator.ensures.into_iter_gives.0 e) in
       let at : k + 0 ≡ k + vec_len c.new-hands.result = omega (arith, c.new-hands.ensures.len) in
@@ -27,3 +27,12 @@ loop-seat-preserved g c =
       each = at_more (λ k hand. IsHandOf (c.args.line.now ∷ []) k (vec_items hand)) c.loop-seat.hands.items c.push.new.self.items c.in-Ok.hand more.items i.each
           (one_hand c.args.line.now (length c.loop-seat.hands.items) c.in-Some.seat c.in-Ok.hand.items c.in-Ok.ensures.ok (subst (λ (z : ℕ). IsIdleSeat z c.args.line.now c.in-Some.seat) here f.0));
     }
+
+pub returns : goal.returns
+returns g c = let i = c.loop-seat.invariant in record { err = tt; len = omega (arith, i.rest, c.in-None.ensures.steps.0); each = i.each }
+
+pub returns-in_default : goal.returns-in_default
+returns-in_default g c = record { err = refl; len = tt; each = tt }
+
+pub returns-in_default-push : goal.returns-in_default-push
+returns-in_default-push g c = record { err = refl; len = tt; each = tt }

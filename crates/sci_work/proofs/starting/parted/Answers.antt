@@ -1,10 +1,12 @@
 use Rattle.std.proofs.Common.{◌≡◌, ℕ, ◌+◌, ◌≤◌, ◌∙◌, List, IsOk, IfOk, vec_items, vec_len, vec_capacity, arith, ap, sym, subst}
+use Rattle.std.proofs.lemmas.Result.{IfOk-from_err}
 use Rattle.std.specs.Vec.Iter.{into_iter_items, into_iter_len}
 use mathlib.Core.Option.{some, some-ne-none}
 use lib.ListN.{get_elem?}
 use Rattle.sci_work.specs.Hands.{IsHandOf}
 use Rattle.sci_work.specs.Programs.{IsShareOf}
 use Rattle.sci_work.specs.Starts.{IsPartDone}
+use Rattle.sci_work.proofs.Residual.{passed_on}
 use Rattle.sci_work.proofs.Seated.{at_first, at_more, count_of, gone_over}
 use Rattle.sci_work.proofs.starting.parted.Goals as goal
 
@@ -49,3 +51,17 @@ loop-one-preserved g c =
       shares = at_more (λ k share. IsShareOf c.args.program k (vec_items share)) c.loop-one.shares.items c.push_reserved-in-loop-one.new.self.items c.in-Ok.share shared.items i.shares
           (subst (λ (z : ℕ). IsShareOf c.args.program z (vec_items c.in-Ok.share)) there (subst (λ r. IfOk r (λ s. IsShareOf c.args.program (vec_len c.loop-one.hands) s.items)) c.in-Ok.is f.0.share_is));
     }
+
+pub push_reserved-requires : goal.push_reserved-requires
+push_reserved-requires g c = let i = c.loop-one.invariant in omega (arith, i.rest, i.room, c.in-Some.ensures.steps.1)
+
+pub push_reserved-requires-in-loop-one : goal.push_reserved-requires-in-loop-one
+push_reserved-requires-in-loop-one g c = let i = c.loop-one.invariant in omega (arith, i.rest, i.same, i.share_room, c.in-Some.ensures.steps.1)
+
+pub returns : goal.returns
+returns g c =
+    let i = c.loop-one.invariant in let none = c.in-None.ensures.steps.0 in
+    record { ok = record { hand_count = omega (arith, i.rest, none); hands_are = i.hands; share_count = omega (arith, i.rest, i.same, none); shares_are = i.shares }; err = tt }
+
+pub returns-in_err-hands : goal.returns-in_err-hands
+returns-in_err-hands g c = let r = c.from_residual in record { ok = IfOk-from_err r.result _ r.ensures.0; err = passed_on r.result _ _ r.ensures.1 c.in_err-hands.ensures.err }

@@ -44,3 +44,12 @@ loop-hand-preserved g c =
       promised = λ k d low. or_more (λ i h. (h.promise.lines.now ≡ c.args.lines.now) × (h.promise.program ≡ c.args.program) × (h.promise.number ≡ i)) handles.items c.push_reserved.new.self.items handle more.items
           (λ i x less. was.promised i x (omega (arith, less, handles.ok))) (ap (λ x. x.lines.now) p, ap (λ x. x.program) p, ap (λ x. x.number) p ∙ (sym was.len ∙ count_of handles)) k d (omega (arith, low, c.push_reserved.new.self.ok));
     }
+
+pub push_reserved-requires : goal.push_reserved-requires
+push_reserved-requires g c = let was = c.loop-hand.invariant in omega (arith, was.len, was.rest, was.room, c.in-Some.ensures.steps.1)
+
+pub returns : goal.returns
+returns g c = let was = c.loop-hand.invariant in record { few = omega (arith, was.len, was.rest); each = was.promised }
+
+pub returns-in_default : goal.returns-in_default
+returns-in_default g c = let was = c.loop-hand.invariant in record { few = omega (arith, was.len, was.rest); each = was.promised }

@@ -1,4 +1,5 @@
-use Rattle.std.proofs.Common.{rules, ◌∙◌, sym, refl, IfErr, arith, subst}
+use Rattle.std.proofs.Common.{◌∙◌, sym, refl, IfErr, arith, subst}
+use Rattle.std.proofs.lemmas.Bool.{false≢true}
 use Rattle.sci_work.specs.Made.{ComesInWork, none}
 use Rattle.sci_work.specs.Ring.{IsRingSize}
 use Rattle.sci_work.proofs.Residual.{if_ok_same, on_ok_same}
@@ -7,11 +8,11 @@ use Rattle.sci_work.proofs.rings.consuming.consume.Goals as goal
 pub returns-then-not-is_ring_size : goal.returns-then-not-is_ring_size
 returns-then-not-is_ring_size g c =
     record {
-      limits = ((λ _ size. let e = c.is_ring_size.ensures.1 size in cc), λ _. refl);
+      limits = ((λ _ size. absurd (false≢true (c.if-not-is_ring_size.ensures.1 size))), λ _. refl);
       untouched = λ _. (refl, refl);
       items = tt;
       ok = tt;
-      err = λ size. absurd (let e = c.is_ring_size.ensures.1 size in cc);
+      err = λ size. absurd (false≢true (c.if-not-is_ring_size.ensures.1 size));
       ready = c.requires.ready;
       made = record { count = 0; within = omega arith; made = none };
       same_way = refl;
@@ -20,7 +21,7 @@ returns-then-not-is_ring_size g c =
 
 pub returns : goal.returns
 returns g c =
-    let size : IsRingSize c.args.n c.args.lines = c.is_ring_size.ensures.0 (search rules) in
+    let size : IsRingSize c.args.n c.args.lines = c.if-not-is_ring_size.ensures.0 refl in
     let ended = c.consumed-ended.ensures in
     let same = sym c.told.ensures in
     record {

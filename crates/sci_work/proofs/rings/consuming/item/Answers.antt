@@ -1,6 +1,5 @@
-use Rattle.std.proofs.Common.{refl, ◌∙◌}
+use Rattle.std.proofs.Common.{◌<◌, refl, sym, subst, ◌∙◌, arith}
 use Rattle.sci_work.specs.Made.{none}
-use Rattle.std.proofs.Common.{rules}
 use Rattle.sci_work.proofs.Items.{value_shown}
 use Rattle.sci_work.proofs.Making.{made_all}
 use Rattle.sci_work.proofs.Refusing.{of_call}
@@ -34,10 +33,12 @@ loop-preserved g c =
       fact = c.loaded.ensures.same_fact ∙ c.loop.invariant.fact;
     }
 
-pub returns-then-words-i : goal.returns-then-words-i
-returns-then-words-i g c =
+pub returns-then-words-number : goal.returns-then-words-number
+returns-then-words-number g c =
+    let line = c.line_of-line.result in let words = c.in_ok-words.words in
+    let fits = subst (λ k. g.B.Keep.Keeps.fits k line words) c.loop.invariant.fact c.in_ok-words.ensures.fits in
     record {
-      value = λ source ring. value_shown source c.args.lines _ c.in_ok-words.words c.args.i (search rules) (ring.gives _ _ (rw c.loop.invariant.fact at c.in_ok-words.ensures.fits)) (search rules);
+      value = λ source ring. value_shown source c.args.lines line words c.args.i c.line_of-line.ensures.inside (ring.gives line words fits) c.if-words-number.true;
       err = tt;
       ready = c.loaded.ensures.ready;
       made = made_all g.B.Bank.gives g.B.Bank.at_step c.loop.invariant.made c.loaded.ensures.made;
@@ -45,8 +46,8 @@ returns-then-words-i g c =
       same_fact = c.loaded.ensures.same_fact ∙ c.loop.invariant.fact;
     }
 
-pub returns-then-words-i-2 : goal.returns-then-words-i-2
-returns-then-words-i-2 g c =
+pub returns-then-words-number-2 : goal.returns-then-words-number-2
+returns-then-words-number-2 g c =
     record {
       value = tt;
       err = tt;
@@ -55,3 +56,9 @@ returns-then-words-i-2 g c =
       same_way = c.loaded.ensures.same_way ∙ c.loop.invariant.way;
       same_fact = c.loaded.ensures.same_fact ∙ c.loop.invariant.fact;
     }
+
+pub loaded-requires-clause-ready : goal.loaded-requires-clause-ready
+loaded-requires-clause-ready g c κs within = c.loop.invariant.ready
+
+pub loaded-requires-clause-line : goal.loaded-requires-clause-line
+loaded-requires-clause-line g c κs within = let room = c.requires.room.1 in subst (λ w. c.line_of-line.result < w.lines) (sym c.loop.invariant.way) (omega (arith, c.line_of-line.ensures.inside, room))

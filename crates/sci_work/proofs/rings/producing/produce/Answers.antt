@@ -1,4 +1,5 @@
-use Rattle.std.proofs.Common.{rules, ◌∙◌, sym, refl, length, IfErr, arith, subst}
+use Rattle.std.proofs.Common.{◌∙◌, sym, refl, length, IfErr, arith, subst}
+use Rattle.std.proofs.lemmas.Bool.{false≢true}
 use Rattle.sci_work.specs.Made.{ComesInCall, none}
 use Rattle.sci_work.specs.Ring.{IsRingSize}
 use Rattle.sci_work.proofs.Residual.{on_ok_same}
@@ -7,10 +8,10 @@ use Rattle.sci_work.proofs.rings.producing.produce.Goals as goal
 pub returns-then-not-is_ring_size : goal.returns-then-not-is_ring_size
 returns-then-not-is_ring_size g c =
     record {
-      limits = ((λ _ size. let e = c.is_ring_size.ensures.1 size in cc), λ _. refl);
+      limits = ((λ _ size. absurd (false≢true (c.if-not-is_ring_size.ensures.1 size))), λ _. refl);
       untouched = λ _. (refl, refl);
       ok = tt;
-      err = λ size. absurd (let e = c.is_ring_size.ensures.1 size in cc);
+      err = λ size. absurd (false≢true (c.if-not-is_ring_size.ensures.1 size));
       ready = c.requires.ready;
       made = record { count = 0; within = omega arith; made = none };
       same_way = refl;
@@ -19,7 +20,7 @@ returns-then-not-is_ring_size g c =
 
 pub returns : goal.returns
 returns g c =
-    let size : IsRingSize (length c.args.source.now) c.args.lines = c.is_ring_size.ensures.0 (search rules) in
+    let size : IsRingSize (length c.args.source.now) c.args.lines = c.if-not-is_ring_size.ensures.0 refl in
     let ended = c.produced-ended.ensures in
     let same = sym c.told.ensures in
     record {

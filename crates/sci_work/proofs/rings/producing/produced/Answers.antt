@@ -1,9 +1,9 @@
-use Rattle.std.proofs.Common.{rules, ◌≡◌, ℕ, List, length, refl, subst, ◌∙◌}
+use Rattle.std.proofs.Common.{◌≡◌, ◌<◌, ◌%◌, ℕ, List, length, refl, sym, subst, ◌∙◌, arith}
 use Rattle.std.proofs.lemmas.Result.{IfOk-from_err}
 use Rattle.sci_work.specs.Made.{Made, none}
-use Rattle.sci_work.specs.Ring.{item_writes}
+use Rattle.sci_work.specs.Ring.{FitsRing, item_writes}
 use Rattle.sci_work.proofs.Making.{made_all}
-use Rattle.sci_work.proofs.Items.{item_more}
+use Rattle.sci_work.proofs.Items.{item_fits, item_more}
 use Rattle.sci_work.proofs.Residual.{passed_on}
 use Rattle.sci_work.proofs.rings.producing.produced.Goals as goal
 
@@ -17,7 +17,7 @@ returns-in_err-free g c =
       ok = IfOk-from_err r.result _ r.ensures.0;
       err = passed_on r.result _ _ r.ensures.1 c.in_err-free.ensures.err;
       ready = c.free.ensures.ready;
-      made = record { count = c.loop-i.i; within = search rules; made = made_all g.B.Bank.gives g.B.Bank.at_step c.loop-i.invariant.made c.free.ensures.made };
+      made = record { count = c.loop-i.i; within = c.loop-i.auto.i-end; made = made_all g.B.Bank.gives g.B.Bank.at_step c.loop-i.invariant.made c.free.ensures.made };
       same_way = c.free.ensures.same_way ∙ c.loop-i.invariant.way;
       same_fact = c.free.ensures.same_fact ∙ c.loop-i.invariant.fact;
     }
@@ -31,7 +31,7 @@ returns-in_err-written g c =
       ready = c.written.ensures.ready;
       made = record {
         count = c.loop-i.i;
-        within = search rules;
+        within = c.loop-i.auto.i-end;
         made = made_all g.B.Bank.gives g.B.Bank.at_step (made_all g.B.Bank.gives g.B.Bank.at_step c.loop-i.invariant.made c.free.ensures.made) c.in_err-written.ensures.none;
       };
       same_way = c.written.ensures.same_way ∙ c.free.ensures.same_way ∙ c.loop-i.invariant.way;
@@ -45,7 +45,7 @@ loop-i-preserved g c =
       ready = c.written.ensures.ready;
       made =
           subst (λ (ws : List (ℕ × List ℕ)). Made g.B.Bank.gives g.B.Bank.at_step ws c.args.node.now c.args.bank.now c.written.new.node c.written.new.bank)
-          (item_more c.args.source.now c.args.lines c.loop-i.i _ _ (search rules) (search rules)) more;
+          (item_more c.args.source.now c.args.lines c.loop-i.i _ _ c.line_of-line.ensures.place c.words_of.ensures) more;
       way = c.written.ensures.same_way ∙ c.free.ensures.same_way ∙ c.loop-i.invariant.way;
       fact = c.written.ensures.same_fact ∙ c.free.ensures.same_fact ∙ c.loop-i.invariant.fact;
     }
@@ -53,12 +53,33 @@ loop-i-preserved g c =
 pub returns : goal.returns
 returns g c =
     let i = c.loop-i.invariant in
-    let all : c.loop-i.i ≡ length c.args.source.now = search rules in
+    let all : c.loop-i.i ≡ length c.args.source.now = omega (arith, c.loop-i.auto.i-end, c.loop-i-test.false) in
     record {
       ok = subst (λ (k : ℕ). Made g.B.Bank.gives g.B.Bank.at_step (item_writes c.args.source.now c.args.lines k) c.args.node.now c.args.bank.now c.loop-i.node c.loop-i.bank) all i.made;
       err = tt;
       ready = i.ready;
-      made = record { count = c.loop-i.i; within = search rules; made = i.made };
+      made = record { count = c.loop-i.i; within = c.loop-i.auto.i-end; made = i.made };
       same_way = i.way;
       same_fact = i.fact;
     }
+
+pub free-requires-clause-ready : goal.free-requires-clause-ready
+free-requires-clause-ready g c κs within = c.loop-i.invariant.ready
+
+pub free-requires-clause-room : goal.free-requires-clause-room
+free-requires-clause-room g c κs within = subst (λ w. c.args.lines < w.lines) (sym c.loop-i.invariant.way) c.requires.room
+
+pub written-requires-clause-ready : goal.written-requires-clause-ready
+written-requires-clause-ready g c κs within = c.free.ensures.ready
+
+pub written-requires-clause-line : goal.written-requires-clause-line
+written-requires-clause-line g c κs within =
+    subst (λ w. c.line_of-line.result < w.lines) (sym (c.free.ensures.same_way ∙ c.loop-i.invariant.way)) (omega (arith, c.line_of-line.ensures.inside, c.requires.room))
+
+pub written-requires-clause-fits : goal.written-requires-clause-fits
+written-requires-clause-fits g c κs within =
+    let line = c.line_of-line.result in let words = c.words_of.result in let source = c.args.source.now in let lines = c.args.lines in let i = c.loop-i.i in
+    let some = c.requires.size.1 in
+    let item = item_fits source lines i (omega (arith, some)) c.loop-i-test.true in
+    let there = subst (λ (k : ℕ). FitsRing source lines k words) (sym c.line_of-line.ensures.place) (subst (λ (ws : List ℕ). FitsRing source lines (i % lines) ws) (sym c.words_of.ensures) item) in
+    subst (λ k. g.B.Keep.Keeps.fits k line words) (sym (c.free.ensures.same_fact ∙ c.loop-i.invariant.fact)) (c.requires.ring.takes line words there)

@@ -1,5 +1,6 @@
-use Rattle.std.proofs.Common.{arith}
-use Rattle.std.proofs.lemmas.Result.{IfOk-from_err}
+use Rattle.std.proofs.Common.{arith, length, ◌∙◌}
+use Rattle.std.proofs.lemmas.List.{take_all}
+use Rattle.std.proofs.lemmas.Result.{IfOk-from_err, IfOk-weaker}
 use Rattle.sci_work.proofs.Refusing.{of_call}
 use Rattle.sci_work.proofs.Residual.{passed_on}
 use Rattle.sci_work.proofs.Resting.{ready_made}
@@ -34,12 +35,21 @@ returns-then-number-eq0 g c =
       same_fact = c.produced.ensures.same_fact;
     }
 
-pub returns-clause-ready : goal.returns-clause-ready
-returns-clause-ready g c =
-    (ready_made g.B.Bank.gives g.B.Bank.at_step g.B.Bank.nodes_on (λ u line. g.B.Keep.Keeps.fits (g.B.Bank.keep u) line) (λ u. (g.B.Bank.way u).node) (λ u line call v h. g.met.B.Bank.owes u line call v h) (λ u line call v h. g.met.B.Bank.others u line call v h)
-    (g.B.Bank.way c.args.bank.now) _ c.requires.ready c.consumed.ensures.ready c.consumed.ensures.made.made).0
+pub returns : goal.returns
+returns g c =
+    let e = c.consumed.ensures in
+    let rested =
+    ready_made g.B.Bank.gives g.B.Bank.at_step g.B.Bank.nodes_on (λ u line. g.B.Keep.Keeps.fits (g.B.Bank.keep u) line) (λ u. (g.B.Bank.way u).node) (λ u line call v h. g.met.B.Bank.owes u line call v h) (λ u line call v h. g.met.B.Bank.others u line call v h)
+    (g.B.Bank.way c.args.bank.now) _ c.requires.ready e.ready e.made.made in
+    let source = c.args.source.now in
+    record {
+      share = IfOk-weaker c.consumed.result _ _ (λ v read _. read source c.requires.ring (omega arith) ∙ take_all (length source) source (omega arith)) e.items;
+      err = e.err;
+      ready = rested.0;
+      led = rested.1;
+      same_way = e.same_way;
+      same_fact = e.same_fact;
+    }
 
-pub returns-clause-led : goal.returns-clause-led
-returns-clause-led g c =
-    (ready_made g.B.Bank.gives g.B.Bank.at_step g.B.Bank.nodes_on (λ u line. g.B.Keep.Keeps.fits (g.B.Bank.keep u) line) (λ u. (g.B.Bank.way u).node) (λ u line call v h. g.met.B.Bank.owes u line call v h) (λ u line call v h. g.met.B.Bank.others u line call v h)
-    (g.B.Bank.way c.args.bank.now) _ c.requires.ready c.consumed.ensures.ready c.consumed.ensures.made.made).1
+pub consumed-requires-clause-ring : goal.consumed-requires-clause-ring
+consumed-requires-clause-ring g c κs within = record { source = c.args.source.now; ring = c.requires.ring; enough = omega arith }

@@ -1,9 +1,10 @@
-use Rattle.std.proofs.Common.{◌+◌, ◌%◌, arith, ◌∙◌}
+use Rattle.std.proofs.Common.{ℕ, ◌<◌, ◌+◌, ◌%◌, arith, sym, subst, ◌∙◌}
 use Rattle.std.proofs.lemmas.Result.{IfErr-weaker}
 use Rattle.sci_work.specs.Made.{ComesInCall, ComesInWork}
+use Rattle.sci_work.specs.Stencil.{FitsStencil}
 use Rattle.sci_work.proofs.Exits.{passed_on}
 use Rattle.sci_work.proofs.Refusing.{of_call}
-use Rattle.sci_work.proofs.Showing.{advanced_holds, fitting}
+use Rattle.sci_work.proofs.Showing.{advanced_holds, fitting, work_again}
 use Rattle.sci_work.proofs.Rests.{led_then}
 use Rattle.sci_work.proofs.Resting.{ready_written}
 use Rattle.sci_work.proofs.stencils.worker.advance.Goals as goal
@@ -14,7 +15,8 @@ returns-in_err-own g c =
     record { err = passed_on r.result _ ComesInWork r.ensures.1 c.in_err-own.ensures.err; ready = own.ready; led = own.led; same_way = own.same_way; same_fact = own.same_fact }
 
 pub cell_before-requires-clause-work : goal.cell_before-requires-clause-work
-cell_before-requires-clause-work g c κs within = let own = c.awaited.ensures in rw (own.same_fact, own.same_way) c.requires.work
+cell_before-requires-clause-work g c κs within = let own = c.awaited.ensures in let work = c.args.work in
+    work_again g.B.Keep.Keeps.fits work.cells.now work.phases work.tiles _ _ _ _ own.same_fact own.same_way c.requires.work
 
 pub returns-in_err-left : goal.returns-in_err-left
 returns-in_err-left g c =
@@ -29,8 +31,8 @@ returns-in_err-left g c =
 
 pub cell_behind-requires-clause-work : goal.cell_behind-requires-clause-work
 cell_behind-requires-clause-work g c κs within =
-    let own = c.awaited.ensures in let left = c.cell_before.ensures in
-    rw (left.same_fact ∙ own.same_fact, left.same_way ∙ own.same_way) c.requires.work
+    let own = c.awaited.ensures in let left = c.cell_before.ensures in let work = c.args.work in
+    work_again g.B.Keep.Keeps.fits work.cells.now work.phases work.tiles _ _ _ _ (left.same_fact ∙ own.same_fact) (left.same_way ∙ own.same_way) c.requires.work
 
 pub returns-in_err-right : goal.returns-in_err-right
 returns-in_err-right g c =
@@ -49,8 +51,8 @@ written-requires-clause-ready g c κs within = let r = c.cell_behind.ensures.rea
 pub written-requires-clause-line : goal.written-requires-clause-line
 written-requires-clause-line g c κs within =
     let same = c.cell_behind.ensures.same_way ∙ c.cell_before.ensures.same_way ∙ c.awaited.ensures.same_way in
-    let low = c.requires.tile in
-    rw (same, c.requires.work.lines_are) (omega (arith, low))
+    let low = c.requires.tile in let lines = c.requires.work.lines_are in
+    subst (λ w. c.line_at-line.result < w.lines) (sym same) (omega (arith, low, lines, c.line_at-line.ensures))
 
 pub written-requires-clause-fits : goal.written-requires-clause-fits
 written-requires-clause-fits g c κs within =
@@ -60,7 +62,13 @@ written-requires-clause-fits g c κs within =
     let next = c.advanced.result in
     let number = c.in_ok-own.ensures.number in
     let holds = advanced_holds cells phase tile c.in_ok-left.left c.in_ok-own.own c.in_ok-right.right next c.in_ok-own.ensures.cells c.in_ok-left.ensures.cell c.in_ok-right.ensures.cell (omega arith) c.advanced.ensures.cells in
-    rw same (work.takes _ _ (fitting cells c.args.work.phases tile ((phase + 1) % 2) next (phase + 1) (omega arith) (omega arith) (omega arith) (omega (arith, c.advanced.ensures.phase)) holds))
+    let fits = fitting cells c.args.work.phases tile ((phase + 1) % 2) next (phase + 1) (omega arith) (omega arith) (omega arith) (omega (arith, c.advanced.ensures.phase)) holds in
+    let line = c.line_at-line.result in
+    let there = subst (λ (l : ℕ). FitsStencil cells c.args.work.phases l next) (sym c.line_at-line.ensures) fits in
+    subst (λ k. g.B.Keep.Keeps.fits k line next) (sym same) (work.takes line next there)
+
+pub line_at-line-requires : goal.line_at-line-requires
+line_at-line-requires g c = let low = c.requires.tile in let few = c.requires.work.few in omega (arith, low, few)
 
 pub returns : goal.returns
 returns g c =

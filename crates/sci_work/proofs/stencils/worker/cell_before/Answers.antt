@@ -1,11 +1,33 @@
+use Rattle.std.proofs.Common.{◌≡◌, ℕ, ◌+◌, ◌-◌, ◌*◌, suc, ◌∷◌, slice_index, arith, ap, refl, sym, ◌∙◌}
 use Rattle.std.proofs.lemmas.Result.{IfOk-from_err}
 use Rattle.sci_work.specs.Made.{ComesInWork}
+use Rattle.sci_work.specs.Plain.{plain}
 use Rattle.sci_work.proofs.Exits.{passed_on}
 use Rattle.sci_work.proofs.Rests.{led_not}
 use Rattle.sci_work.proofs.stencils.worker.cell_before.Goals as goal
 
-pub returns-then-tile-eq0-clause-led : goal.returns-then-tile-eq0-clause-led
-returns-then-tile-eq0-clause-led g c = led_not _
+pub returns-then-tile-eq0 : goal.returns-then-tile-eq0
+returns-then-tile-eq0 g c = record {
+  cell = ap (λ (t : ℕ). slice_index (0 ∷ plain c.args.work.cells.now c.args.phase) (7 * t)) (sym c.if-tile-eq0.true);
+  err = tt;
+  ready = c.requires.ready;
+  led = led_not _;
+  same_way = refl;
+  same_fact = refl;
+}
+
+pub returns : goal.returns
+returns g c =
+    let e = c.awaited.ensures in let tile = c.args.tile in
+    let at : suc (7 * (tile - 1) + 6) ≡ 7 * tile = omega (arith, c.if-tile-eq0.false) in
+    record {
+      cell = c.in_ok-words.ensures.cells 6 (omega arith) ∙ ap (λ (i : ℕ). slice_index (0 ∷ plain c.args.work.cells.now c.args.phase) i) at;
+      err = tt;
+      ready = e.ready;
+      led = e.led;
+      same_way = e.same_way;
+      same_fact = e.same_fact;
+    }
 
 pub returns-in_err-words : goal.returns-in_err-words
 returns-in_err-words g c =

@@ -1,6 +1,6 @@
 use Rattle.std.proofs.Common.{◌≡◌, []}
 use Rattle.sci_work.specs.Made.{IsBankOf, Made}
-use Rattle.sci_work.proofs.rings.producing.free.Given as goal
+use Rattle.sci_work.proofs.rings.producing.consumed_up_to.Given as goal
 
 abbrev pub invariant-loop : goal.invariant-loop
 invariant-loop g l =

@@ -1,0 +1,49 @@
+use Rattle.std.proofs.Common.{◌≡◌, ◌∷◌, [], ℕ, List, length, refl, ap, sym, subst, IfErr}
+use Rattle.std.proofs.lemmas.List.Elements.{All-cons, All-nil}
+use Rattle.std.proofs.lemmas.Result.{IfOk-from_err}
+use Rattle.std.specs.Prelude.{slice_index}
+use Rattle.sci_core.specs.Closed.{ClosedLine}
+use Rattle.sci_work.specs.Ended.{HaveNodes, IsCountSize}
+use Rattle.sci_work.specs.Starts.{ComesInStart}
+use Rattle.sci_work.specs.declared.programs.Program.{Program}
+use Rattle.sci_work.proofs.Refusing.{in_count}
+use Rattle.sci_work.proofs.Residual.{passed_on}
+use Rattle.sci_work.proofs.counting.count.Goals as goal
+
+pub value_of-requires : goal.value_of-requires
+value_of-requires g c = c.in_ok-closed.ensures.ok
+
+pub returns-then-not-is_count_size : goal.returns-then-not-is_count_size
+returns-then-not-is_count_size g c = record {
+  limits = ((λ _ size. let e = c.is_count_size.ensures.1 size in cc), λ _. refl);
+  ok = tt;
+  nodes = tt;
+  err = tt;
+}
+
+pub returns-in_err-closed : goal.returns-in_err-closed
+returns-in_err-closed g c =
+    let r = c.from_residual in let size : IsCountSize c.args.nodes c.args.adds c.args.capacity = c.if-not-is_count_size.ensures.0 refl in
+    let comes = c.in_err-closed.ensures.err in
+    record {
+      limits = ((λ e _. subst (λ z. IfErr z (ComesInStart (Program.Count c.args.adds))) e (passed_on r.result _ _ r.ensures.1 comes)), λ no. absurd (no size));
+      ok = IfOk-from_err r.result _ r.ensures.0;
+      nodes = IfOk-from_err r.result _ r.ensures.0;
+      err = passed_on r.result _ _ r.ensures.1 (in_count c.args.adds _ comes);
+    }
+
+pub returns-in_default : goal.returns-in_default
+returns-in_default g c =
+    let size : IsCountSize c.args.nodes c.args.adds c.args.capacity = c.if-not-is_count_size.ensures.0 refl in
+    record { limits = ((λ e _. cc), λ no. absurd (no size)); ok = tt; nodes = tt; err = tt }
+
+pub returns : goal.returns
+returns g c =
+    let size : IsCountSize c.args.nodes c.args.adds c.args.capacity = c.if-not-is_count_size.ensures.0 refl in
+    let closed = c.in_ok-closed.closed in let told = c.in_ok-closed.ensures in
+    record {
+      limits = ((λ e _. cc), λ no. absurd (no size));
+      ok = (closed, c.in-Ok.ensures.items, told.ok, ap (λ l. slice_index l.words 0) c.value_of.ensures);
+      nodes = subst (λ (z : List _). HaveNodes c.args.nodes z) (sym c.in-Ok.ensures.items) (All-cons (λ (x : ClosedLine). length x.tags ≡ c.args.nodes) closed [] told.nodes (All-nil _));
+      err = tt;
+    }

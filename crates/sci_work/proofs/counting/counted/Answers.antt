@@ -1,0 +1,82 @@
+use Rattle.std.proofs.Common.{◌≡◌, ◌∷◌, [], ℕ, List, refl, sym, subst, ◌∙◌, arith, vec_len}
+use Rattle.std.proofs.lemmas.Result.{IfOk-from_err, IfOk-weaker, IfErr-weaker}
+use mathlib.Core.Option.{some-ne-none}
+use Rattle.sci_core.specs.declared.keeps.AnyWords.{AnyWords}
+use Rattle.sci_fine.specs.Banks.{IsLine}
+use Rattle.sci_work.specs.Hands.{AtEach, IsHandOf}
+use Rattle.sci_work.specs.Starts.{AreParts}
+use Rattle.sci_work.specs.declared.programs.Program.{Program}
+use Rattle.sci_work.proofs.Opening.{parts_of}
+use Rattle.sci_work.proofs.Refusing.{of_memory}
+use Rattle.sci_work.proofs.Residual.{passed_on}
+use Rattle.sci_work.proofs.Seated.{at_more}
+use Rattle.sci_work.proofs.counting.counted.Goals as goal
+
+abbrev any_words : AnyWords → ℕ → List ℕ → Type 0
+any_words keep line words = Unit {0}
+
+pub zeroed-requires : goal.zeroed-requires
+zeroed-requires g c = record { nodes = c.requires; fits = tt }
+
+pub dealt-requires : goal.dealt-requires
+dealt-requires g c = c.in_ok-line.ensures.seats
+
+pub run_all-requires-after_bounds : goal.run_all-requires-after_bounds
+run_all-requires-after_bounds g c κs within =
+    let line = c.in_ok-line.line in let hands = c.in_ok-hands.hands in let program = Program.Count c.args.adds in
+    let len : vec_len hands ≡ c.args.nodes = c.in_ok-hands.ensures.len ∙ c.in_ok-line.ensures.len in
+    let is_line = at_more (IsLine c.args.nodes _) [] (line ∷ []) line refl (λ k x e. absurd (some-ne-none x (sym e))) c.in_ok-line.ensures.line in
+    subst (λ (z : List _). AreParts any_words z program hands) (sym c.from_ref.ensures.value)
+    (parts_of any_words c.args.nodes _ 1 program (line ∷ []) hands refl (omega arith) (omega arith) is_line len c.requires.1 c.in_ok-hands.ensures.each (λ k low. (omega arith, λ words size fits. tt)))
+
+pub gathered-requires : goal.gathered-requires
+gathered-requires g c =
+    subst (λ (z : List _). AtEach (λ k hand. IsHandOf z k hand.items) c.in_ok-hands-2.hands.items) c.from_ref.ensures.value c.in_ok-hands-2.ensures.ok.hands_are
+
+pub finished-requires : goal.finished-requires
+finished-requires g c = c.in_ok-seats.ensures.ok
+
+pub returns : goal.returns
+returns g c =
+    let ended = c.finished in
+    record {
+      ok = IfOk-weaker ended.result _ _ (λ closed h. h.exact) ended.ensures.ok;
+      nodes = IfOk-weaker ended.result _ _ (λ closed h. h.nodes ∙ c.in_ok-line.ensures.line.nodes_are) ended.ensures.ok;
+      err = IfErr-weaker ended.result _ _ (of_memory (Program.Count c.args.adds)) ended.ensures.err;
+    }
+
+pub returns-in_err-line : goal.returns-in_err-line
+returns-in_err-line g c =
+    let r = c.from_residual in
+    record {
+      ok = IfOk-from_err r.result _ r.ensures.0;
+      nodes = IfOk-from_err r.result _ r.ensures.0;
+      err = passed_on r.result _ _ r.ensures.1 (of_memory (Program.Count c.args.adds) _ c.in_err-line.ensures.err);
+    }
+
+pub returns-in_err-hands : goal.returns-in_err-hands
+returns-in_err-hands g c =
+    let r = c.from_residual-in_err-hands in
+    record {
+      ok = IfOk-from_err r.result _ r.ensures.0;
+      nodes = IfOk-from_err r.result _ r.ensures.0;
+      err = passed_on r.result _ _ r.ensures.1 (of_memory (Program.Count c.args.adds) _ c.in_err-hands.ensures.err);
+    }
+
+pub returns-in_err-hands-2 : goal.returns-in_err-hands-2
+returns-in_err-hands-2 g c =
+    let r = c.from_residual-in_err-hands-2 in
+    record {
+      ok = IfOk-from_err r.result _ r.ensures.0;
+      nodes = IfOk-from_err r.result _ r.ensures.0;
+      err = passed_on r.result _ _ r.ensures.1 c.in_err-hands-2.ensures.err;
+    }
+
+pub returns-in_err-seats : goal.returns-in_err-seats
+returns-in_err-seats g c =
+    let r = c.from_residual-in_err-seats in
+    record {
+      ok = IfOk-from_err r.result _ r.ensures.0;
+      nodes = IfOk-from_err r.result _ r.ensures.0;
+      err = passed_on r.result _ _ r.ensures.1 (of_memory (Program.Count c.args.adds) _ c.in_err-seats.ensures.err);
+    }
