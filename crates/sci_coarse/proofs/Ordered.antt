@@ -1,5 +1,5 @@
 -- Seats in order.
-use Rattle.std.proofs.Common.{◌≡◌, ◌⊎◌, ℕ, suc, ◌+◌, ◌<◌, ◌≤◌, inl, inr, List, [], ◌∷◌, ◌++◌, length, get_or, take, drop, length-append, refl, sym, ap, ◌∙◌, subst, ⊎_elim, arith}
+use Rattle.std.proofs.Common.{◌≡◌, ◌⊎◌, ℕ, zero, suc, ◌+◌, ◌<◌, ◌≤◌, inl, inr, List, [], ◌∷◌, ◌++◌, length, get_or, take, drop, length-append, refl, sym, ap, ◌∙◌, subst, ⊎_elim, arith}
 use mathlib.Core.Logic.{dite}
 use mathlib.Core.Option.{some, some-injective, some-ne-none}
 use native.Mathlib.Decide.{ℕ_discrete}
@@ -30,6 +30,10 @@ module _ {K : Type 0} {g : keeps.Ghosts K} (l : CoarseLine K) where
 
   pub last_of : (from : ℕ) (seats fewer : List (Seat K g)) (s : Seat K g) → AreIdleFrom l from seats → seats ≡ fewer ++ s ∷ [] → (IsSeatOf l s × (s.node ≡ length fewer + from) × (s.standing.pending ≡ Pending.Idle)) × AreIdleFrom l from fewer
   last_of from seats fewer s all is = let go = subst (AreIdleFrom l from) is all in (go (length fewer) s (at_last fewer s (length fewer) refl), (λ k u e. go k u (at_longer fewer (s ∷ []) k u e)))
+
+  pub one_before : (seats : List (Seat K g)) (s : Seat K g) → AreIdleFrom l 1 seats → IsSeatOf l s → s.node ≡ 0 → s.standing.pending ≡ Pending.Idle → AreIdleFrom l 0 (s ∷ seats)
+  one_before seats s old of node idle zero u e = subst (λ (z : Seat K g). IsSeatOf l z × (z.node ≡ 0) × (z.standing.pending ≡ Pending.Idle)) (some-injective s u e) (of, node, idle)
+  one_before seats s old of node idle (suc k) u e = let h = old k u e in (h.0, (let n = h.1 in omega arith), h.2)
 
 module _ {K : Type 0} {g : keeps.Ghosts K} where
   -- the view keeps the logs of the first seat, and of those from this place on

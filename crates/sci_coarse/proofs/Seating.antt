@@ -1,5 +1,5 @@
 -- A line is opened, and seats are split off or joined to the first.
-use Rattle.std.proofs.Common.{◌≡◌, ◌≢◌, Result, Ok, Err, ℕ, zero, suc, ◌+◌, ◌<◌, ◌≤◌, true, false, Some, None, List, [], ◌∷◌, ◌++◌, length, replicate, get_or, set, refl, sym, ap, ◌∙◌, subst, inl, inr, ⊎_elim, arith, length-set, length-append}
+use Rattle.std.proofs.Common.{◌≡◌, ◌≢◌, ℕ, zero, suc, ◌+◌, ◌<◌, ◌≤◌, true, false, Some, None, List, [], ◌∷◌, ◌++◌, length, replicate, get_or, set, refl, sym, ap, ◌∙◌, subst, inl, inr, ⊎_elim, arith, length-set, length-append}
 use Rattle.std.proofs.lemmas.List.{length-replicate}
 use mathlib.Core.Logic.{dite}
 use mathlib.Core.Option.{some, some-injective, some-ne-none}
@@ -7,7 +7,6 @@ use native.Mathlib.Decide.{ℕ_discrete}
 use lib.ListN.{get_elem?}
 use Rattle.atomic_table.specs.Table.{opening, Splits, Joins}
 use Rattle.atomic_table.proofs.Lists.{at_set, set_here, set_else, at_longer}
-use Rattle.sci_core.specs.declared.outcomes.OpenRefusal.{OpenRefusal}
 use Rattle.sci_core.specs.declared.pending.Pending.{Pending}
 use Rattle.sci_core.specs.State.{invalid}
 use Rattle.sci_core.specs.Whole.{WholeLine, nodes_of, state_of, opened_whole}
@@ -199,18 +198,11 @@ module _ {K : Type 0} (fits : K → ℕ → List ℕ → Type 0) (t : Terms K) w
       (at_set s.views id j u x a.1))
       (at_set views other j gone x e))
 
-pub opens : {K : Type 0} (fits : K → ℕ → List ℕ → Type 0) (t : Terms K) (w : WholeLine K) (ws : List ℕ) (xs : List (WholeLine K)) → ws ≡ 0 ∷ [] → xs ≡ w ∷ [] → w ≡ opened_whole t.keep t.number t.nodes t.opening → IsLawfulWhole fits w → fits t.keep t.number t.opening.words → 0 < nodes_of w → Locked fits t (opening ws xs (first_view t))
-opens {K} fits t w ws xs words slots is lawful fit more = subst (λ (z : List ℕ × List (WholeLine K)). Locked fits t (opening z.0 z.1 (first_view t))) (λ i. (sym words i, sym slots i)) (opens_at fits t w is lawful fit (let count : nodes_of w ≡ t.nodes = ap (λ (v : WholeLine K). nodes_of v) is ∙ length-replicate t.nodes invalid in omega arith))
+pub opens : {K : Type 0} (fits : K → ℕ → List ℕ → Type 0) (t : Terms K) (w : WholeLine K) (ws : List ℕ) (xs : List (WholeLine K)) → ws ≡ 0 ∷ [] → xs ≡ w ∷ [] → w ≡ opened_whole t.keep t.number t.nodes t.opening → IsLawfulWhole fits w → fits t.keep t.number t.opening.words → 0 < t.nodes → Locked fits t (opening ws xs (first_view t))
+opens {K} fits t w ws xs words slots is lawful fit more = subst (λ (z : List ℕ × List (WholeLine K)). Locked fits t (opening z.0 z.1 (first_view t))) (λ i. (sym words i, sym slots i)) (opens_at fits t w is lawful fit more)
 
 pub splits_as : {K : Type 0} (fits : K → ℕ → List ℕ → Type 0) (t key : Terms K) (id : ℕ) (v : View K) → key ≡ t → v.of ≡ Some t → v.holds ≡ false → 0 < v.next → v.next < t.nodes → v.joined ≡ t.nodes → Splits (Locked fits key) id v (split_view v) (new_view v)
 splits_as {K} fits t key id v is live unheld some_next below whole = subst (λ (k : Terms K). Splits (Locked fits k) id v (split_view v) (new_view v)) (sym is) (splits fits t id v live unheld some_next below whole)
 
 pub joins_as : {K : Type 0} (fits : K → ℕ → List ℕ → Type 0) (t key : Terms K) (id : ℕ) (v : View K) (other : ℕ) (w : View K) → key ≡ t → v.of ≡ Some t → v.holds ≡ false → w.of ≡ Some t → w.holds ≡ false → w.node + 1 ≡ v.joined → w.pending ≡ Pending.Idle → Joins (Locked fits key) id v other w (joined_view v w) spent_view
 joins_as {K} fits t key id v other w is live unheld live' unheld' next idle = subst (λ (k : Terms K). Joins (Locked fits k) id v other w (joined_view v w) spent_view) (sym is) (joins fits t id v other w live unheld live' unheld' next idle)
-
--- where a line was opened, no refusal is that of a number of nodes
-pub refuses_else : {A B P : Type 0} (a : A) (r : Result B OpenRefusal) → (P → ◌≡◌ {A = Result A OpenRefusal} (Ok a) (Err OpenRefusal.BadNodes)) → (r ≡ Err OpenRefusal.BadNodes → ⊥) → (r ≡ Err OpenRefusal.BadNodes → P) × (P → r ≡ Err OpenRefusal.BadNodes)
-refuses_else a r opened else = (λ h. absurd (else h), λ p. let h = opened p in absurd cc)
-
-pub for_memory : {B : Type 0} (r : Result B OpenRefusal) → ((y : OpenRefusal) × (r ≡ Err y) × (y ≡ OpenRefusal.OutOfMemory)) → r ≡ Err OpenRefusal.BadNodes → ⊥
-for_memory r p h = let e = p.1 in let q = p.2 in cc

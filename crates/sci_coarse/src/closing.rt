@@ -1,5 +1,5 @@
 //! How a line is closed, and its seats with it.
-ghost use Rattle.std.specs.Prelude.{◌≡◌, ℕ, ◌↔◌, ◌<◌, ◌≤◌, Some, false, IsTrue, IfOk, IfErr, vec_len};
+ghost use Rattle.std.specs.Prelude.{◌≡◌, ℕ, ◌↔◌, ◌<◌, ◌≤◌, Some, false, IsTrue, IfOk, IfErr, [], vec_len, vec_capacity};
 ghost use Rattle.sci_core.specs.declared.pending.Pending.TheVariants.{Idle};
 ghost use Rattle.sci_core.specs.Whole.{nodes_of, state_of};
 ghost use Rattle.sci_coarse.specs.Rule.{IsOn, IsLawfulWhole};
@@ -9,9 +9,9 @@ ghost use Rattle.sci_coarse.specs.Ends.{IsEnd, IsRun, KeepsLogs};
 use crate::line::CoarseLine;
 use crate::seats::{Seat, Token};
 use crate::views::Together;
-use sci_core::{Closed, Keeps, Whole};
-use sci_words::LineNo;
-use std::alloc::Global;
+use sci_core::{Closed, Keeps, Line, Whole};
+use sci_words::{LineNo, Tag};
+use std::alloc::{AllocError, Global};
 
 /// A line that was not closed. The line and the seats come back as they were.
 #[derive(Drop)]
@@ -27,6 +27,15 @@ fn sits_at<K: Keeps>(seat: &Seat<K>, place: usize, number: LineNo) -> bool
     ensures { IsTrue result ↔ SitsAt number place seat.now }
 {
     usize::from(seat.node().get()) == place && seat.number() == number
+}
+
+// Room for the tags and the lines of so many nodes.
+fn room_for(alloc: Global, nodes: u16) -> Result<(Vec<Tag>, Vec<Line>), AllocError>
+    ensures { IfOk result (λ room. (room.0.items ≡ []) × (room.1.items ≡ []) × (nodes ≤ vec_capacity room.0) × (nodes ≤ vec_capacity room.1)) }
+{
+    let tags = Vec::with_capacity(alloc, usize::from(nodes))?;
+    let lines = Vec::with_capacity(alloc, usize::from(nodes))?;
+    Ok((tags, lines))
 }
 
 impl<K: Keeps> CoarseLine<K> {
@@ -61,11 +70,7 @@ impl<K: Keeps> CoarseLine<K> {
                 refusal: 9,
             });
         }
-        let count = usize::from(self.terms.nodes);
-        let (Ok(tags), Ok(lines)) = (
-            Vec::with_capacity(alloc, count),
-            Vec::with_capacity(alloc, count),
-        ) else {
+        let Ok((tags, lines)) = room_for(alloc, self.terms.nodes) else {
             return Err(FinishRefusal {
                 line: self,
                 seats,

@@ -1,6 +1,7 @@
 //! How a line is made, with its seats.
 ghost use Rattle.std.specs.Prelude.{◌≡◌, ◌<◌, ◌≤◌, ◌⊎◌, ◌↔◌, ℕ, Some, false, [], IfOk, vec_len, vec_capacity};
 ghost use Rattle.sci_core.specs.declared.pending.Pending.TheVariants.{Idle};
+ghost use Rattle.sci_coarse.specs.Rule.{IsLawfulWhole, opened_on};
 ghost use Rattle.sci_coarse.specs.Seats.{AreIdleFrom, AreNew, HasTerms};
 ghost use Rattle.sci_coarse.specs.Views.{first_view};
 
@@ -11,7 +12,7 @@ use crate::views::{Apart, Terms};
 use atomic_table::Table;
 use sci_core::{Keeps, Line, OpenRefusal, Whole};
 use sci_words::{LineNo, NodeId};
-use std::alloc::Global;
+use std::alloc::{AllocError, Global};
 
 // A seat in no step.
 fn idle_seat<K: Keeps>(token: Token<K>, node: NodeId, terms: Terms<K>) -> Seat<K>
@@ -57,24 +58,51 @@ impl<K: Keeps> CoarseLine<K> {
         ensures seats { IfOk result (λ r. (vec_len r.1 ≡ nodes) × AreIdleFrom r.0 0 r.1.items) }
         ensures new { IfOk result (λ r. AreNew r.1.items) }
     {
-        let whole = Whole::open(alloc, nodes, number, line, keep)?;
-        // What is opened is lawful.
-        let _ = whole.nodes();
-        let mut seats = Vec::with_capacity(alloc, usize::from(nodes))?;
-        let mut slots = Vec::with_capacity(alloc, 1)?;
-        slots.push_reserved(whole);
+        if nodes == 0 || nodes > 64 {
+            return Err(OpenRefusal::BadNodes);
+        }
         let terms = Terms {
             nodes,
             number,
             opening: line,
             keep,
         };
-        let Ok((table, root)) = Table::new(alloc, &[0], slots, &terms) else {
+        let mut seats = Vec::with_capacity(alloc, usize::from(nodes))?;
+        let Ok((line, root)) = CoarseLine::open(alloc, terms) else {
             return Err(OpenRefusal::OutOfMemory);
         };
-        let line = CoarseLine { table, terms };
         line.seat_all(root, &mut seats);
         Ok((line, seats))
+    }
+
+    // A line that nobody has used, and the token of its first seat.
+    fn open(alloc: Global, terms: Terms<K>) -> Result<(CoarseLine<K>, Token<K>), AllocError>
+        requires fits { K.fits terms.keep terms.number terms.opening.words }
+        requires nodes { (0 < terms.nodes) × (terms.nodes ≤ 64) }
+        ensures { IfOk result (λ r. (r.0.terms ≡ terms) × (r.1.table_id ≡ r.0.table.shared.table_id) × (r.1.me ≡ (first_view terms, []))) }
+    {
+        let whole = CoarseLine::whole_of(alloc, terms)?;
+        let mut slots = Vec::with_capacity(alloc, 1)?;
+        slots.push_reserved(whole);
+        let Ok((table, root)) = Table::new(alloc, &[0], slots, &terms) else {
+            return Err(AllocError);
+        };
+        Ok((CoarseLine { table, terms }, root))
+    }
+
+    // The whole line, as nobody has used it.
+    fn whole_of(alloc: Global, terms: Terms<K>) -> Result<Whole<K>, AllocError>
+        requires fits { K.fits terms.keep terms.number terms.opening.words }
+        requires nodes { (0 < terms.nodes) × (terms.nodes ≤ 64) }
+        ensures { IfOk result (λ whole. (whole ≡ opened_on terms) × IsLawfulWhole K.fits whole) }
+    {
+        let Ok(whole) = Whole::open(alloc, terms.nodes, terms.number, terms.opening, terms.keep)
+        else {
+            return Err(AllocError);
+        };
+        // What is opened is lawful.
+        let _ = whole.nodes();
+        Ok(whole)
     }
 
     // Makes all seats, in room that was taken before.

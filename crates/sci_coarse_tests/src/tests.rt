@@ -119,6 +119,14 @@ fn opens_and_finishes_with_1_to_64_nodes(rt: HostRuntime) {
     }
 }
 
+// A line of two nodes was closed as it was opened.
+fn is_unused(rt: &impl Abort, closed: &Closed) {
+    same(rt, &closed.mem, &HOME);
+    same(rt, &closed.memory, &OPENING);
+    same(rt, &closed.tags.as_slice(), &[INVALID; 2].as_slice());
+    same(rt, &closed.lines.as_slice(), &[OPENING; 2].as_slice());
+}
+
 #[test]
 fn finishes_with_seats_in_order(rt: HostRuntime) -> Result<(), Fail> {
     let (line, zero, one) = opened(rt.alloc(), OPENING).ok_or("no line")?;
@@ -128,15 +136,11 @@ fn finishes_with_seats_in_order(rt: HostRuntime) -> Result<(), Fail> {
     let Ok(closed) = closed(rt.alloc(), line, zero, one) else {
         panic!(rt; "it was refused")
     };
-    same(&rt, &closed.mem, &HOME);
-    same(&rt, &closed.memory, &OPENING);
-    same(&rt, &closed.tags.as_slice(), &[INVALID; 2].as_slice());
-    same(&rt, &closed.lines.as_slice(), &[OPENING; 2].as_slice());
+    is_unused(&rt, &closed);
     Ok(())
 }
 
 // One turn, which leaves the port to the same seat of the same line.
-#[tactic(auto, using(sci_ops::proofs::Storing::any_store_fits))]
 fn turn(port: &mut CoarsePort<'_, AnyWords>, op: &mut Op) -> Turn
     ensures same_line { port.new.line ≡ port.old.line }
     ensures same_reference { port.new.seat.ghost_name ≡ port.old.seat.ghost_name }
@@ -196,6 +200,15 @@ fn both<R: Threads + Wait + Sync>(
     )
 }
 
+// What two nodes added is in the line, with a stamp for each.
+fn has_all_added(rt: &impl Abort, closed: &Closed) -> Result<(), Fail> {
+    let head = closed.mem.forw.ok_or("no list")?;
+    let line = closed.lines.get(usize::from(head.get())).ok_or("no line")?;
+    same(rt, &line.words[0], &(2 * ADDS));
+    same(rt, &line.stamp, &(2 * ADDS));
+    Ok(())
+}
+
 #[test]
 fn two_threads_add(rt: HostRuntime) -> Result<(), Fail> {
     let (line, zero, one) = opened(rt.alloc(), Line::ZERO).ok_or("no line")?;
@@ -203,9 +216,5 @@ fn two_threads_add(rt: HostRuntime) -> Result<(), Fail> {
     let Ok(closed) = closed(rt.alloc(), line, zero, one) else {
         panic!(rt; "it was refused")
     };
-    let head = closed.mem.forw.ok_or("no list")?;
-    let line = closed.lines.get(usize::from(head.get())).ok_or("no line")?;
-    same(&rt, &line.words[0], &(2 * ADDS));
-    same(&rt, &line.stamp, &(2 * ADDS));
-    Ok(())
+    has_all_added(&rt, &closed)
 }

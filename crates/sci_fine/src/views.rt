@@ -3,17 +3,31 @@ use atomic_table::{Join, Play, Split, TableRule};
 use sci_core::{Keeps, Line, Pending};
 use sci_port::Call;
 use sci_words::LineNo;
+use std::alloc::AllocError;
 use std::collections::LinkedList;
 use std::marker::{Brand, PhantomData};
 
 /// What is fixed of a line: how many nodes it has, its number, what it was opened with, and which words fit it.
-#[derive(Clone, Copy)]
 pub struct Terms<K: Keeps> {
     pub nodes: u16,
     pub number: LineNo,
     pub opening: Line,
     pub keep: K,
 }
+
+impl<K: Keeps> Clone for Terms<K> {
+    ghost use Rattle.std.specs.Prelude.{◌≡◌};
+
+    ghost is_clone = { λ x y. y ≡ x };
+
+    ghost is_infallible = { λ _. Unit {0} };
+
+    fn clone(&self) -> Result<Terms<K>, AllocError> {
+        Ok(*self)
+    }
+}
+
+impl<K: Keeps> Copy for Terms<K> {}
 
 /// What a seat knows. No value of it is made.
 pub struct View<K: Keeps> {

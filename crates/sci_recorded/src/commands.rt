@@ -1,8 +1,8 @@
 //! What nodes do on a line that is lent, with the events that pass.
 use sci_core::{AnyWords, Whole};
 use sci_ops::{Op, Turn};
-use sci_port::Solo;
 use sci_port::recording::{Recorder, Trace};
+use sci_port::{Port, Solo};
 use sci_words::NodeId;
 
 // An operation that has not ended after so many turns waits for others.
@@ -22,15 +22,18 @@ pub(crate) enum Command {
 /// The last operation that each node began.
 pub(crate) type Ops = [Op; 4];
 
+// One turn over a port. Whether the operation has ended.
+fn ends<P: Port<Keep = AnyWords>>(port: &mut P, op: &mut Op) -> bool {
+    matches!(op.turn(port), Turn::Done(_))
+}
+
 // One turn, with its events recorded. Some(true): the operation has ended.
-#[tactic(auto, using(sci_ops::proofs::Storing::any_store_fits))]
 fn turn(whole: &mut Whole<AnyWords>, trace: &mut Trace, node: NodeId, op: &mut Op) -> Option<bool> {
     if node.get() >= whole.nodes() {
         return None;
     }
     let mut solo = Solo::new(whole, node);
-    let mut port = Recorder::new(&mut solo, trace);
-    Some(matches!(op.turn(&mut port), Turn::Done(_)))
+    Some(ends(&mut Recorder::new(&mut solo, trace), op))
 }
 
 /// So many turns, with their events recorded. Some(true): the operation has ended.
@@ -48,16 +51,6 @@ pub(crate) fn turns(
     Some(done)
 }
 
-// Turns until the operation has ended, or waits for others.
-fn finish(whole: &mut Whole<AnyWords>, trace: &mut Trace, node: NodeId, op: &mut Op) -> Option<()> {
-    for _ in 0..TURNS {
-        if turn(whole, trace, node, op)? {
-            break;
-        }
-    }
-    Some(())
-}
-
 // Carries a node's command out. None: it has no such node.
 fn carry_out(
     whole: &mut Whole<AnyWords>,
@@ -68,13 +61,16 @@ fn carry_out(
 ) -> Option<()> {
     let node = NodeId::new(number)?;
     let op = ops.get_mut(usize::from(number))?;
-    match command {
-        Command::Begin(begun) => *op = begun,
-        Command::Turns(count) => {
-            turns(whole, trace, node, op, count)?;
+    let count = match command {
+        Command::Begin(begun) => {
+            *op = begun;
+            0
         }
-        Command::Done => finish(whole, trace, node, op)?,
-    }
+        Command::Turns(count) => count,
+        // A turn of an operation that has ended does nothing.
+        Command::Done => TURNS,
+    };
+    turns(whole, trace, node, op, count)?;
     Some(())
 }
 

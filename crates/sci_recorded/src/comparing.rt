@@ -3,7 +3,6 @@ use sci_core::{AnyWords, Closed, Event, Outcome, Whole};
 use sci_words::NodeId;
 
 /// An event on the line that is lent, if it is in turn.
-#[tactic(auto, using(sci_core::proofs::Fitting::any_event_fits))]
 pub fn step_whole(whole: &mut Whole<AnyWords>, node: NodeId, event: Event) -> Option<Outcome> {
     if node.get() < whole.nodes() {
         whole.step(node, event).ok()

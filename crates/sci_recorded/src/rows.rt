@@ -22,6 +22,11 @@ const ONLY_FRESH: Tag = Tag {
     back: None,
 };
 
+// A store in word 0.
+fn store(value: u64) -> Result<Command, Fail> {
+    Ok(Begin(Op::store(0, value)?))
+}
+
 // Records the loads of so many nodes, and what they do then.
 fn record_run(
     whole: &mut Whole<AnyWords>,
@@ -60,7 +65,7 @@ fn all_recorded(alloc: Global, runs: &[Run<'_>]) -> Result<Vec<Recorded>, Fail> 
 /// Loads and writes, one after another and in each other's way.
 pub fn reads_and_writes(alloc: Global) -> Result<Vec<Recorded>, Fail> {
     let (load, evict) = (Begin(Op::load()), Begin(Op::evict()));
-    let (store_5, store_6) = (Begin(Op::store(0, 5)?), Begin(Op::store(0, 6)?));
+    let (store_5, store_6) = (store(5)?, store(6)?);
     let (all, add) = (
         Begin(Op::write_line([1, 2, 3, 4, 5, 6, 7, 8])),
         Begin(Op::add(7, u64::MAX)?),
@@ -134,7 +139,7 @@ pub fn reads_and_writes(alloc: Global) -> Result<Vec<Recorded>, Fail> {
 /// Nodes that leave the list, alone and in each other's way.
 pub fn exits(alloc: Global) -> Result<Vec<Recorded>, Fail> {
     let (load, evict) = (Begin(Op::load()), Begin(Op::evict()));
-    let (store_5, store_9) = (Begin(Op::store(0, 5)?), Begin(Op::store(0, 9)?));
+    let (store_5, store_9) = (store(5)?, store(9)?);
     all_recorded(
         alloc,
         &[
@@ -172,8 +177,8 @@ pub fn exits(alloc: Global) -> Result<Vec<Recorded>, Fail> {
 /// Readers that come while a node leaves or writes.
 pub fn late_comers(alloc: Global) -> Result<Vec<Recorded>, Fail> {
     let (load, evict) = (Begin(Op::load()), Begin(Op::evict()));
-    let (store_5, store_7) = (Begin(Op::store(0, 5)?), Begin(Op::store(0, 7)?));
-    let store_9 = Begin(Op::store(0, 9)?);
+    let (store_5, store_7) = (store(5)?, store(7)?);
+    let store_9 = store(9)?;
     all_recorded(
         alloc,
         &[
@@ -233,7 +238,7 @@ pub fn late_comers(alloc: Global) -> Result<Vec<Recorded>, Fail> {
 /// Writes that reach the last stamp, and go past it.
 pub fn last_stamps(alloc: Global) -> Result<Vec<Recorded>, Fail> {
     let load = Begin(Op::load());
-    let (store_5, store_6) = (Begin(Op::store(0, 5)?), Begin(Op::store(0, 6)?));
+    let (store_5, store_6) = (store(5)?, store(6)?);
     let commands = [
         (0, store_5),
         (0, Done),

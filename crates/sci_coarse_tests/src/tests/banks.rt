@@ -1,6 +1,6 @@
 //! A node over a bank of lines, and seats that make no bank.
-ghost use Rattle.std.specs.Prelude.{◌≡◌, IfSome};
-ghost use Rattle.sci_coarse.specs.Banks.{IsLine};
+ghost use Rattle.std.specs.Prelude.{◌≡◌, IfOk, IfSome, [], ◌∷◌};
+ghost use Rattle.sci_coarse.specs.Banks.{AreLines, AreSeatsOf, IsLine};
 ghost use Rattle.sci_coarse.specs.Seats.{IsSeatOf};
 
 use crate::tests::same;
@@ -31,6 +31,23 @@ pub(super) fn line_of(
     Some((line, seat))
 }
 
+// Two lines of one node, each with its seat.
+pub(super) fn two_lines(
+    alloc: Global,
+) -> Result<([CoarseLine<AnyWords>; 2], Seat<AnyWords>, Seat<AnyWords>), Fail>
+    ensures lines { IfOk result (λ r. AreLines r.0) }
+    ensures seats { IfOk result (λ r. AreSeatsOf r.0 (r.1 ∷ r.2 ∷ [])) }
+    ensures numbers { IfOk result (λ r. (r.1.standing.terms.number ≡ 0) × (r.2.standing.terms.number ≡ 1)) }
+{
+    let Some((first, seat)) = line_of(alloc, 0, AnyWords) else {
+        return Err(Fail::new("no line"));
+    };
+    let Some((second, other)) = line_of(alloc, 1, AnyWords) else {
+        return Err(Fail::new("no line"));
+    };
+    Ok(([first, second], seat, other))
+}
+
 /// A node loads both lines of a bank, and keeps the second.
 fn loads_both<R: Abort + Wait, B: Bank<Keep = AnyWords>>(rt: &R, node: &mut Node, bank: &mut B)
     requires node { (B.way bank.old).node ≡ node.old.id }
@@ -59,7 +76,6 @@ fn has_the_second<B: Bank>(rt: &impl Abort, bank: &mut B)
 }
 
 /// A node writes on the second line, leaves it, and reads it again.
-#[tactic(auto, using(sci_ops::proofs::Storing::any_store_fits))]
 fn writes_and_reads<R: Abort + Wait, B: Bank<Keep = AnyWords>>(
     rt: &R,
     node: &mut Node,
@@ -80,10 +96,10 @@ fn writes_and_reads<R: Abort + Wait, B: Bank<Keep = AnyWords>>(
 }
 
 /// A node of one line at a time works over a bank of two.
-fn works<R: Abort + Wait>(
+fn works<R: Abort + Wait, B: Bank<Keep = AnyWords>>(
     rt: &R,
     alloc: Global,
-    bank: &mut CoarseBank<'_, AnyWords>,
+    bank: &mut B,
 ) -> Result<(), Fail> {
     if bank.lines() != 2 {
         return Err(Fail::new("not two lines"));
@@ -104,11 +120,8 @@ fn are_in_order(rt: &impl Abort, seats: &[Seat<AnyWords>]) {
 }
 
 #[test]
-#[tactic(auto, using(sci_coarse::proofs::TwoLines::two_lines))]
 fn a_node_works_over_a_bank(rt: HostRuntime) -> Result<(), Fail> {
-    let (first, seat) = line_of(rt.alloc(), 0, AnyWords).ok_or("no line")?;
-    let (second, other) = line_of(rt.alloc(), 1, AnyWords).ok_or("no line")?;
-    let lines = [first, second];
+    let (lines, seat, other) = two_lines(rt.alloc())?;
     let seats = vec![in rt.alloc(); seat, other]?;
     let Ok(mut bank) = CoarseBank::new(lines.as_slice(), seats) else {
         panic!(rt; "it was refused")
@@ -131,11 +144,8 @@ fn hands_back(rt: &impl Abort, refused: &SeatOfAnother<AnyWords>, wanted: &[Line
 }
 
 #[test]
-#[tactic(auto, using(sci_coarse::proofs::TwoLines::two_lines))]
 fn seats_in_another_order_make_no_bank(rt: HostRuntime) -> Result<(), Fail> {
-    let (first, seat) = line_of(rt.alloc(), 0, AnyWords).ok_or("no line")?;
-    let (second, other) = line_of(rt.alloc(), 1, AnyWords).ok_or("no line")?;
-    let lines = [first, second];
+    let (lines, seat, other) = two_lines(rt.alloc())?;
     let seats = vec![in rt.alloc(); other, seat]?;
     let Err(refused) = CoarseBank::new(lines.as_slice(), seats) else {
         panic!(rt; "it is no bank")

@@ -3,7 +3,7 @@
 ghost use Rattle.std.specs.Prelude.{◌≡◌, ◌<◌, All};
 ghost use Rattle.sci_coarse.specs.Seats.{IsSeatOf};
 
-use super::banks::line_of;
+use super::banks::two_lines;
 use super::replays::opened;
 use super::{same, turn};
 use sci_coarse::parts::take_for_good;
@@ -12,6 +12,7 @@ use sci_core::{AnyWords, Event, Line, Outcome};
 use sci_ops::{Op, Turn};
 use sci_port::{At, Bank, Port};
 use sci_words::LineNo;
+use std::process::Abort;
 use std::test::Fail;
 
 const TURNS: u32 = 100_000;
@@ -32,7 +33,6 @@ fn op(kind: u32) -> Op {
 }
 
 /// A look by a step.
-#[tactic(auto, using(sci_core::proofs::Fitting::any_event_fits))]
 fn look(port: &mut CoarsePort<'_, AnyWords>) -> Outcome
     ensures same_line { port.new.line ≡ port.old.line }
     ensures same_reference { port.new.seat.ghost_name ≡ port.old.seat.ghost_name }
@@ -135,7 +135,6 @@ fn calls_on_a_taken_line_take_no_memory(rt: HostRuntime) {
 }
 
 /// A look by a step, on a line of a bank.
-#[tactic(auto, using(sci_core::proofs::Fitting::any_event_fits))]
 fn look_on<B: Bank<Keep = AnyWords>>(bank: &mut B, line: LineNo) -> Outcome
     requires { line < (B.way bank.old).lines }
     ensures { B.way bank.new ≡ B.way bank.old }
@@ -155,7 +154,6 @@ fn says_the_same<B: Bank>(bank: &mut B, line: LineNo) -> Option<bool>
 }
 
 /// One turn on a line of a bank.
-#[tactic(auto, using(sci_ops::proofs::Storing::any_store_fits))]
 fn turn_on<B: Bank<Keep = AnyWords>>(bank: &mut B, line: LineNo, op: &mut Op) -> Turn
     requires { line < (B.way bank.old).lines }
 {
@@ -163,7 +161,7 @@ fn turn_on<B: Bank<Keep = AnyWords>>(bank: &mut B, line: LineNo, op: &mut Op) ->
 }
 
 /// One turn on a line of a bank, behind a look and loads. None: there is no such line, or the bank says something else of it.
-fn turn_in(bank: &mut CoarseBank<'_, AnyWords>, line: LineNo, op: &mut Op) -> Option<Turn> {
+fn turn_in<B: Bank<Keep = AnyWords>>(bank: &mut B, line: LineNo, op: &mut Op) -> Option<Turn> {
     if line >= bank.lines() || !says_the_same(bank, line)? {
         return None;
     }
@@ -175,7 +173,7 @@ fn turn_in(bank: &mut CoarseBank<'_, AnyWords>, line: LineNo, op: &mut Op) -> Op
 }
 
 /// Turns by chance on two lines of a bank, each with one operation after the other: how many of them ended.
-fn turns_in(bank: &mut CoarseBank<'_, AnyWords>) -> Option<u32> {
+fn turns_in<B: Bank<Keep = AnyWords>>(bank: &mut B) -> Option<u32> {
     let mut ops = [Op::load(); 2];
     let mut ended: u32 = 0;
     let mut chance = 1;
@@ -192,19 +190,21 @@ fn turns_in(bank: &mut CoarseBank<'_, AnyWords>) -> Option<u32> {
     Some(ended)
 }
 
+/// Turns on two lines of a bank, which gives its seats back.
+fn takes_turns(rt: &impl Abort, mut bank: CoarseBank<'_, AnyWords>) {
+    assert!(rt; matches!(turns_in(&mut bank), Some(1_000..)));
+    same(rt, &bank.into_seats().len(), &2);
+}
+
 #[test]
-#[tactic(auto, using(sci_coarse::proofs::TwoLines::two_lines))]
 fn banks_take_no_memory(rt: HostRuntime) -> Result<(), Fail> {
     // A line and its seat take seven, and the list of the seats one.
-    let (first, seat) = line_of(rt.alloc(), 0, AnyWords).ok_or("no line")?;
-    let (second, other) = line_of(rt.alloc(), 1, AnyWords).ok_or("no line")?;
-    let lines = [first, second];
+    let (lines, seat, other) = two_lines(rt.alloc())?;
     let seats = vec![in rt.alloc(); seat, other]?;
-    let Ok(mut bank) = CoarseBank::new(lines.as_slice(), seats) else {
+    let Ok(bank) = CoarseBank::new(lines.as_slice(), seats) else {
         panic!(rt; "it was refused")
     };
-    assert!(rt; matches!(turns_in(&mut bank), Some(1_000..)));
-    same(&rt, &bank.into_seats().len(), &2);
+    takes_turns(&rt, bank);
     let last = Vec::<u8>::with_capacity(rt.alloc(), 1);
     assert!(rt; last.is_ok(), "allocation 16 is refused");
     Ok(())

@@ -1,6 +1,6 @@
 //! Seats that make no bank.
-ghost use Rattle.std.specs.Prelude.{◌≡◌, IfSome};
-ghost use Rattle.sci_fine.specs.Banks.{IsLine};
+ghost use Rattle.std.specs.Prelude.{◌≡◌, IfOk, IfSome, [], ◌∷◌};
+ghost use Rattle.sci_fine.specs.Banks.{AreLines, AreSeatsOf, IsLine};
 ghost use Rattle.sci_fine.specs.Seats.{IsSeatOf};
 
 use crate::tests::same;
@@ -12,7 +12,7 @@ use std::process::Abort;
 use std::test::Fail;
 
 // A line of two nodes, with its seats.
-pub(super) fn pair_of(
+fn pair_of(
     alloc: Global,
     number: LineNo,
     keep: AnyWords,
@@ -28,6 +28,33 @@ pub(super) fn pair_of(
     Some((line, zero, one))
 }
 
+// Two lines of two nodes, with the seats of the first line and then those of the second.
+pub(super) fn two_lines(
+    alloc: Global,
+) -> Result<
+    (
+        [FineLine<AnyWords>; 2],
+        Seat<AnyWords>,
+        Seat<AnyWords>,
+        Seat<AnyWords>,
+        Seat<AnyWords>,
+    ),
+    Fail,
+>
+    ensures lines { IfOk result (λ r. AreLines r.0) }
+    ensures zeros { IfOk result (λ r. AreSeatsOf r.0 (r.1 ∷ r.3 ∷ [])) }
+    ensures zero_one { IfOk result (λ r. AreSeatsOf r.0 (r.1 ∷ r.4 ∷ [])) }
+    ensures numbers { IfOk result (λ r. (r.1.standing.terms.number ≡ 0) × (r.3.standing.terms.number ≡ 1)) }
+{
+    let Some((first, zero, one)) = pair_of(alloc, 0, AnyWords) else {
+        return Err(Fail::new("no line"));
+    };
+    let Some((second, other_zero, other_one)) = pair_of(alloc, 1, AnyWords) else {
+        return Err(Fail::new("no line"));
+    };
+    Ok(([first, second], zero, one, other_zero, other_one))
+}
+
 /// The refusal is 9, and hands back seats of these lines and nodes.
 fn hands_back(rt: &impl Abort, refused: &SeatOfAnother<AnyWords>, wanted: &[(LineNo, u16)]) {
     same(rt, &refused.number(), &9);
@@ -38,11 +65,8 @@ fn hands_back(rt: &impl Abort, refused: &SeatOfAnother<AnyWords>, wanted: &[(Lin
 }
 
 #[test]
-#[tactic(auto, using(sci_fine::proofs::TwoLines::two_lines))]
 fn seats_of_two_nodes_make_no_bank(rt: HostRuntime) -> Result<(), Fail> {
-    let (first, zero, _) = pair_of(rt.alloc(), 0, AnyWords).ok_or("no line")?;
-    let (second, _, one) = pair_of(rt.alloc(), 1, AnyWords).ok_or("no line")?;
-    let lines = [first, second];
+    let (lines, zero, _, _, one) = two_lines(rt.alloc())?;
     let seats = vec![in rt.alloc(); zero, one]?;
     let Err(refused) = FineBank::new(lines.as_slice(), seats) else {
         panic!(rt; "it is no bank")
@@ -52,11 +76,8 @@ fn seats_of_two_nodes_make_no_bank(rt: HostRuntime) -> Result<(), Fail> {
 }
 
 #[test]
-#[tactic(auto, using(sci_fine::proofs::TwoLines::two_lines))]
 fn seats_in_another_order_make_no_bank(rt: HostRuntime) -> Result<(), Fail> {
-    let (first, seat, _) = pair_of(rt.alloc(), 0, AnyWords).ok_or("no line")?;
-    let (second, other, _) = pair_of(rt.alloc(), 1, AnyWords).ok_or("no line")?;
-    let lines = [first, second];
+    let (lines, seat, _, other, _) = two_lines(rt.alloc())?;
     let seats = vec![in rt.alloc(); other, seat]?;
     let Err(refused) = FineBank::new(lines.as_slice(), seats) else {
         panic!(rt; "it is no bank")

@@ -1,18 +1,12 @@
 //! Each growth may be refused: its call then answers 7, all is as before, and a second try has the memory. With ample memory
 //! this test passes. tools/allocations runs it once for each growth of its table, with that one refused, and the test ends by
 //! saying which call answered it.
-use super::{HOME, OPENING, is_idle, same};
-use sci_core::{AnyWords, Closed, OpenRefusal};
+use super::{OPENING, is_idle, is_unused, same};
+use sci_core::{AnyWords, OpenRefusal};
 use sci_fine::{FineLine, FinishRefusal, Seat};
 use std::alloc::Global;
 use std::process::Abort;
 use std::test::Fail;
-
-fn is_unused(rt: &impl Abort, closed: &Closed) {
-    same(rt, &closed.mem, &HOME);
-    same(rt, &closed.memory, &OPENING);
-    same(rt, &closed.lines.as_slice(), &[OPENING; 2].as_slice());
-}
 
 fn are_as_before(rt: &impl Abort, seats: &[Seat<AnyWords>]) {
     same(rt, &seats.len(), &2);

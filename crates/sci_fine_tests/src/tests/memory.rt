@@ -3,13 +3,14 @@
 ghost use Rattle.std.specs.Prelude.{◌≡◌, ◌<◌, All};
 ghost use Rattle.sci_fine.specs.Seats.{IsSeatOf};
 
-use super::banks::pair_of;
+use super::banks::two_lines;
 use super::{opened, same, turn};
 use sci_core::{AnyWords, Event, Line, Outcome};
 use sci_fine::{FineBank, FineLine, FinePort, Seat};
 use sci_ops::{Op, Turn};
 use sci_port::{At, Bank, Port};
 use sci_words::LineNo;
+use std::process::Abort;
 use std::test::Fail;
 
 const TURNS: u32 = 100_000;
@@ -30,7 +31,6 @@ fn op(kind: u32) -> Op {
 }
 
 /// A look by a step.
-#[tactic(auto, using(sci_core::proofs::Fitting::any_event_fits))]
 fn look(port: &mut FinePort<'_, AnyWords>) -> Outcome
     ensures same_line { port.new.line ≡ port.old.line }
     ensures same_reference { port.new.seat.ghost_name ≡ port.old.seat.ghost_name }
@@ -107,7 +107,6 @@ fn seats_and_ports_take_no_memory(rt: HostRuntime) {
 }
 
 /// A look by a step, on a line of a bank.
-#[tactic(auto, using(sci_core::proofs::Fitting::any_event_fits))]
 fn look_on<B: Bank<Keep = AnyWords>>(bank: &mut B, line: LineNo) -> Outcome
     requires { line < (B.way bank.old).lines }
     ensures { B.way bank.new ≡ B.way bank.old }
@@ -127,7 +126,6 @@ fn says_the_same<B: Bank>(bank: &mut B, line: LineNo) -> Option<bool>
 }
 
 /// One turn on a line of a bank.
-#[tactic(auto, using(sci_ops::proofs::Storing::any_store_fits))]
 fn turn_on<B: Bank<Keep = AnyWords>>(bank: &mut B, line: LineNo, op: &mut Op) -> Turn
     requires { line < (B.way bank.old).lines }
 {
@@ -135,7 +133,7 @@ fn turn_on<B: Bank<Keep = AnyWords>>(bank: &mut B, line: LineNo, op: &mut Op) ->
 }
 
 /// One turn on a line of a bank, behind a look and loads. None: there is no such line, or the bank says something else of it.
-fn turn_in(bank: &mut FineBank<'_, AnyWords>, line: LineNo, op: &mut Op) -> Option<Turn> {
+fn turn_in<B: Bank<Keep = AnyWords>>(bank: &mut B, line: LineNo, op: &mut Op) -> Option<Turn> {
     if line >= bank.lines() || !says_the_same(bank, line)? {
         return None;
     }
@@ -147,7 +145,7 @@ fn turn_in(bank: &mut FineBank<'_, AnyWords>, line: LineNo, op: &mut Op) -> Opti
 }
 
 /// Turns by chance on two lines of a bank, each with one operation after the other: how many of them ended.
-fn turns_in(bank: &mut FineBank<'_, AnyWords>) -> Option<u32> {
+fn turns_in<B: Bank<Keep = AnyWords>>(bank: &mut B) -> Option<u32> {
     let mut ops = [Op::load(); 2];
     let mut ended: u32 = 0;
     let mut chance = 1;
@@ -164,19 +162,21 @@ fn turns_in(bank: &mut FineBank<'_, AnyWords>) -> Option<u32> {
     Some(ended)
 }
 
+/// Turns on two lines of a bank, which gives its seats back.
+fn takes_turns(rt: &impl Abort, mut bank: FineBank<'_, AnyWords>) {
+    assert!(rt; matches!(turns_in(&mut bank), Some(1_000..)));
+    same(rt, &bank.into_seats().len(), &2);
+}
+
 #[test]
-#[tactic(auto, using(sci_fine::proofs::TwoLines::two_lines))]
 fn banks_take_no_memory(rt: HostRuntime) -> Result<(), Fail> {
     // A line and its seats take five, and the list of the seats one.
-    let (first, seat, _) = pair_of(rt.alloc(), 0, AnyWords).ok_or("no line")?;
-    let (second, other, _) = pair_of(rt.alloc(), 1, AnyWords).ok_or("no line")?;
-    let lines = [first, second];
+    let (lines, seat, _, other, _) = two_lines(rt.alloc())?;
     let seats = vec![in rt.alloc(); seat, other]?;
-    let Ok(mut bank) = FineBank::new(lines.as_slice(), seats) else {
+    let Ok(bank) = FineBank::new(lines.as_slice(), seats) else {
         panic!(rt; "it was refused")
     };
-    assert!(rt; matches!(turns_in(&mut bank), Some(1_000..)));
-    same(&rt, &bank.into_seats().len(), &2);
+    takes_turns(&rt, bank);
     let last = Vec::<u8>::with_capacity(rt.alloc(), 1);
     assert!(rt; last.is_ok(), "allocation 12 is refused");
     Ok(())

@@ -16,7 +16,6 @@ use std::process::Abort;
 use std::test::Fail;
 
 // An event through a port, if it is in turn.
-#[tactic(auto, using(sci_core::proofs::Fitting::any_event_fits))]
 fn step_port(port: &mut FinePort<'_, AnyWords>, event: Event) -> Option<Outcome>
     ensures same_line { port.new.line ≡ port.old.line }
     ensures same_reference { port.new.seat.ghost_name ≡ port.old.seat.ghost_name }

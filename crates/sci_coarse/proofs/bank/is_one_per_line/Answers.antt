@@ -1,4 +1,4 @@
-use Rattle.std.proofs.Common.{rules, ◌≡◌, true, false, refl, sym, ◌∙◌}
+use Rattle.std.proofs.Common.{refl, sym, ◌∙◌, arith}
 use Rattle.atomic_table.proofs.Lists.{at_index}
 use Rattle.sci_coarse.specs.Banks.{SitsOn}
 use Rattle.sci_coarse.proofs.Banked.{first_node}
@@ -6,20 +6,26 @@ use Rattle.sci_coarse.proofs.Listed.{clash}
 use Rattle.sci_coarse.proofs.Ending.{looked_at, looked_all}
 use Rattle.sci_coarse.proofs.bank.is_one_per_line.Goals as goal
 
+pub returns-then-seats-lines : goal.returns-then-seats-lines
+returns-then-seats-lines g c = (λ e. absurd (clash _ e refl), λ one. absurd (c.if-seats-lines.true one.count))
+
+pub loop-place-init : goal.loop-place-init
+loop-place-init g c = λ k s near at. absurd (omega (arith, near))
+
 pub returns-then-not-is_seat_at : goal.returns-then-not-is_seat_at
 returns-then-not-is_seat_at g c = (
-  (λ e. let z : false ≡ true = e in cc),
+  (λ e. absurd (clash _ e refl)),
   (λ one.
-      let h = one.each c.loop-place.place c.index-seats-place.result (at_index c.args.seats.now c.loop-place.place c.index-seats-place.result (search rules) c.index-seats-place.is) in
+      let h = one.each c.loop-place.place c.index-seats-place.result (at_index c.args.seats.now c.loop-place.place c.index-seats-place.result c.loop-place-test.true c.index-seats-place.is) in
       let mine = first_node c.args.lines.now c.args.seats.now c.requires one c.index-seats-0.result c.index-seats-0.result c.index-seats-0.is in
-      absurd (clash c.is_seat_at.result (c.is_seat_at.ensures.1 (h.0 ∙ sym mine ∙ search rules, h.1)) (search rules))),
+      absurd (clash c.is_seat_at.result (c.is_seat_at.ensures.1 (h.0 ∙ sym mine ∙ sym c.node-node.ensures, h.1)) c.if-not-is_seat_at.true)),
 )
 
 pub loop-place-preserved : goal.loop-place-preserved
-loop-place-preserved g c = looked_at (SitsOn c.node-node.result) c.args.seats.now c.loop-place.place c.index-seats-place.result (search rules) c.index-seats-place.is (c.is_seat_at.ensures.0 (search rules)) c.loop-place.invariant
+loop-place-preserved g c = looked_at (SitsOn c.node-node.result) c.args.seats.now c.loop-place.place c.index-seats-place.result c.loop-place-test.true c.index-seats-place.is (c.is_seat_at.ensures.0 c.if-not-is_seat_at.false) c.loop-place.invariant
 
 pub returns : goal.returns
 returns g c = (
-  (λ _. record { count = search rules; node = c.node-node.result; each = looked_all (SitsOn c.node-node.result) c.args.seats.now c.loop-place.place (search rules) c.loop-place.invariant }),
+  (λ _. record { count = c.if-seats-lines.false; node = c.node-node.result; each = looked_all (SitsOn c.node-node.result) c.args.seats.now c.loop-place.place c.loop-place-test.false c.loop-place.invariant }),
   λ _. refl,
 )

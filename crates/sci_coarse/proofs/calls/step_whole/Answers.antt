@@ -1,13 +1,28 @@
-use Rattle.std.proofs.Common.{subst}
+use Rattle.std.proofs.Common.{ℕ, ◌<◌, sym, subst}
 use Rattle.sci_core.specs.declared.outcomes.Outcome.{Outcome}
 use Rattle.sci_core.specs.Whole.{state_of}
 use Rattle.sci_port.proofs.Lent.{step_gives}
 use Rattle.sci_port.specs.Owes.{TakesRow}
-use Rattle.sci_coarse.proofs.Calling.{answer_kept, fits_in}
+use Rattle.sci_coarse.proofs.Calling.{answer_kept, fits_in, still_on}
 use Rattle.sci_coarse.proofs.calls.step_whole.Goals as goal
+
+pub step-requires-clause-node : goal.step-requires-clause-node
+step-requires-clause-node g c = c.requires.node
 
 pub step-requires-clause-fits : goal.step-requires-clause-fits
 step-requires-clause-fits g c = fits_in g.K.Keeps.fits c.args.standing.now.terms c.args.whole.now c.args.event c.requires.on c.requires.fits
+
+pub follow-requires-clause-on : goal.follow-requires-clause-on
+follow-requires-clause-on g c = still_on c.args.standing.now.terms c.args.whole.now c.step.new.self c.in-Ok.ensures.same c.requires.on
+
+pub follow-requires-clause-node : goal.follow-requires-clause-node
+follow-requires-clause-node g c = subst (λ (n : ℕ). c.args.node < n) (sym c.in-Ok.ensures.same.nodes) c.requires.node
+
+pub returns-clause-terms : goal.returns-clause-terms
+returns-clause-terms g c = c.follow.ensures.terms
+
+pub returns-clause-pending : goal.returns-clause-pending
+returns-clause-pending g c = c.follow.ensures.pending
 
 pub returns-clause-calls : goal.returns-clause-calls
 returns-clause-calls g c =

@@ -7,22 +7,22 @@ use Rattle.sci_coarse.proofs.Banked.{allowed_there, calls, inside, makes_call, n
 use Rattle.sci_coarse.proofs.bank.CoarseBankBank.step.Goals as goal
 
 pub step-requires-clause-of : goal.step-requires-clause-of
-step-requires-clause-of g c = of_line g.K.Keeps.fits c.args.self.now.keep c.args.self.now.node c.args.self.now.lines.now c.args.self.now.seats.items c.args.self.now.of c.args.line c.requires.line c.from-2.result c.index-seats-from.result (get_or c.as_mut_slice-seats.result.now c.from-2.result c.index-seats-from.result) (search rules) (ap (λ l. get_or l c.from-2.result c.index-seats-from.result) c.as_mut_slice-seats.ensures.value) c.from.result c.index-self-from.result (get_or c.args.self.now.lines.now c.from.result c.index-self-from.result) (search rules) refl
+step-requires-clause-of g c = of_line g.K.Keeps.fits c.args.self.now.keep c.args.self.now.node c.args.self.now.lines.now c.args.self.now.seats.items c.args.self.now.of c.args.line c.requires.line c.from-2.result c.index-seats-from.result (get_or c.as_mut_slice-seats.result.now c.from-2.result c.index-seats-from.result) c.from-2.ensures (ap (λ l. get_or l c.from-2.result c.index-seats-from.result) c.as_mut_slice-seats.ensures.value) c.from.result c.index-self-from.result (get_or c.args.self.now.lines.now c.from.result c.index-self-from.result) c.from.ensures refl
 
 pub step-requires-clause-allowed : goal.step-requires-clause-allowed
-step-requires-clause-allowed g c = allowed_there g.K.Keeps.fits c.args.self.now.keep c.args.self.now.node c.args.self.now.lines.now c.args.self.now.seats.items c.args.self.now.of c.args.line c.requires.line c.from-2.result c.index-seats-from.result (get_or c.as_mut_slice-seats.result.now c.from-2.result c.index-seats-from.result) (search rules) (ap (λ l. get_or l c.from-2.result c.index-seats-from.result) c.as_mut_slice-seats.ensures.value) c.args.event c.requires.allowed
+step-requires-clause-allowed g c = allowed_there g.K.Keeps.fits c.args.self.now.keep c.args.self.now.node c.args.self.now.lines.now c.args.self.now.seats.items c.args.self.now.of c.args.line c.requires.line c.from-2.result c.index-seats-from.result (get_or c.as_mut_slice-seats.result.now c.from-2.result c.index-seats-from.result) c.from-2.ensures (ap (λ l. get_or l c.from-2.result c.index-seats-from.result) c.as_mut_slice-seats.ensures.value) c.args.event c.requires.allowed
 
 pub step-requires-clause-fits : goal.step-requires-clause-fits
-step-requires-clause-fits g c = there g.K.Keeps.fits c.args.self.now.keep c.args.self.now.node c.args.self.now.lines.now c.args.self.now.seats.items c.args.self.now.of c.args.line c.requires.line c.from-2.result c.index-seats-from.result (get_or c.as_mut_slice-seats.result.now c.from-2.result c.index-seats-from.result) (search rules) (ap (λ l. get_or l c.from-2.result c.index-seats-from.result) c.as_mut_slice-seats.ensures.value) (λ n k m me. FitsEvent (g.K.Keeps.fits k m) c.args.event) c.requires.fits
+step-requires-clause-fits g c = there g.K.Keeps.fits c.args.self.now.keep c.args.self.now.node c.args.self.now.lines.now c.args.self.now.seats.items c.args.self.now.of c.args.line c.requires.line c.from-2.result c.index-seats-from.result (get_or c.as_mut_slice-seats.result.now c.from-2.result c.index-seats-from.result) c.from-2.ensures (ap (λ l. get_or l c.from-2.result c.index-seats-from.result) c.as_mut_slice-seats.ensures.value) (λ n k m me. FitsEvent (g.K.Keeps.fits k m) c.args.event) c.requires.fits
 
 pub invariant_of-self : goal.invariant_of-self
-invariant_of-self g c = record { of = sit_after g.K.Keeps.fits c.args.self.now.keep c.args.self.now.node c.args.self.now.lines.now c.args.self.now.seats.items c.args.self.now.of c.args.line c.requires.line c.from-2.result c.index-seats-from.result (get_or c.as_mut_slice-seats.result.now c.from-2.result c.index-seats-from.result) (search rules) (ap (λ l. get_or l c.from-2.result c.index-seats-from.result) c.as_mut_slice-seats.ensures.value) (Stepped c.args.event c.step.result) c.step.new.self c.step.ensures.made _ (written_back c.args.self.now.seats.items c.as_mut_slice-seats.result.now c.args.self.now.seats.len c.from-2.result c.step.new.self c.as_mut_slice-seats.ensures.value c.as_mut_slice-seats.ensures.len) }
+invariant_of-self g c = record { of = sit_after g.K.Keeps.fits c.args.self.now.keep c.args.self.now.node c.args.self.now.lines.now c.args.self.now.seats.items c.args.self.now.of c.args.line c.requires.line c.from-2.result c.index-seats-from.result (get_or c.as_mut_slice-seats.result.now c.from-2.result c.index-seats-from.result) c.from-2.ensures (ap (λ l. get_or l c.from-2.result c.index-seats-from.result) c.as_mut_slice-seats.ensures.value) (Stepped c.args.event c.step.result) c.step.new.self c.step.ensures.made _ (written_back c.args.self.now.seats.items c.as_mut_slice-seats.result.now c.args.self.now.seats.len c.from-2.result c.step.new.self c.as_mut_slice-seats.ensures.value c.as_mut_slice-seats.ensures.len) }
 
 pub returns-clause-gives : goal.returns-clause-gives
 returns-clause-gives g c = (
   refl,
-  makes_call g.K.Keeps.fits c.args.self.now.keep c.args.self.now.node c.args.self.now.lines.now c.args.self.now.seats.items c.args.self.now.of c.args.line c.requires.line c.from-2.result c.index-seats-from.result (get_or c.as_mut_slice-seats.result.now c.from-2.result c.index-seats-from.result) (search rules) (ap (λ l. get_or l c.from-2.result c.index-seats-from.result) c.as_mut_slice-seats.ensures.value) (Stepped c.args.event c.step.result) c.step.new.self c.step.ensures.made _ (written_back c.args.self.now.seats.items c.as_mut_slice-seats.result.now c.args.self.now.seats.len c.from-2.result c.step.new.self c.as_mut_slice-seats.ensures.value c.as_mut_slice-seats.ensures.len),
-  calls g.K.Keeps.fits c.args.self.now.keep c.args.self.now.node c.args.self.now.lines.now c.args.self.now.seats.items c.args.self.now.of c.args.line c.requires.line c.from-2.result c.index-seats-from.result (get_or c.as_mut_slice-seats.result.now c.from-2.result c.index-seats-from.result) (search rules) (ap (λ l. get_or l c.from-2.result c.index-seats-from.result) c.as_mut_slice-seats.ensures.value) (Stepped c.args.event c.step.result) c.step.new.self c.step.ensures.made _ (written_back c.args.self.now.seats.items c.as_mut_slice-seats.result.now c.args.self.now.seats.len c.from-2.result c.step.new.self c.as_mut_slice-seats.ensures.value c.as_mut_slice-seats.ensures.len),
+  makes_call g.K.Keeps.fits c.args.self.now.keep c.args.self.now.node c.args.self.now.lines.now c.args.self.now.seats.items c.args.self.now.of c.args.line c.requires.line c.from-2.result c.index-seats-from.result (get_or c.as_mut_slice-seats.result.now c.from-2.result c.index-seats-from.result) c.from-2.ensures (ap (λ l. get_or l c.from-2.result c.index-seats-from.result) c.as_mut_slice-seats.ensures.value) (Stepped c.args.event c.step.result) c.step.new.self c.step.ensures.made _ (written_back c.args.self.now.seats.items c.as_mut_slice-seats.result.now c.args.self.now.seats.len c.from-2.result c.step.new.self c.as_mut_slice-seats.ensures.value c.as_mut_slice-seats.ensures.len),
+  calls g.K.Keeps.fits c.args.self.now.keep c.args.self.now.node c.args.self.now.lines.now c.args.self.now.seats.items c.args.self.now.of c.args.line c.requires.line c.from-2.result c.index-seats-from.result (get_or c.as_mut_slice-seats.result.now c.from-2.result c.index-seats-from.result) c.from-2.ensures (ap (λ l. get_or l c.from-2.result c.index-seats-from.result) c.as_mut_slice-seats.ensures.value) (Stepped c.args.event c.step.result) c.step.new.self c.step.ensures.made _ (written_back c.args.self.now.seats.items c.as_mut_slice-seats.result.now c.args.self.now.seats.len c.from-2.result c.step.new.self c.as_mut_slice-seats.ensures.value c.as_mut_slice-seats.ensures.len),
 )
 
 pub returns-clause-others : goal.returns-clause-others

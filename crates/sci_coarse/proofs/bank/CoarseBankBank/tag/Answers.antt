@@ -8,19 +8,19 @@ use Rattle.sci_coarse.proofs.Banked.{calls, inside, makes_call, near, of_line, s
 use Rattle.sci_coarse.proofs.bank.CoarseBankBank.tag.Goals as goal
 
 pub tag-requires-clause-of : goal.tag-requires-clause-of
-tag-requires-clause-of g c = of_line g.K.Keeps.fits c.args.self.now.keep c.args.self.now.node c.args.self.now.lines.now c.args.self.now.seats.items c.args.self.now.of c.args.line c.requires.line c.from-2.result c.index-seats-from.result (get_or c.as_mut_slice-seats.result.now c.from-2.result c.index-seats-from.result) (search rules) (ap (λ l. get_or l c.from-2.result c.index-seats-from.result) c.as_mut_slice-seats.ensures.value) c.from.result c.index-self-from.result (get_or c.args.self.now.lines.now c.from.result c.index-self-from.result) (search rules) refl
+tag-requires-clause-of g c = of_line g.K.Keeps.fits c.args.self.now.keep c.args.self.now.node c.args.self.now.lines.now c.args.self.now.seats.items c.args.self.now.of c.args.line c.requires.line c.from-2.result c.index-seats-from.result (get_or c.as_mut_slice-seats.result.now c.from-2.result c.index-seats-from.result) c.from-2.ensures (ap (λ l. get_or l c.from-2.result c.index-seats-from.result) c.as_mut_slice-seats.ensures.value) c.from.result c.index-self-from.result (get_or c.args.self.now.lines.now c.from.result c.index-self-from.result) c.from.ensures refl
 
 pub tag-requires-clause-other : goal.tag-requires-clause-other
-tag-requires-clause-other g c = there g.K.Keeps.fits c.args.self.now.keep c.args.self.now.node c.args.self.now.lines.now c.args.self.now.seats.items c.args.self.now.of c.args.line c.requires.line c.from-2.result c.index-seats-from.result (get_or c.as_mut_slice-seats.result.now c.from-2.result c.index-seats-from.result) (search rules) (ap (λ l. get_or l c.from-2.result c.index-seats-from.result) c.as_mut_slice-seats.ensures.value) (λ n k m me. c.args.node < n) c.requires.node
+tag-requires-clause-other g c = there g.K.Keeps.fits c.args.self.now.keep c.args.self.now.node c.args.self.now.lines.now c.args.self.now.seats.items c.args.self.now.of c.args.line c.requires.line c.from-2.result c.index-seats-from.result (get_or c.as_mut_slice-seats.result.now c.from-2.result c.index-seats-from.result) c.from-2.ensures (ap (λ l. get_or l c.from-2.result c.index-seats-from.result) c.as_mut_slice-seats.ensures.value) (λ n k m me. c.args.node < n) c.requires.node
 
 pub invariant_of-self : goal.invariant_of-self
-invariant_of-self g c = record { of = sit_after g.K.Keeps.fits c.args.self.now.keep c.args.self.now.node c.args.self.now.lines.now c.args.self.now.seats.items c.args.self.now.of c.args.line c.requires.line c.from-2.result c.index-seats-from.result (get_or c.as_mut_slice-seats.result.now c.from-2.result c.index-seats-from.result) (search rules) (ap (λ l. get_or l c.from-2.result c.index-seats-from.result) c.as_mut_slice-seats.ensures.value) (TagWas c.args.node c.tag.result) c.tag.new.self c.tag.ensures.made _ (written_back c.args.self.now.seats.items c.as_mut_slice-seats.result.now c.args.self.now.seats.len c.from-2.result c.tag.new.self c.as_mut_slice-seats.ensures.value c.as_mut_slice-seats.ensures.len) }
+invariant_of-self g c = record { of = sit_after g.K.Keeps.fits c.args.self.now.keep c.args.self.now.node c.args.self.now.lines.now c.args.self.now.seats.items c.args.self.now.of c.args.line c.requires.line c.from-2.result c.index-seats-from.result (get_or c.as_mut_slice-seats.result.now c.from-2.result c.index-seats-from.result) c.from-2.ensures (ap (λ l. get_or l c.from-2.result c.index-seats-from.result) c.as_mut_slice-seats.ensures.value) (TagWas c.args.node c.tag.result) c.tag.new.self c.tag.ensures.made _ (written_back c.args.self.now.seats.items c.as_mut_slice-seats.result.now c.args.self.now.seats.len c.from-2.result c.tag.new.self c.as_mut_slice-seats.ensures.value c.as_mut_slice-seats.ensures.len) }
 
 pub returns-clause-gives : goal.returns-clause-gives
 returns-clause-gives g c = (
   refl,
-  makes_call g.K.Keeps.fits c.args.self.now.keep c.args.self.now.node c.args.self.now.lines.now c.args.self.now.seats.items c.args.self.now.of c.args.line c.requires.line c.from-2.result c.index-seats-from.result (get_or c.as_mut_slice-seats.result.now c.from-2.result c.index-seats-from.result) (search rules) (ap (λ l. get_or l c.from-2.result c.index-seats-from.result) c.as_mut_slice-seats.ensures.value) (TagWas c.args.node c.tag.result) c.tag.new.self c.tag.ensures.made _ (written_back c.args.self.now.seats.items c.as_mut_slice-seats.result.now c.args.self.now.seats.len c.from-2.result c.tag.new.self c.as_mut_slice-seats.ensures.value c.as_mut_slice-seats.ensures.len),
-  calls g.K.Keeps.fits c.args.self.now.keep c.args.self.now.node c.args.self.now.lines.now c.args.self.now.seats.items c.args.self.now.of c.args.line c.requires.line c.from-2.result c.index-seats-from.result (get_or c.as_mut_slice-seats.result.now c.from-2.result c.index-seats-from.result) (search rules) (ap (λ l. get_or l c.from-2.result c.index-seats-from.result) c.as_mut_slice-seats.ensures.value) (TagWas c.args.node c.tag.result) c.tag.new.self c.tag.ensures.made _ (written_back c.args.self.now.seats.items c.as_mut_slice-seats.result.now c.args.self.now.seats.len c.from-2.result c.tag.new.self c.as_mut_slice-seats.ensures.value c.as_mut_slice-seats.ensures.len),
+  makes_call g.K.Keeps.fits c.args.self.now.keep c.args.self.now.node c.args.self.now.lines.now c.args.self.now.seats.items c.args.self.now.of c.args.line c.requires.line c.from-2.result c.index-seats-from.result (get_or c.as_mut_slice-seats.result.now c.from-2.result c.index-seats-from.result) c.from-2.ensures (ap (λ l. get_or l c.from-2.result c.index-seats-from.result) c.as_mut_slice-seats.ensures.value) (TagWas c.args.node c.tag.result) c.tag.new.self c.tag.ensures.made _ (written_back c.args.self.now.seats.items c.as_mut_slice-seats.result.now c.args.self.now.seats.len c.from-2.result c.tag.new.self c.as_mut_slice-seats.ensures.value c.as_mut_slice-seats.ensures.len),
+  calls g.K.Keeps.fits c.args.self.now.keep c.args.self.now.node c.args.self.now.lines.now c.args.self.now.seats.items c.args.self.now.of c.args.line c.requires.line c.from-2.result c.index-seats-from.result (get_or c.as_mut_slice-seats.result.now c.from-2.result c.index-seats-from.result) c.from-2.ensures (ap (λ l. get_or l c.from-2.result c.index-seats-from.result) c.as_mut_slice-seats.ensures.value) (TagWas c.args.node c.tag.result) c.tag.new.self c.tag.ensures.made _ (written_back c.args.self.now.seats.items c.as_mut_slice-seats.result.now c.args.self.now.seats.len c.from-2.result c.tag.new.self c.as_mut_slice-seats.ensures.value c.as_mut_slice-seats.ensures.len),
 )
 
 pub returns-clause-same_steps : goal.returns-clause-same_steps

@@ -1,9 +1,12 @@
-use Rattle.std.proofs.Common.{rules, ◌<◌, ◌≡◌, ◌+◌, ℕ, Some, length, vec_len, arith, sym, ◌∙◌, ap, subst}
+use Rattle.std.proofs.Common.{◌<◌, ◌+◌, ℕ, Some, length, vec_len, arith, sym, ◌∙◌, ap, subst}
 use Rattle.sci_coarse.proofs.Seating.{joins_as}
 use Rattle.atomic_table.proofs.Lists.{at_index}
 use Rattle.sci_coarse.specs.Views.{joined_view}
 use Rattle.sci_coarse.proofs.Ordered.{KeepsFrom, first_of, others_of, last_of, first_kept, others_first, fewer_first, kept_more, kept_all}
 use Rattle.sci_coarse.proofs.line.CoarseLine.join_all.Goals as goal
+
+pub remove-root-requires : goal.remove-root-requires
+remove-root-requires g c = subst (λ (n : ℕ). 0 < n) (sym c.requires.len) c.args.self.now.sized.3
 
 pub loop-seat-init : goal.loop-seat-init
 loop-seat-init g c =
@@ -47,5 +50,14 @@ loop-seat-preserved g c =
       others = fewer_first c.args.seats.items c.loop-seat.seats.items c.pop.new.self.items s c.in-Some.ensures.items i.others;
     }
 
-pub returns-clause-logs : goal.returns-clause-logs
-returns-clause-logs g c = let z : vec_len c.loop-seat.seats ≡ 0 = search rules in kept_all c.args.seats.items _ c.loop-seat.root.me.0 (omega arith) c.loop-seat.invariant.calls
+pub loop-seat-smaller : goal.loop-seat-smaller
+loop-seat-smaller g c = omega (arith, c.in-Some.ensures.len, c.pop.new.self.ok.0, c.loop-seat.seats.ok.0)
+
+pub returns : goal.returns
+returns g c =
+    let i = c.loop-seat.invariant in let none = c.in_default.ensures.cases.0 in
+    record {
+      of = (i.of, i.live);
+      view = (i.first, i.joined ∙ ap (λ (n : ℕ). n + 1) none, i.idle, i.unheld);
+      logs = kept_all c.args.seats.items _ c.loop-seat.root.me.0 (omega (arith, none)) i.calls;
+    }

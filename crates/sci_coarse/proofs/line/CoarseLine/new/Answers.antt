@@ -1,19 +1,42 @@
-use Rattle.std.proofs.Common.{[], ◌∷◌, ◌++◌, ◌∙◌, ap, refl, arith}
-use Rattle.std.proofs.lemmas.Result.{err_from_is_err_and}
-use Rattle.sci_coarse.proofs.Seating.{opens, refuses_else, for_memory}
+use Rattle.std.proofs.Common.{ℕ, ◌≤◌, [], inl, inr, refl, sym, ap, ◌∙◌, subst, ⊎_elim, arith}
+use Rattle.std.specs.Prelude.{vec_capacity}
+use Rattle.sci_coarse.specs.Views.{first_view}
 use Rattle.sci_coarse.proofs.line.CoarseLine.new.Goals as goal
 
-pub new-requires : goal.new-requires
-new-requires g c = let n = c.nodes.ensures.nodes in let r = c.nodes.ensures.range.0 in opens g.K.Keeps.fits _ c.in_ok-whole.whole _ _ refl (c.push_reserved.ensures.items ∙ ap (λ z. z ++ c.in_ok-whole.whole ∷ []) c.in_ok-slots.ensures.items) c.in_ok-whole.ensures.opened c.nodes.ensures.lawful c.requires (omega arith)
+pub returns-then-nodes-eq0 : goal.returns-then-nodes-eq0
+returns-then-nodes-eq0 g c = record {
+  nodes = ((λ _. ⊎_elim (λ none. inl none) (λ many. inr many.1) c.then-nodes-eq0.either), λ _. refl);
+  terms = tt;
+  seats = tt;
+  new = tt;
+}
 
-pub returns-in_err-seats-clause-nodes : goal.returns-in_err-seats-clause-nodes
-returns-in_err-seats-clause-nodes g c = refuses_else c.in_ok-whole.whole _ c.in_ok-whole.ensures.nodes.1 (for_memory _ (err_from_is_err_and c.from_residual-in_err-seats.result c.from_residual-in_err-seats.ensures.1))
+pub open-requires : goal.open-requires
+open-requires g c = record { fits = c.requires; nodes = (omega arith, omega arith) }
 
-pub returns-in_err-slots-clause-nodes : goal.returns-in_err-slots-clause-nodes
-returns-in_err-slots-clause-nodes g c = refuses_else c.in_ok-whole.whole _ c.in_ok-whole.ensures.nodes.1 (for_memory _ (err_from_is_err_and c.from_residual-in_err-slots.result c.from_residual-in_err-slots.ensures.1))
+pub returns-in_default : goal.returns-in_default
+returns-in_default g c = record {
+  nodes = ((λ e. absurd (cc)), ⊎_elim (λ none. absurd (omega arith)) (λ many. absurd (omega arith)));
+  terms = tt;
+  seats = tt;
+  new = tt;
+}
 
-pub returns-in_default-clause-nodes : goal.returns-in_default-clause-nodes
-returns-in_default-clause-nodes g c = refuses_else c.in_ok-whole.whole _ c.in_ok-whole.ensures.nodes.1 (λ h. cc)
+pub seat_all-requires : goal.seat_all-requires
+seat_all-requires g c =
+    let opened = c.in-Ok.ensures in let terms = opened.0 in let room = c.in_ok-seats.ensures in
+    record {
+      of = opened.1;
+      view = opened.2 ∙ ap (λ t. (first_view t, [])) (sym terms);
+      room = (room.items, room.len, subst (λ (n : ℕ). n ≤ vec_capacity c.in_ok-seats.seats) (c.from.ensures ∙ sym (ap (λ t. t.nodes) terms)) room.capacity);
+    }
 
-pub returns-clause-nodes : goal.returns-clause-nodes
-returns-clause-nodes g c = refuses_else c.in_ok-whole.whole _ c.in_ok-whole.ensures.nodes.1 (λ h. cc)
+pub returns : goal.returns
+returns g c =
+    let terms = c.in-Ok.ensures.0 in let made = c.seat_all.ensures in
+    record {
+      nodes = ((λ e. absurd (cc)), ⊎_elim (λ none. absurd (omega arith)) (λ many. absurd (omega arith)));
+      terms = record { nodes = ap (λ t. t.nodes) terms; number = ap (λ t. t.number) terms; opening = ap (λ t. t.opening) terms; keep = ap (λ t. t.keep) terms };
+      seats = (made.len ∙ ap (λ t. t.nodes) terms, made.seats);
+      new = made.new;
+    }

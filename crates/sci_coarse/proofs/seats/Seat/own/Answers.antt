@@ -1,35 +1,35 @@
-use Rattle.std.proofs.Common.{rules, ◌<◌, Some, refl, sym, ap, ◌∙◌, subst}
+use Rattle.std.proofs.Common.{◌<◌, Some, refl, sym, ap, ◌∙◌, subst}
 use Rattle.sci_port.specs.declared.calls.Call.TheVariants.{Own}
 use Rattle.sci_coarse.specs.declared.views.Terms.{Terms}
 use Rattle.sci_coarse.proofs.Composing.{was_taken, was_missed, hand_in, still_of, still_holds, to_give, region, sits, owing, reads}
 use Rattle.sci_coarse.proofs.seats.Seat.own.Goals as goal
 
 pub own_in_hand-tag-requires-clause-hand : goal.own_in_hand-tag-requires-clause-hand
-own_in_hand-tag-requires-clause-hand g c = let s = c.args.self.now in let t = s.standing.terms in let of = s.of in let taken = was_taken _ _ c.take.result c.take.ensures.taken (search rules) in hand_in g.K.Keeps.fits t s.node s.token.me c.take.new.token.me of s.seen.0 taken s.standing.pending s.seen.1
+own_in_hand-tag-requires-clause-hand g c = let s = c.args.self.now in let t = s.standing.terms in let of = s.of in let taken = was_taken _ _ c.take.result c.take.ensures.taken c.if-not-take.false in hand_in g.K.Keeps.fits t s.node s.token.me c.take.new.token.me of s.seen.0 taken s.standing.pending s.seen.1
 
 pub give-requires-clause-of : goal.give-requires-clause-of
-give-requires-clause-of g c = let s = c.args.self.now in let t = c.args.line.now.terms in let of = s.of ∙ ap (λ x. Some x) c.requires.of.1 in let taken = was_taken _ _ c.take.result c.take.ensures.taken (search rules) in (search rules, still_of g.K.Keeps.fits t s.node s.token.me c.take.new.token.me of s.seen.0 taken (Own (Some c.own_in_hand-tag.result)) c.own_in_hand-tag.new.token.me (c.own_in_hand-tag.ensures.called))
+give-requires-clause-of g c = let s = c.args.self.now in let t = c.args.line.now.terms in let of = s.of ∙ ap (λ x. Some x) c.requires.of.1 in let taken = was_taken _ _ c.take.result c.take.ensures.taken c.if-not-take.false in (c.own_in_hand-tag.ensures.same.0 ∙ c.take.ensures.same.0 ∙ c.requires.of.0, still_of g.K.Keeps.fits t s.node s.token.me c.take.new.token.me of s.seen.0 taken (Own (Some c.own_in_hand-tag.result)) c.own_in_hand-tag.new.token.me (c.own_in_hand-tag.ensures.called))
 
 pub give-requires-clause-held : goal.give-requires-clause-held
-give-requires-clause-held g c = let s = c.args.self.now in let t = c.args.line.now.terms in let of = s.of ∙ ap (λ x. Some x) c.requires.of.1 in let taken = was_taken _ _ c.take.result c.take.ensures.taken (search rules) in still_holds g.K.Keeps.fits t s.node s.token.me c.take.new.token.me of s.seen.0 taken (Own (Some c.own_in_hand-tag.result)) c.own_in_hand-tag.new.token.me (c.own_in_hand-tag.ensures.called)
+give-requires-clause-held g c = let s = c.args.self.now in let t = c.args.line.now.terms in let of = s.of ∙ ap (λ x. Some x) c.requires.of.1 in let taken = was_taken _ _ c.take.result c.take.ensures.taken c.if-not-take.false in still_holds g.K.Keeps.fits t s.node s.token.me c.take.new.token.me of s.seen.0 taken (Own (Some c.own_in_hand-tag.result)) c.own_in_hand-tag.new.token.me (c.own_in_hand-tag.ensures.called)
 
 pub give-requires-clause-hand : goal.give-requires-clause-hand
-give-requires-clause-hand g c = let s = c.args.self.now in let t = c.args.line.now.terms in let of = s.of ∙ ap (λ x. Some x) c.requires.of.1 in let taken = was_taken _ _ c.take.result c.take.ensures.taken (search rules) in to_give g.K.Keeps.fits t s.node s.token.me c.take.new.token.me of s.seen.0 taken (Own (Some c.own_in_hand-tag.result)) c.own_in_hand-tag.new.token.me (c.own_in_hand-tag.ensures.called)
+give-requires-clause-hand g c = let s = c.args.self.now in let t = c.args.line.now.terms in let of = s.of ∙ ap (λ x. Some x) c.requires.of.1 in let taken = was_taken _ _ c.take.result c.take.ensures.taken c.if-not-take.false in to_give g.K.Keeps.fits t s.node s.token.me c.take.new.token.me of s.seen.0 taken (Own (Some c.own_in_hand-tag.result)) c.own_in_hand-tag.new.token.me (c.own_in_hand-tag.ensures.called)
 
 pub invariant_of-self-2 : goal.invariant_of-self-2
-invariant_of-self-2 g c = let s = c.args.self.now in let t = s.standing.terms in let of = s.of in let taken = was_taken _ _ c.take.result c.take.ensures.taken (search rules) in let q = sits g.K.Keeps.fits t s.node s.token.me c.take.new.token.me of s.seen.0 taken (Own (Some c.own_in_hand-tag.result)) c.own_in_hand-tag.new.token.me (c.own_in_hand-tag.ensures.called) c.give.new.token.me c.give.ensures.given in record { of = q.0 ∙ ap (λ x. Some x) (sym c.own_in_hand-tag.ensures.terms); seen = (q.1, reads g.K.Keeps.fits t s.node s.token.me c.take.new.token.me of s.seen.0 taken (Own (Some c.own_in_hand-tag.result)) c.own_in_hand-tag.new.token.me (c.own_in_hand-tag.ensures.called) c.give.new.token.me c.give.ensures.given c.own_in_hand-tag.new.standing.pending c.own_in_hand-tag.ensures.pending, q.2 ∙ s.seen.2 ∙ ap (λ (x : Terms g.row.K.Denot). x.nodes) (sym c.own_in_hand-tag.ensures.terms), q.3); hand = q.4; below = subst (λ (x : Terms g.row.K.Denot). s.node < x.nodes) (sym c.own_in_hand-tag.ensures.terms) s.below }
+invariant_of-self-2 g c = let s = c.args.self.now in let t = s.standing.terms in let of = s.of in let taken = was_taken _ _ c.take.result c.take.ensures.taken c.if-not-take.false in let q = sits g.K.Keeps.fits t s.node s.token.me c.take.new.token.me of s.seen.0 taken (Own (Some c.own_in_hand-tag.result)) c.own_in_hand-tag.new.token.me (c.own_in_hand-tag.ensures.called) c.give.new.token.me c.give.ensures.given in record { of = q.0 ∙ ap (λ x. Some x) (sym c.own_in_hand-tag.ensures.terms); seen = (q.1, reads g.K.Keeps.fits t s.node s.token.me c.take.new.token.me of s.seen.0 taken (Own (Some c.own_in_hand-tag.result)) c.own_in_hand-tag.new.token.me (c.own_in_hand-tag.ensures.called) c.give.new.token.me c.give.ensures.given c.own_in_hand-tag.new.standing.pending c.own_in_hand-tag.ensures.pending, q.2 ∙ s.seen.2 ∙ ap (λ (x : Terms g.row.K.Denot). x.nodes) (sym c.own_in_hand-tag.ensures.terms), q.3); hand = q.4; below = subst (λ (x : Terms g.row.K.Denot). s.node < x.nodes) (sym c.own_in_hand-tag.ensures.terms) s.below }
 
 pub returns : goal.returns
-returns g c = let s = c.args.self.now in let t = s.standing.terms in let of = s.of in let taken = was_taken _ _ c.take.result c.take.ensures.taken (search rules) in record {
+returns g c = let s = c.args.self.now in let t = s.standing.terms in let of = s.of in let taken = was_taken _ _ c.take.result c.take.ensures.taken c.if-not-take.false in record {
   made = record {
-    same = (search rules, search rules, refl, c.own_in_hand-tag.ensures.terms);
+    same = (c.give.ensures.same.0 ∙ c.own_in_hand-tag.ensures.same.0 ∙ c.take.ensures.same.0, c.give.ensures.same.1 ∙ c.own_in_hand-tag.ensures.same.1 ∙ c.take.ensures.same.1, refl, c.own_in_hand-tag.ensures.terms);
     came = region g.K.Keeps.fits s.standing.terms s.node s.token.me c.take.new.token.me s.of s.seen.0 taken (Own (Some c.own_in_hand-tag.result)) c.own_in_hand-tag.new.token.me (c.own_in_hand-tag.ensures.called) c.give.new.token.me c.give.ensures.given;
     owes = owing g.K.Keeps.fits s.standing.terms s.node s.token.me c.take.new.token.me s.of s.seen.0 taken (Own (Some c.own_in_hand-tag.result)) c.own_in_hand-tag.new.token.me (c.own_in_hand-tag.ensures.called) c.give.new.token.me c.give.ensures.given s.standing.pending c.own_in_hand-tag.new.standing.pending (reads g.K.Keeps.fits t s.node s.token.me c.take.new.token.me of s.seen.0 taken (Own (Some c.own_in_hand-tag.result)) c.own_in_hand-tag.new.token.me (c.own_in_hand-tag.ensures.called) c.give.new.token.me c.give.ensures.given c.own_in_hand-tag.new.standing.pending c.own_in_hand-tag.ensures.pending) s.seen.1;
   };
 }
 
 pub invariant_of-self : goal.invariant_of-self
-invariant_of-self g c = let s = c.args.self.now in let h = was_missed _ _ c.take.result c.take.ensures.taken (search rules) in record { of = ap (λ v. v.of) h.1 ∙ s.of; seen = (ap (λ v. v.node) h.1 ∙ s.seen.0, ap (λ v. v.pending) h.1 ∙ s.seen.1, ap (λ v. v.joined) h.1 ∙ s.seen.2, ap (λ v. v.holds) h.1 ∙ s.seen.3); hand = h.2; below = s.below }
+invariant_of-self g c = let s = c.args.self.now in let h = was_missed _ _ c.take.result c.take.ensures.taken c.if-not-take.true in record { of = ap (λ v. v.of) h.1 ∙ s.of; seen = (ap (λ v. v.node) h.1 ∙ s.seen.0, ap (λ v. v.pending) h.1 ∙ s.seen.1, ap (λ v. v.joined) h.1 ∙ s.seen.2, ap (λ v. v.holds) h.1 ∙ s.seen.3); hand = h.2; below = s.below }
 
 pub returns-then-not-take : goal.returns-then-not-take
-returns-then-not-take g c = let s = c.args.self.now in let h = was_missed _ _ c.take.result c.take.ensures.taken (search rules) in record { made = record { same = (search rules, search rules, refl, refl); came = (h.0, h.1, h.3 s.standing.terms s.of); owes = (refl, tt) } }
+returns-then-not-take g c = let s = c.args.self.now in let h = was_missed _ _ c.take.result c.take.ensures.taken c.if-not-take.true in record { made = record { same = (c.take.ensures.same.0, c.take.ensures.same.1, refl, refl); came = (h.0, h.1, h.3 s.standing.terms s.of); owes = (refl, tt) } }

@@ -11,6 +11,29 @@ use Rattle.sci_coarse.specs.Standings.{StandingOn}
 use Rattle.sci_coarse.proofs.Calling.{sound_on}
 use Rattle.sci_coarse.proofs.standing.Standing.follow.Goals as goal
 
+pub tag-requires : goal.tag-requires
+tag-requires g c = c.requires.node
+
+pub stage-requires : goal.stage-requires
+stage-requires g c = c.requires.node
+
+pub pending-requires : goal.pending-requires
+pending-requires g c = c.requires.node
+
+pub returns-in-Done-Some : goal.returns-in-Done-Some
+returns-in-Done-Some g c =
+    let line = c.in-Done-Some.line in
+    record {
+      terms = ap (λ (s : StandingOn g.row.K.Denot). s.terms) c.self.view_is;
+      pending = ap (λ (s : Stage). pending_of s line) c.stage.ensures ∙ c.requires.answered line (search rules);
+    }
+
+pub returns-in_default : goal.returns-in_default
+returns-in_default g c = record {
+  terms = ap (λ (s : StandingOn g.row.K.Denot). s.terms) c.self.view_is;
+  pending = ap (λ (s : Stage). pending_of s c.write_kept.new.line) (c.stage.ensures ∙ ap stage_of (sym c.pending.ensures)) ∙ (c.write_kept.ensures ∙ c.pending.ensures);
+}
+
 pub invariant_of-self : goal.invariant_of-self
 invariant_of-self g c =
     let t = c.self.inside.terms in let w = c.args.whole.now in let line = c.in-Done-Some.line in
@@ -24,6 +47,9 @@ invariant_of-self-in_default g c =
     let on = subst (λ (s : StandingOn g.row.K.Denot). IsOn s.terms w) (sym c.self.view_is) c.requires.on in
     let after : pending_of c.stage.result.now line ≡ (state_of w).steps c.args.node = ap (λ (s : Stage). pending_of s line) (c.stage.ensures ∙ ap stage_of (sym c.pending.ensures)) ∙ (c.write_kept.ensures ∙ c.pending.ensures) in
     sound_on g.K.Keeps.fits t w _ on (is_sound _ _ _ _ _ _ after c.tag.ensures.value c.tag.ensures.well_formed c.tag.ensures.links c.nodes.ensures.lawful)
+
+pub returns-else-keeps_line-clause-terms : goal.returns-else-keeps_line-clause-terms
+returns-else-keeps_line-clause-terms g c = ap (λ (s : StandingOn g.row.K.Denot). s.terms) c.self.view_is
 
 pub returns-else-keeps_line-clause-pending : goal.returns-else-keeps_line-clause-pending
 returns-else-keeps_line-clause-pending g c =

@@ -15,6 +15,14 @@ returns-then-nodes-eq0 g c = record {
 pub open-requires : goal.open-requires
 open-requires g c = record { fits = c.requires; nodes = (omega arith, omega arith) }
 
+pub returns-in_default : goal.returns-in_default
+returns-in_default g c = record {
+  nodes = ((λ e. absurd (cc)), ⊎_elim (λ none. absurd (omega arith)) (λ many. absurd (omega arith)));
+  terms = tt;
+  seats = tt;
+  new = tt;
+}
+
 pub seat_all-requires : goal.seat_all-requires
 seat_all-requires g c =
     let opened = c.in-Ok.ensures in let terms = opened.0 in let room = c.in_ok-seats.ensures in
