@@ -50,6 +50,19 @@ linked c first each nodes e l = record {
   later = λ a b h f. let lt = is_node c nodes e a h in each a lt b ((l a lt).1 h) f;
 }
 
+no_link : (f : Option ℕ) (x : ℕ) → f ≡ Some x → f ≡ None → ⊥
+no_link f x p q = grind (arith, p, q)
+
+-- the entry at the head, and where there is none
+pub head_suits : (c : ClosedLine) (h : ℕ) (t : Tag) → t ≡ tag c h → c.mem.forw ≡ Some h → (t.kind ≡ Kind.Fresh) ⊎ (t.kind ≡ Kind.Dirty)
+    → (x : ℕ) → c.mem.forw ≡ Some x → ((tag c x).kind ≡ Kind.Fresh) ⊎ ((tag c x).kind ≡ Kind.Dirty)
+head_suits c h t at is right x other =
+    let same : h ≡ x = grind (arith, is, other) in
+    subst (λ (n : ℕ). ((tag c n).kind ≡ Kind.Fresh) ⊎ ((tag c n).kind ≡ Kind.Dirty)) same (subst (λ (y : Tag). (y.kind ≡ Kind.Fresh) ⊎ (y.kind ≡ Kind.Dirty)) at right)
+
+pub none_suits : (c : ClosedLine) → c.mem.forw ≡ None → (x : ℕ) → c.mem.forw ≡ Some x → ((tag c x).kind ≡ Kind.Fresh) ⊎ ((tag c x).kind ≡ Kind.Dirty)
+none_suits c none x some = absurd (no_link c.mem.forw x some none)
+
 -- rule C5 at a node
 abbrev pub IsSuitedTag : MemState → Tag → Type 0
 IsSuitedTag s t = (t.kind ≡ Kind.Fresh → s ≡ MemState.Fresh) × (t.kind ≡ Kind.Dirty → s ≡ MemState.Gone)
@@ -64,14 +77,14 @@ suited c each nodes e = record {
 abbrev pub IsSharedBy : ClosedLine → Line → ℕ → Type 0
 IsSharedBy c shared i = (tag c i).kind ≢ Kind.Invalid → line c i ≡ shared
 
+pub invalid_shared : (c : ClosedLine) (i : ℕ) (t : Tag) (shared : Line) → t ≡ tag c i → (t.kind ≢ Kind.Invalid → ⊥) → IsSharedBy c shared i
+invalid_shared c i t shared at other sharer = absurd (other (subst (λ (y : Tag). y.kind ≢ Kind.Invalid) (sym at) sharer))
+
 pub equal : (c : ClosedLine) (shared : Line) → (c.mem.state ≢ MemState.Gone → shared ≡ c.memory) → ((i : ℕ) → i < length c.tags → IsSharedBy c shared i)
     → (nodes : List ℕ) → KeepsEnding c nodes → KeepsListed c nodes → KeepsEqual c nodes
 equal c shared home each nodes e l =
     let at : (i : ℕ) → Contains nodes i → line c i ≡ shared = λ i h. let lt = is_node c nodes e i h in each i lt ((l i lt).1 h) in
     record { sharers = λ i j h k. at i h ∙ sym (at j k); of_memory = λ i h g. at i h ∙ home g }
-
-no_link : (f : Option ℕ) (x : ℕ) → f ≡ Some x → f ≡ None → ⊥
-no_link f x p q = grind (arith, p, q)
 
 pub none_equal : (c : ClosedLine) → c.mem.forw ≡ None → (nodes : List ℕ) → KeepsEnding c nodes → KeepsEqual c nodes
 none_equal c none [] e = record { sharers = λ i j h k. absurd (contains_none i h); of_memory = λ i h g. absurd (contains_none i h) }

@@ -1,5 +1,5 @@
 -- Reading node by node, and line by line.
-use Rattle.std.proofs.Common.{◌≡◌, ℕ, suc, ◌+◌, List, [], ◌∷◌, ◌++◌, Some, None, Result, Ok, Err, refl, sym, ◌∙◌, append_assoc}
+use Rattle.std.proofs.Common.{◌≡◌, ℕ, suc, ◌+◌, List, [], ◌∷◌, ◌++◌, Some, None, Result, Ok, Err, refl, sym, ap, ◌∙◌, append_assoc}
 use Rattle.std.proofs.lemmas.List.{append-nil}
 use Rattle.sci_words.specs.declared.tags.Tag.{Tag}
 use Rattle.sci_core.specs.declared.lines.Line.{Line}
@@ -14,6 +14,13 @@ Nodes = Result (List Tag × List Line × ℕ × List ℕ) DumpRefusal
 
 abbrev pub with_nodes : List Tag → List Line → Nodes → Nodes
 with_nodes tags lines read = read >>> λ more. Ok (tags ++ more.0, lines ++ more.1, more.2, more.3)
+
+no_nodes : (read : Nodes) → with_nodes [] [] read ≡ read
+no_nodes (Ok more) = refl
+no_nodes (Err e) = refl
+
+pub nodes_begin : (number k nodes n : ℕ) (text : List ℕ) → k ≡ nodes → with_nodes [] [] (entries_at number 0 k n text) ≡ entries_at number 0 nodes n text
+nodes_begin number k nodes n text all = no_nodes (entries_at number 0 k n text) ∙ ap (λ j. entries_at number 0 j n text) all
 
 regroup_nodes : (tags : List Tag) (lines : List Line) (t : Tag) (l : Line) (read : Nodes)
     → with_nodes tags lines (read >>> λ more. Ok (t ∷ more.0, l ∷ more.1, more.2, more.3)) ≡ with_nodes (tags ++ t ∷ []) (lines ++ l ∷ []) read
@@ -51,6 +58,13 @@ Lines = Result (List ClosedLine × ℕ × List ℕ) DumpRefusal
 
 abbrev pub with_lines : List ClosedLine → Lines → Lines
 with_lines lines read = read >>> λ more. Ok (lines ++ more.0, more.1, more.2)
+
+no_lines : (read : Lines) → with_lines [] read ≡ read
+no_lines (Ok more) = refl
+no_lines (Err e) = refl
+
+pub lines_begin : (k count nodes : ℕ) (text : List ℕ) → k ≡ count → with_lines [] (lines_at 0 k nodes 2 text) ≡ lines_at 0 count nodes 2 text
+lines_begin k count nodes text all = no_lines (lines_at 0 k nodes 2 text) ∙ ap (λ j. lines_at 0 j nodes 2 text) all
 
 regroup_lines : (lines : List ClosedLine) (c : ClosedLine) (read : Lines) → with_lines lines (read >>> λ more. Ok (c ∷ more.0, more.1, more.2)) ≡ with_lines (lines ++ c ∷ []) read
 regroup_lines lines c (Ok more) = rw (append_assoc lines (c ∷ []) more.0) refl

@@ -219,7 +219,6 @@ fn is_behind(tag: Tag, node: usize) -> bool
 }
 
 /// Rule C4, where C2 and C3 are kept.
-#[tactic(auto, using(crate::proofs::Deciding::not_linked, crate::proofs::Deciding::linked))]
 fn is_linked_back(closed: &Closed) -> bool
     ensures { (nodes : List ℕ) → KeepsEnding closed.now nodes → KeepsListed closed.now nodes → Decides result (KeepsLinked closed.now nodes) }
 {
@@ -271,7 +270,6 @@ fn is_same(one: Line, other: Line) -> bool
 }
 
 /// Rule C6, where C2 and C3 are kept.
-#[tactic(auto, using(crate::proofs::Deciding::not_equal, crate::proofs::Deciding::equal, crate::proofs::Deciding::none_equal))]
 fn has_equal_lines(closed: &Closed) -> bool
     ensures { (nodes : List ℕ) → KeepsEnding closed.now nodes → KeepsListed closed.now nodes → Decides result (KeepsEqual closed.now nodes) }
 {
@@ -292,7 +290,6 @@ fn has_equal_lines(closed: &Closed) -> bool
 }
 
 /// The first rule that a line breaks.
-#[tactic(auto, using(crate::proofs::Deciding::breaks_ending, crate::proofs::Deciding::breaks_listed, crate::proofs::Deciding::breaks_linked, crate::proofs::Deciding::breaks_suited, crate::proofs::Deciding::breaks_equal, crate::proofs::Deciding::exact_line))]
 fn first_broken(closed: &Closed) -> Option<Rule>
     ensures { MatchOption result (IsExactClosed closed.now) (λ rule. BreaksFirst rule closed.now) }
 {

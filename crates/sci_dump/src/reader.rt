@@ -57,12 +57,13 @@ fn read_entries(
     ensures lengths { IfOk result (λ x. (length x.tags.items ≡ nodes) × (length x.lines.items ≡ nodes)) }
     ensures further { IfOk result (λ x. x.number ≤ number + nodes) }
 {
-    let mut tags = Vec::with_capacity(alloc, usize::from(nodes))?;
-    let mut lines = Vec::with_capacity(alloc, usize::from(nodes))?;
+    let count = usize::from(nodes);
+    let mut tags = Vec::with_capacity(alloc, count)?;
+    let mut lines = Vec::with_capacity(alloc, count)?;
     let mut at = number;
     let mut rest = text;
-    for node in 0..nodes {
-        let Some((tag, content, next, behind)) = entry(line, u64::from(node), at, rest) else {
+    for node in 0..u64::from(nodes) {
+        let Some((tag, content, next, behind)) = entry(line, node, at, rest) else {
             return Err(DumpRefusal::DumpFault(at));
         };
         tags.push(tag)?;
@@ -140,8 +141,8 @@ fn read_lines(alloc: Global, nodes: u16, count: u16, text: &[u8]) -> Result<Fron
     let mut lines = Vec::with_capacity(alloc, usize::from(count))?;
     let mut number = 2;
     let mut rest = text;
-    for line in 0..count {
-        let found = read_closed(alloc, u64::from(line), nodes, number, rest)?;
+    for line in 0..u64::from(count) {
+        let found = read_closed(alloc, line, nodes, number, rest)?;
         number = found.number;
         rest = found.rest;
         lines.push(found.closed)?;

@@ -1,8 +1,8 @@
 -- The calls of a desk over banks, on its lists.
-use Rattle.std.proofs.Common.{◌≡◌, ◌∙◌, ℕ, zero, suc, ◌+◌, ◌<◌, Bool, true, false, ◌&&◌, List, [], ◌∷◌, Option, Some, None, IfSome, Ok, length, get_or, set, refl, sym, ap, subst, arith, inl, inr}
+use Rattle.std.proofs.Common.{◌≡◌, ◌∙◌, ℕ, zero, suc, ◌+◌, ◌<◌, Bool, true, false, ◌&&◌, List, [], ◌∷◌, Option, Some, None, IfSome, is_some, Ok, length, get_or, set, refl, sym, ap, subst, arith, inl, inr}
 use Rattle.std.proofs.lemmas.Bool.{cases_eq, cases_lt}
 use Rattle.std.proofs.lemmas.Bool.Decides.{nat_tests}
-use Rattle.std.proofs.lemmas.List.{get_or-set_same, get_or-set_other, length-set}
+use Rattle.std.proofs.lemmas.List.{get_or-set_same, get_or-set_other, get_or_read, set-get_or, length-set}
 use Rattle.std.proofs.lemmas.Option.{slice_get_read}
 use Rattle.std.specs.List.{slice_get}
 use Rattle.sci_coarse.proofs.Listed.{same_some}
@@ -14,10 +14,12 @@ use Rattle.sci_port.specs.Banks.{BankWay}
 use Rattle.sci_port.specs.Owes.{IsMem, IsTag}
 use Rattle.sci_port.specs.declared.calls.Call.{Call}
 use Rattle.sci_ops.specs.declared.answers.Turn.{Turn}
-use Rattle.sci_cache.specs.Nodes.{NodeState, TurnsBy}
+use Rattle.sci_cache.specs.Nodes.{NodeState, TurnsBy, node_with}
+use Rattle.sci_cache.specs.declared.requests.Request.{Request}
 use Rattle.sci_script.specs.declared.commands.Size.{Size}
-use Rattle.sci_script.specs.BankDesks.{Banked, IsBanked, IsBankOf, AreBanksOf, Asks, TurnsNode, banked, node_at}
+use Rattle.sci_script.specs.BankDesks.{Banked, IsBanked, IsBankOf, AreBanksOf, Asks, TurnsNode, banked, banked_is_open, node_at}
 use Rattle.sci_script.specs.Nodes.{AreNodesOf}
+use Rattle.sci_script.specs.Unused.{no_node}
 
 -- what is true of each element stays so where one is set of which it is true
 each_set : {A : Type 0} (P : ℕ → A → Type 0) (xs : List A) (i : ℕ) (y : A) → ((j : ℕ) (b : A) → slice_get xs j ≡ Some b → P j b) → P i y → (j : ℕ) (b : A) → slice_get (set xs i y) j ≡ Some b → P j b
@@ -34,6 +36,28 @@ nodes_set lines nodes i m h lt id same = λ k d below.
           (subst (λ (n : NodeState). (n.id ≡ i) × (n.lines ≡ lines)) (sym (get_or-set_same nodes i m d lt)) (id, same))
       | inr other ↦ subst (λ (n : NodeState). (n.id ≡ k) × (n.lines ≡ lines)) (sym (get_or-set_other nodes i k m d other)) (h k d (subst (λ (n : ℕ). k < n) (length-set nodes i m) below))
     ]
+
+-- the node of a place, as it was read
+pub node_found : {B : Type 0} (way : B → BankWay) (nodes_on : B → ℕ → ℕ) (fits : B → ℕ → List ℕ → Type 0) (s : Banked B) → IsBanked way nodes_on fits s → (i : ℕ) (n : NodeState) → i < s.size.nodes → n ≡ get_or s.nodes i n → (n.id ≡ i) × (n.lines ≡ s.size.lines)
+node_found way nodes_on fits s h i n lt found = subst (λ (k : NodeState). (k.id ≡ i) × (k.lines ≡ s.size.lines)) (sym found) (h.nodes_are i n (omega (arith, h.count, lt)))
+
+pub open_found : {B : Type 0} (v s : Banked B) → v ≡ s → (i node : ℕ) (n : NodeState) → i ≡ node → i < length v.nodes → n ≡ get_or v.nodes i n → banked_is_open s node ≡ true → is_some n.call ≡ true
+open_found {B} v s is i node n place lt found here =
+    let at : banked_is_open v i ≡ true = subst (λ (k : ℕ). banked_is_open v k ≡ true) (sym place) (subst (λ (x : Banked B). banked_is_open x node ≡ true) (sym is) here) in
+    subst (λ (k : NodeState). is_some k.call ≡ true) (sym (get_or_read v.nodes i n lt found no_node)) at
+
+-- a node that begins a call, and one that begins none
+pub begun_here : {B : Type 0} (v s : Banked B) → v ≡ s → (i node : ℕ) (n m : NodeState) (request : Request) → i ≡ node → i < length v.nodes → n ≡ get_or v.nodes i n → m ≡ node_with n request
+    → banked v.size v.banks (set v.nodes i m) ≡ record s { nodes = set s.nodes node (node_with (node_at s node) request) }
+begun_here {B} v s is i node n m request place lt found begun =
+    let now : m ≡ node_with (node_at v i) request = begun ∙ ap (λ (k : NodeState). node_with k request) (get_or_read v.nodes i n lt found no_node) in
+    subst (λ (x : Banked B). banked v.size v.banks (set v.nodes i m) ≡ record x { nodes = set x.nodes node (node_with (node_at x node) request) }) is
+    (subst (λ (k : ℕ). banked v.size v.banks (set v.nodes i m) ≡ banked v.size v.banks (set v.nodes k (node_with (node_at v k) request))) place
+    (ap (λ (k : NodeState). banked v.size v.banks (set v.nodes i k)) now))
+
+pub same_here : {B : Type 0} (v s : Banked B) → v ≡ s → (i : ℕ) (n m : NodeState) → n ≡ get_or v.nodes i n → m ≡ n → banked v.size v.banks (set v.nodes i m) ≡ s
+same_here v s is i n m found same =
+    ap (λ (k : NodeState). banked v.size v.banks (set v.nodes i k)) (same ∙ found) ∙ ap (λ (ns : List NodeState). banked v.size v.banks ns) (set-get_or v.nodes i n) ∙ is
 
 -- the bank of a node, as it was read and as it is set
 module _ {B K : Type 0} (way : B → BankWay) (nodes_on : B → ℕ → ℕ) (keep : B → K) (fits : K → ℕ → List ℕ → Type 0) (s : Banked B) (h : IsBanked way nodes_on (λ b line words. fits (keep b) line words) s) (node : ℕ) (b : B) (lt : node < s.size.nodes)

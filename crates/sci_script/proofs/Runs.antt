@@ -1,16 +1,20 @@
 -- One more turn, one more entry, one more command.
-use Rattle.std.proofs.Common.{◌≡◌, ℕ, suc, ◌+◌, ◌<◌, Bool, List, length, get_or, take, [], ◌∷◌, ◌++◌, Option, Some, None, refl, sym, ap, subst, ◌∙◌, append_assoc, arith}
-use Rattle.std.proofs.lemmas.List.{append-nil, take_more}
+use Rattle.std.proofs.Common.{◌≡◌, ℕ, suc, ◌+◌, ◌<◌, ◌≤◌, Bool, true, false, List, length, get_or, take, [], ◌∷◌, ◌++◌, Option, Some, None, Result, IfErr, is_some, inr, refl, sym, ap, subst, ◌∙◌, append_assoc, arith}
+use Rattle.std.proofs.lemmas.List.{append-nil, take_more, take_all}
+use Rattle.std.proofs.lemmas.List.Sums.{AllPass-from_list_all}
 use Rattle.std.proofs.lemmas.Option.{slice_get_read}
 use Rattle.std.specs.Prelude.{slice_get}
 use Rattle.sci_words.specs.declared.tags.Tag.{Tag}
+use Rattle.sci_script.specs.declared.commands.Size.{Size}
 use Rattle.sci_script.specs.declared.commands.Step.{Step}
+use Rattle.sci_script.specs.declared.commands.Command.{Command}
 use Rattle.sci_ops.specs.declared.answers.Turn.{Turn}
 use Rattle.sci_script.specs.declared.refusals.ScriptRefusal.{ScriptRefusal}
 use Rattle.sci_script.specs.declared.refusals.ScriptRefusal.TheVariants.{OutOfMemory, BadCommand, BadNumber, NotDone, WriteFailed}
 use Rattle.sci_script.specs.Event.{Event, Turned, SawTag, IsNoEnd}
 use Rattle.sci_script.specs.Request.{no_words, words_after}
-use Rattle.sci_script.specs.Run.{Unended, Repeats, Loads, Walked, Prints, PrintsAll, StopsAt, Leaves}
+use Rattle.sci_script.specs.Size.{AreIn, IsIn, is_in}
+use Rattle.sci_script.specs.Run.{Unended, Repeats, Loads, Walked, IsLost, Prints, PrintsAll, StopsAt, Leaves}
 
 pub unended_none : {S : Type 0} (does : S → Event → S → Type 0) (node : ℕ) (s : S) → Unended does node 0 s s
 unfolding Unended
@@ -41,6 +45,16 @@ walked_more does line node head [] tag s mid t before seen =
 walked_more does line node None (e ∷ es) tag s mid t before seen = absurd before
 walked_more does line node (Some n) (e ∷ es) tag s mid t before seen =
     (before.0, before.1, before.2, before.3, walked_more does line node before.1.forw es tag before.0 mid t before.4 seen)
+
+-- a walk that has taken as many entries as there are nodes
+pub lost_behind : {S : Type 0} (does : S → Event → S → Type 0) (nodes line : ℕ) (head next : Option ℕ) (es : List (ℕ × Tag)) (s t : S) → is_some next ≡ true → length es ≡ nodes → Walked does line head es next s t
+    → IsLost does nodes line head s t
+lost_behind does nodes line head None es s t more all before = absurd (cc)
+lost_behind does nodes line head (Some node) es s t more all before = (es, node, t, before, inr (all, refl))
+
+pub walked_out : {S : Type 0} (does : S → Event → S → Type 0) (line : ℕ) (head next : Option ℕ) (es : List (ℕ × Tag)) (s t : S) → is_some next ≡ false → Walked does line head es next s t → Walked does line head es None s t
+walked_out does line head None es s t no-more before = before
+walked_out does line head (Some node) es s t no-more before = absurd (cc)
 
 -- the words to be shown after these commands
 abbrev pub words_behind : List ℕ → List Step → List ℕ
@@ -77,6 +91,11 @@ run_step {S} is_open does words items steps i d written last s mid t e lt before
     let made : PrintsAll is_open does words s (take (i + 1) items) (written ++ last) t = rw (take_more items i d lt) (prints_more is_open does words (take i items) (get_or items i d) written last s mid t from said) in
     rw e at made
 
+pub run_all : {S : Type 0} (is_open : S → ℕ → Bool) (does : S → Event → S → Type 0) (words : List ℕ) (items steps : List Step) (i : ℕ) (written : List ℕ) (s t : S) → items ≡ steps → length items ≤ i
+    → PrintsAll is_open does words s (take i steps) written t → PrintsAll is_open does words s steps written t
+run_all is_open does words items steps i written s t e le before =
+    subst (λ (l : List Step). PrintsAll is_open does words s l written t) (take_all i steps (subst (λ (l : List Step). length l ≤ i) e le)) before
+
 pub words_step : (words : List ℕ) (items steps : List Step) (i : ℕ) (d : Step) → items ≡ steps → i < length items
     → words_behind words (take (i + 1) steps) ≡ words_after (words_behind words (take i steps)) (get_or items i d).command
 words_step words items steps i d e lt =
@@ -94,3 +113,14 @@ stops_here is_open does nodes s mid t steps k step written (BadCommand n) printe
 stops_here is_open does nodes s mid t steps k step written (BadNumber n) printed at stop = absurd stop
 stops_here is_open does nodes s mid t steps k step written (NotDone n) printed at stop = (k, mid, step, printed, at, stop)
 stops_here is_open does nodes s mid t steps k step written WriteFailed printed at stop = absurd stop
+
+pub command_fits : (size has : Size) (items steps : List Step) (i : ℕ) (x : Step) → AreIn size steps → items ≡ steps → i < length items → x ≡ get_or items i x → has ≡ size → IsIn has x.command
+command_fits size has items steps i x fits e lt is same =
+    let all : AreIn size items = subst (λ (l : List Step). AreIn size l) (sym e) fits in
+    let at : IsIn size (get_or items i x).command = AllPass-from_list_all (λ (step : Step). is_in size step.command) items all i x lt in
+    subst (λ (s : Size). IsIn s x.command) (sym same) (subst (λ (step : Step). IsIn size step.command) (sym is) at)
+
+-- a command that stops is that of its step
+pub stopped : {S T : Type 0} (is_open : S → ℕ → Bool) (does : S → Event → S → Type 0) (nodes : ℕ) (s t : S) (step : Step) (command : Command) (result : Result T ScriptRefusal) → step.command ≡ command
+    → IfErr result (λ e. StopsAt is_open does nodes s (record { number = step.number; command = command }) e t) → IfErr result (λ e. StopsAt is_open does nodes s step e t)
+stopped is_open does nodes s t step command result is h = subst (λ (k : Command). IfErr result (λ e. StopsAt is_open does nodes s (record { number = step.number; command = k }) e t)) (sym is) h

@@ -1,6 +1,6 @@
 //! Runs a script.
 ghost use Rattle.std.specs.Prelude.{◌≡◌, ◌<◌, ◌≤◌, ℕ, [], true, Some, string_bytes, IfOk, IfErr, OnOk, All, MatchBool, MatchOption};
-ghost use Rattle.sci_script.specs.declared.commands.Command.TheVariants.{Begin as BeginCall, Turn as TurnOnce, Done, List as ListLine};
+ghost use Rattle.sci_script.specs.declared.commands.Command.TheVariants.{Begin as BeginCall, Turn as TurnOnce, Done, List as ListLine, Tag as ShowTag, Residents};
 ghost use Rattle.sci_script.specs.Size.{IsIn};
 ghost use Rattle.sci_script.specs.Event.{Turned, IsEnd, IsNoEnd};
 ghost use Rattle.sci_script.specs.Request.{words_after};
@@ -73,13 +73,14 @@ fn done<D: Desk>(
 /// `list`: the text of the line's sharing list.
 fn list<D: Desk>(
     alloc: Global,
+    text: &mut String,
     desk: &mut D,
     nodes: u16,
     number: u64,
     line: LineNo,
-) -> Result<String, ScriptRefusal>
+) -> Result<(), ScriptRefusal>
     requires { line < (D.size desk.old).lines }
-    ensures ok { IfOk result (λ text. Prints D.is_open D.does [] desk.old (ListLine line) (string_bytes text) desk.new) }
+    ensures ok { OnOk result (Prints D.is_open D.does [] desk.old (ListLine line) (string_bytes text.new) desk.new) }
     ensures err { IfErr result (λ e. StopsAt D.is_open D.does nodes desk.old (record { number = number; command = ListLine line }) e desk.new) }
     ensures size { D.size desk.new ≡ D.size desk.old }
 {
@@ -87,9 +88,50 @@ fn list<D: Desk>(
         return Err(ScriptRefusal::NotDone(number));
     };
     match walk(alloc, desk, line, mem.forw, nodes)? {
-        Some(entries) => Ok(list_text(alloc, line, mem, &entries)?),
-        None => Err(ScriptRefusal::NotDone(number)),
+        Some(entries) => *text = list_text(alloc, line, mem, &entries)?,
+        None => return Err(ScriptRefusal::NotDone(number)),
     }
+    Ok(())
+}
+
+/// `tag`: the text of the node's tag on the line.
+fn tag<D: Desk>(
+    alloc: Global,
+    text: &mut String,
+    desk: &mut D,
+    nodes: u16,
+    number: u64,
+    line: LineNo,
+    node: NodeId,
+) -> Result<(), ScriptRefusal>
+    requires line { line < (D.size desk.old).lines }
+    requires node { node < (D.size desk.old).nodes }
+    ensures ok { OnOk result (Prints D.is_open D.does [] desk.old (ShowTag line node) (string_bytes text.new) desk.new) }
+    ensures err { IfErr result (λ e. StopsAt D.is_open D.does nodes desk.old (record { number = number; command = ShowTag line node }) e desk.new) }
+    ensures size { D.size desk.new ≡ D.size desk.old }
+{
+    let tag = load_tag(desk, line, node).ok_or(ScriptRefusal::NotDone(number))?;
+    *text = tag_text(alloc, line, node, tag)?;
+    Ok(())
+}
+
+/// `residents`: the text of the lines that the node names.
+fn residents<D: Desk>(
+    alloc: Global,
+    text: &mut String,
+    desk: &mut D,
+    nodes: u16,
+    number: u64,
+    node: NodeId,
+) -> Result<(), ScriptRefusal>
+    requires { node < (D.size desk.old).nodes }
+    ensures ok { OnOk result (Prints D.is_open D.does [] desk.old (Residents node) (string_bytes text.new) desk.new) }
+    ensures err { IfErr result (λ e. StopsAt D.is_open D.does nodes desk.old (record { number = number; command = Residents node }) e desk.new) }
+    ensures size { D.size desk.new ≡ D.size desk.old }
+{
+    let lines = desk.resident(alloc, node)?;
+    *text = residents_text(alloc, node, &lines)?;
+    Ok(())
 }
 
 // A call begins where the node has none open. It prints nothing.
@@ -162,20 +204,9 @@ pub fn perform<D: Desk>(
         } => begin(desk, nodes, number, node, line, request),
         Command::Turn { node } => turn(text, desk, nodes, words, number, node),
         Command::Done { node } => done(text, desk, nodes, words, number, node),
-        Command::List { line } => {
-            *text = list(alloc, desk, nodes, number, line)?;
-            Ok(())
-        }
-        Command::Tag { line, node } => {
-            let tag = load_tag(desk, line, node).ok_or(ScriptRefusal::NotDone(number))?;
-            *text = tag_text(alloc, line, node, tag)?;
-            Ok(())
-        }
-        Command::Residents { node } => {
-            let lines = desk.resident(alloc, node)?;
-            *text = residents_text(alloc, node, &lines)?;
-            Ok(())
-        }
+        Command::List { line } => list(alloc, text, desk, nodes, number, line),
+        Command::Tag { line, node } => tag(alloc, text, desk, nodes, number, line, node),
+        Command::Residents { node } => residents(alloc, text, desk, nodes, number, node),
     }
 }
 

@@ -1,6 +1,26 @@
-use Rattle.sci_dump.proofs.Deciding.{IsLinkedOn, each_more, linked_on, invalid_on, last_on}
-use Rattle.sci_dump.proofs.checking.is_linked_back.Goals.{in-Some-forw+else-is_sharer, else-is_sharer-via-then-is_sharer+else-not-is_behind, else-is_sharer-via-else-is_sharer, in_default-forw}
+use Rattle.std.proofs.Common.{arith}
+use Rattle.sci_dump.proofs.Deciding.{IsLinkedOn, each_more, linked_on, invalid_on, last_on, head_suits, none_suits, linked, not_linked}
+use Rattle.sci_dump.proofs.checking.is_linked_back.Goals.{in-Some+else-not-is_head, in_default, in-Some-forw+else-is_sharer, else-is_sharer-via-then-is_sharer+else-not-is_behind, else-is_sharer-via-else-is_sharer, in_default-forw}
 use Rattle.sci_dump.proofs.checking.is_linked_back.Goals as goal
+
+pub loop-node-init : goal.loop-node-init
+loop-node-init c = λ i lt. absurd (omega (arith, lt))
+
+pub returns-then-not-is_behind : goal.returns-then-not-is_behind
+returns-then-not-is_behind c =
+    not_linked c.args.closed.now c.loop-node.node c.in-Some-forw.next c.tag_of-entry.result c.tag_of-then-is_sharer.result c.tag_of-entry.ensures
+    (rw c.number_of-then-is_sharer.ensures at c.tag_of-then-is_sharer.ensures) (omega (arith, c.loop-node-test.true, c.nodes_of-node-end.ensures))
+    c.if-is_sharer.ensures c.in-Some-forw.is c.if-not-is_behind.ensures
+
+pub returns : goal.returns
+returns c =
+    linked c.args.closed.now
+    (elim c.match-word_of.branch [
+      | in-Some+else-not-is_head w ↦
+          head_suits c.args.closed.now w.in-Some.head w.tag_of.result (rw w.number_of.ensures at w.tag_of.ensures) (rw c.word_of.ensures at w.in-Some.is) w.if-not-is_head.ensures
+      | in_default w ↦ none_suits c.args.closed.now (rw c.word_of.ensures at w.in_default.is)
+    ])
+    (λ i lt. c.loop-node.invariant i (omega (arith, lt, c.loop-node-test.false, c.nodes_of-node-end.ensures)))
 
 pub loop-node-preserved : goal.loop-node-preserved
 loop-node-preserved c =

@@ -1,13 +1,14 @@
-use Rattle.std.proofs.Common.{arith, ◌<◌, [], refl, ◌++◌, ◌+◌, ◌∙◌, List, ℕ, get_or, length, take, string_bytes, subst, sym, ap}
+use Rattle.std.proofs.Common.{arith, ◌<◌, ◌≤◌, [], refl, ◌++◌, ◌+◌, ◌∙◌, List, ℕ, get_or, length, take, string_bytes, subst, sym, ap}
 use Rattle.std.proofs.Math.Seq.{take-append-add}
 use Rattle.std.proofs.lemmas.List.{length-append}
 use Rattle.std.proofs.KnownBytes.{Appends-nil, Appends-trans}
 use Rattle.std.proofs.lemmas.List.Elements.{All-replicate}
 use Rattle.std.proofs.lemmas.Result.{err_from_is_err_and}
+use Rattle.sci_script.specs.declared.commands.Size.{Size}
 use Rattle.sci_script.specs.declared.commands.Step.{Step}
 use Rattle.sci_script.specs.Request.{no_words, words_after}
 use Rattle.sci_script.specs.Run.{Prints}
-use Rattle.sci_script.proofs.Runs.{prints_none, run_step, step_is, stops_here, words_step}
+use Rattle.sci_script.proofs.Runs.{prints_none, run_step, run_all, step_is, stops_here, words_step, command_fits}
 use Rattle.sci_script.proofs.commands.Script.run.Goals as goal
 
 pub loop-step-init : goal.loop-step-init
@@ -18,6 +19,48 @@ loop-step-init g c =
       range = All-replicate (λ (w : ℕ). w < 8) 64 0 (omega arith);
       written = ([], prints_none g.D.Desk.is_open g.D.Desk.does no_words c.args.desk.now, Appends-nil _);
     }
+
+pub perform-requires-clause-command : goal.perform-requires-clause-command
+perform-requires-clause-command g c =
+    let script = c.args.self.now in
+    command_fits script.size (g.D.Desk.size c.loop-step.desk) c.deref-step-items.result.now script.steps.items c.loop-step.step-index c.step-item.result script.fits c.deref-step-items.ensures.value
+    c.loop-step-test.true c.step-item.is c.loop-step.invariant.size
+
+pub perform-requires-clause-few : goal.perform-requires-clause-few
+perform-requires-clause-few g c = let script = c.args.self.now in subst (λ (size : Size). size.nodes ≤ 64) (sym c.loop-step.invariant.size) script.is_size.few_nodes
+
+pub perform-requires-clause-words : goal.perform-requires-clause-words
+perform-requires-clause-words g c = c.loop-step.invariant.range
+
+pub note-requires-clause-few : goal.note-requires-clause-few
+note-requires-clause-few g c = let script = c.args.self.now in script.is_size.few_nodes
+
+pub note-requires-clause-command : goal.note-requires-clause-command
+note-requires-clause-command g c =
+    let script = c.args.self.now in
+    command_fits script.size script.size c.deref-step-items.result.now script.steps.items c.loop-step.step-index c.step-item.result script.fits c.deref-step-items.ensures.value
+    c.loop-step-test.true c.step-item.is refl
+
+pub note-requires-clause-words : goal.note-requires-clause-words
+note-requires-clause-words g c = c.loop-step.invariant.range
+
+pub returns-in_err-perform-clause-size : goal.returns-in_err-perform-clause-size
+returns-in_err-perform-clause-size g c = c.in_err-perform.ensures.size ∙ c.loop-step.invariant.size ∙ sym c.requires
+
+pub returns-in-Err-clause-size : goal.returns-in-Err-clause-size
+returns-in-Err-clause-size g c = c.in_ok-perform.ensures.size ∙ c.loop-step.invariant.size ∙ sym c.requires
+
+pub returns-clause-size : goal.returns-clause-size
+returns-clause-size g c = c.loop-step.invariant.size ∙ sym c.requires
+
+pub returns-clause-ok : goal.returns-clause-ok
+returns-clause-ok g c =
+    let (written, so_far, appended) = c.loop-step.invariant.written in (
+      written,
+      run_all g.D.Desk.is_open g.D.Desk.does no_words c.deref-step-items.result.now c.args.self.now.steps.items c.loop-step.step-index written c.args.desk.now c.loop-step.desk
+          c.deref-step-items.ensures.value c.loop-step-test.false so_far,
+      appended,
+    )
 
 pub returns-in_err-perform-clause-err : goal.returns-in_err-perform-clause-err
 returns-in_err-perform-clause-err g c =

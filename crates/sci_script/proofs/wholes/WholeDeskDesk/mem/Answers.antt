@@ -1,0 +1,15 @@
+use Rattle.std.proofs.Common.{◌<◌, ℕ, length, subst, sym}
+use Rattle.sci_core.specs.Whole.{nodes_of}
+use Rattle.sci_script.specs.Nodes.{whole_of}
+use Rattle.sci_script.specs.Unused.{no_line}
+use Rattle.sci_script.proofs.BankDesks.{mem_link}
+use Rattle.sci_script.proofs.wholes.WholeDeskDesk.mem.Goals as goal
+
+pub mem-requires : goal.mem-requires
+mem-requires c = let desk = c.args.self.now in subst (λ (n : ℕ). c.args.line < n) (sym desk.lines) c.requires
+
+pub returns-clause-link : goal.returns-clause-link
+returns-clause-link c =
+    let desk = c.args.self.now in
+    let inside : c.args.line < length desk.bank.wholes.items = subst (λ (n : ℕ). c.args.line < n) (sym desk.lines) c.requires in
+    mem_link (nodes_of (whole_of desk.bank.wholes.items c.args.line)) desk.size.nodes c.mem.result (desk.widths c.args.line no_line inside) c.mem.ensures.form
