@@ -1,0 +1,12 @@
+use Rattle.std.proofs.Common.{refl}
+use Rattle.sci_fine.specs.Ports.{way_of}
+use Rattle.sci_fine.proofs.port.FinePortPort.mem.Goals as goal
+
+pub returns : goal.returns
+returns g c = let made = c.mem.ensures.made in record {
+  gives = (refl, refl, made);
+  same_way = λ i. way_of c.args.self.now.seat.ghost_name (made.same.3 i) (made.same.2 i);
+  same_fact = λ i. (made.same.3 i).keep;
+  same_step = made.owes.0;
+  form = made.owes.1;
+}
