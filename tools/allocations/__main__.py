@@ -6,13 +6,13 @@ It runs crates/NAME/out/NAME_tests, the program of a crate's tests, one test a p
 program's allocation of one number, and says so. `rt test` proves, builds and runs that program first; with --built it is taken as
 `rt ci` built it just before.
 
-Growths: a test in src/tests/growths.rt of a crate makes calls, and above it stands which of them grow, in their order, as in
+Growths: a test in a file growths.rt of a crate makes calls, and above it stands which of them grow, in their order, as in
 `Growths: 3 of open, 1 made up for, 2 of chain.` It runs once for each growth. Where that is refused the test must fail, and say
 'CALL answered 7': so each growth has an answer of its own. A call that makes up for it by a later one answers Ok, and the test
 passes. In one more run nothing may be left to refuse. What a thread's start takes stands there too: `1 thread of CALL` must be
 answered by 26. Where a thread grows while the next is started, no order is sure: `9 of CALL or its threads` is 7 or 26.
 
-No memory: a test `CALLS_take_no_memory` in src/tests/memory.rt makes one allocation in its last line. Its text there says which
+No memory: a test `CALLS_take_no_memory` in a file memory.rt makes one allocation in its last line. Its text there says which
 number that has, as in 'allocation 4 is refused'. With that one refused it must fail there: had the calls made an allocation, it
 would have another number.
 
@@ -85,13 +85,18 @@ def growths_of(table):
     return [answers_of(it) for it in rows for _ in range(int(it["count"]))] if all(rows) else []
 
 
-def faults_of_growths(program, file):
-    """Runs the tests of a crate's growths, and returns what isn't as it must be."""
+def module_of(crate, file):
+    """Returns the path of a file's module in its crate."""
+    return "::".join(file.relative_to(crate / "src").with_suffix("").parts)
+
+
+def faults_of_growths(program, file, module):
+    """Runs the tests of a file of growths, and returns what isn't as it must be."""
     tests, faults = GROWTHS.findall(file.read_text(encoding="utf-8")), []
     for table, test in tests:
         wanted = growths_of(table)
         for number, answers in enumerate([*wanted, [""]], 1):
-            is_well, is_refused, said = program.run(f"tests::growths::{test}", number)
+            is_well, is_refused, said = program.run(f"{module}::{test}", number)
             is_last = number > len(wanted)
             if is_refused == is_last:
                 faults.append(f"{test}: growth {number} was {'refused, and must not be there' if is_last else 'not there'}")
@@ -103,28 +108,31 @@ def faults_of_growths(program, file):
     return faults or ([] if tests else ["NOTHING WAS REFUSED: no test has a table of growths"])
 
 
-def faults_of_memory(program, file):
-    """Runs the tests of a crate's calls that take no memory, and returns what isn't as it must be."""
+def faults_of_memory(program, file, module):
+    """Runs the tests of a file of calls that take no memory, and returns what isn't as it must be."""
     text, faults = file.read_text(encoding="utf-8"), []
     found = TAKES_NONE.findall(text)
     if not found or len(found) != len(re.findall(r"#\[test\]", text)):
         return ["each test must be CALLS_take_no_memory, and say which allocation is refused"]
     for test, want, number in found:
-        is_well, is_refused, said = program.run(f"tests::memory::{test}", int(number))
+        is_well, is_refused, said = program.run(f"{module}::{test}", int(number))
         if is_well or not is_refused or said != want:
             faults.append(f"{test} must fail where {want}, and {'passed' if is_well else 'failed'} with '{said}'")
     return faults
 
 
-def faults_of(crate, refusing, is_built):
-    """Returns what isn't as it must be of a crate's tests, and what they are about."""
-    program, growths, memory = Program(crate, refusing), crate / "src/tests/growths.rt", crate / "src/tests/memory.rt"
+def faults_of(crate, files, refusing, is_built):
+    """Returns, for each file of a crate's tests, what isn't as it must be."""
+    program = Program(crate, refusing)
     if not is_built and subprocess.run(["rt", "test"], cwd=crate, stdin=subprocess.DEVNULL, stdout=sys.stderr).returncode:
-        return ["its tests weren't proved, or failed"]
+        return {crate: ["its tests weren't proved, or failed"]}
     if not program.is_built():
-        return ["the program of its tests is missing, or older than its sources"]
-    faults = faults_of_growths(program, growths) if growths.is_file() else []
-    return faults + (faults_of_memory(program, memory) if memory.is_file() else [])
+        return {crate: ["the program of its tests is missing, or older than its sources"]}
+    return {file: FAULTS[file.name](program, file, module_of(crate, file)) for file in files}
+
+
+# what is looked for in a file of tests, by the file's name
+FAULTS = {"growths.rt": faults_of_growths, "memory.rt": faults_of_memory}
 
 
 def main():
@@ -134,14 +142,16 @@ def main():
     given, failed = reader.parse_args(), 0
     # A failed assertion aborts, and would leave a core file.
     resource.setrlimit(resource.RLIMIT_CORE, (0, 0))
-    crates = {it.parents[2] for name in ("growths", "memory") for it in ROOT.glob(f"crates/*/src/tests/{name}.rt")}
     with tempfile.TemporaryDirectory() as room:
         refusing = library(room)
-        for crate in sorted(it for it in crates if not given.names or it.name in given.names):
-            faults = faults_of(crate, refusing, given.built)
-            failed += bool(faults)
-            for it in faults or ["each growth was answered as it must be, and no call took memory that takes none"]:
-                print(f"allocations: {crate.name}: {it}", flush=True)
+        for crate in sorted(ROOT.glob("crates/*_tests")):
+            files = sorted(it for name in FAULTS for it in crate.glob(f"src/**/{name}"))
+            if not files or given.names and crate.name not in given.names:
+                continue
+            for file, faults in faults_of(crate, files, refusing, given.built).items():
+                failed += bool(faults)
+                for it in faults or ["each growth was answered as it must be" if file.name == "growths.rt" else "no call took memory that takes none"]:
+                    print(f"allocations: {file.relative_to(ROOT / 'crates')}: {it}", flush=True)
     return 1 if failed else 0
 
 

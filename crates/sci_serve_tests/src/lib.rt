@@ -1,5 +1,11 @@
-//! The tests of sci_trace and sci_serve, in a crate above them: so what they have proved isn't proved once more for them.
+//! The tests of scripts, traces, workloads and what the program serves, in a crate above them: so what they have proved isn't proved once more for them.
 #![tactic(auto)]
 
 #[cfg(test)]
-mod tests;
+mod checks;
+#[cfg(test)]
+mod script;
+#[cfg(test)]
+mod serve;
+#[cfg(test)]
+mod work;

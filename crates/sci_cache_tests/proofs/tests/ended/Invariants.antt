@@ -1,9 +1,0 @@
-use Rattle.std.proofs.Common.{◌≡◌, length}
-use Rattle.sci_cache_tests.proofs.tests.ended.Given as goal
-
-abbrev pub invariant-loop-turns : goal.invariant-loop-turns
-invariant-loop-turns l = record {
-  node : l.bank.node ≡ l.node.id;
-  lines : length l.bank.wholes.items ≡ 3;
-  named : l.node.lines ≡ 3;
-}

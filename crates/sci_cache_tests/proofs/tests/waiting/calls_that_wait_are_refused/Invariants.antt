@@ -1,9 +1,0 @@
-use Rattle.std.proofs.Common.{◌≡◌, length}
-use Rattle.sci_cache_tests.proofs.tests.waiting.calls_that_wait_are_refused.Given as goal
-
-abbrev pub invariant-loop-request : goal.invariant-loop-request
-invariant-loop-request g l = record {
-  node : l.node.id ≡ l.bank.node;
-  named : l.node.lines ≡ 1;
-  lines : length l.bank.wholes.items ≡ 1;
-}

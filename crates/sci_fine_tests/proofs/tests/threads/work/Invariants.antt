@@ -1,6 +1,0 @@
-use Rattle.std.specs.Prelude.{All}
-use Rattle.sci_fine.specs.Seats.{IsSeatOf}
-use Rattle.sci_fine_tests.proofs.tests.threads.work.Given as goal
-
-abbrev pub invariant-loop-step : goal.invariant-loop-step
-invariant-loop-step g l = All (λ s. IsSeatOf l.line s) l.seats

@@ -1,0 +1,424 @@
+//! Dumps that are read, checked and written again, and texts that are none.
+ghost use Rattle.std.specs.Prelude.{◌<◌};
+
+mod growths;
+mod memory;
+
+use crate::checks::{is_so_at, same, same_at};
+use sci_core::{AnyWords, Closed, Event, Line, Pending, Whole};
+use sci_dump::*;
+use sci_words::{Kind, NodeId, Tag};
+use std::alloc::{AllocError, Global};
+use std::process::Abort;
+use std::test::Fail;
+
+/// The dump of one line that nodes 0, 1 and 2 have loaded, in this order.
+const SHARED: &str = "scidump 1 3 1\n\
+    line 0 0000000000000201 0 0 0 0 0 0 0 0 0\n\
+    tag 0 0 000000000001ff07 0 0 0 0 0 0 0 0 0\n\
+    tag 0 1 0000000000020007 0 0 0 0 0 0 0 0 0\n\
+    tag 0 2 0000000000ff0102 0 0 0 0 0 0 0 0 0\n\
+    end\n";
+
+/// SHARED with one change, and its verdict.
+const CHANGED: [(&str, &str, Verdict); 8] = [
+    ("scidump 1 3 1", "scidump 1 3 1", Verdict::Lawful),
+    (
+        "tag 0 2 0000000000ff0102",
+        "tag 0 2 0000000000ff0112",
+        Verdict::Unlawful {
+            line: 0,
+            rule: Rule::Settled,
+        },
+    ),
+    (
+        "tag 0 0 000000000001ff07",
+        "tag 0 0 0000000000010107",
+        Verdict::Unlawful {
+            line: 0,
+            rule: Rule::Ending,
+        },
+    ),
+    (
+        "line 0 0000000000000201",
+        "line 0 000000000000ff00",
+        Verdict::Unlawful {
+            line: 0,
+            rule: Rule::Listed,
+        },
+    ),
+    (
+        "tag 0 1 0000000000020007",
+        "tag 0 1 0000000000ff0003",
+        Verdict::Unlawful {
+            line: 0,
+            rule: Rule::Linked,
+        },
+    ),
+    (
+        "line 0 0000000000000201",
+        "line 0 0000000000000202",
+        Verdict::Unlawful {
+            line: 0,
+            rule: Rule::Suited,
+        },
+    ),
+    (
+        "tag 0 0 000000000001ff07 0",
+        "tag 0 0 000000000001ff07 1",
+        Verdict::Unlawful {
+            line: 0,
+            rule: Rule::Equal,
+        },
+    ),
+    (
+        "line 0 0000000000000201 0 0",
+        "line 0 0000000000000201 0 1",
+        Verdict::Unlawful {
+            line: 0,
+            rule: Rule::Equal,
+        },
+    ),
+];
+
+// The text of a dump.
+fn text_of(alloc: Global, lines: &Dump) -> Result<String, AllocError> {
+    dump(alloc, &lines.lines)
+}
+
+// The line of the fault that a text has. None: it has none, or there was no memory.
+fn fault_of(alloc: Global, text: &[u8]) -> Option<u64> {
+    match read_dump(alloc, text) {
+        Err(DumpRefusal::DumpFault(line)) => Some(line),
+        _ => None,
+    }
+}
+
+// The line of the fault that a text has with one change.
+fn fault_with(alloc: Global, text: &str, old: &str, new: &str) -> Result<Option<u64>, AllocError> {
+    let changed = text.replacen(alloc, old, new, 1)?;
+    Ok(fault_of(alloc, changed.as_bytes()))
+}
+
+// The verdict of a dump with one change.
+fn verdict_with(alloc: Global, text: &str, old: &str, new: &str) -> Result<Verdict, Fail> {
+    let changed = text.replacen(alloc, old, new, 1)?;
+    let read = read_dump(alloc, changed.as_bytes())?;
+    Ok(check(&read))
+}
+
+// The line of text behind a byte of this line.
+fn line_behind(line: u64, byte: u8) -> u64 {
+    if byte == b'\n' {
+        line.saturating_add(1)
+    } else {
+        line
+    }
+}
+
+// SHARED with one change has this verdict, and is written as it was read.
+fn judges(
+    rt: &impl Abort,
+    alloc: Global,
+    (old, new, verdict): &(&str, &str, Verdict),
+) -> Result<(), Fail> {
+    let text = SHARED.replacen(alloc, old, new, 1)?;
+    let read = read_dump(alloc, text.as_bytes())?;
+    same_at(rt, new, &check(&read), verdict);
+    same(rt, &text_of(alloc, &read)?, &text);
+    Ok(())
+}
+
+#[test]
+fn verdicts(rt: HostRuntime) -> Result<(), Fail> {
+    for row in &CHANGED {
+        judges(&rt, rt.alloc(), row)?;
+    }
+    Ok(())
+}
+
+/// Two lines of two nodes: the first is unused, the second is node 1's alone, dirty.
+const TWO_LINES: &str = "scidump 1 2 2\n\
+    line 0 000000000000ff00 0 0 0 0 0 0 0 0 0\n\
+    line 1 0000000000000102 0 0 0 0 0 0 0 0 0\n\
+    tag 1 1 0000000000ffff03 1 18446744073709551615 0 0 0 0 0 0 0\n\
+    end\n";
+
+// TWO_LINES is a lawful dump of two nodes, and is written as it was read.
+fn two_lines_are_lawful(rt: &impl Abort, alloc: Global) -> Result<(), Fail> {
+    let read = read_dump(alloc, TWO_LINES.as_bytes())?;
+    same(rt, &check(&read), &Verdict::Lawful);
+    same(rt, &read.nodes, &2);
+    assert!(rt; text_of(alloc, &read)?.as_str() == TWO_LINES);
+    Ok(())
+}
+
+#[test]
+fn the_first_line_that_breaks_a_rule(rt: HostRuntime) -> Result<(), Fail> {
+    two_lines_are_lawful(&rt, rt.alloc())?;
+    let old = "0000000000000102";
+    let fault = fault_with(rt.alloc(), TWO_LINES, old, "000000000000ff02")?;
+    same(&rt, &fault, &Some(3));
+    let verdict = verdict_with(rt.alloc(), TWO_LINES, old, "0000000000000101")?;
+    let unlawful = Verdict::Unlawful {
+        line: 1,
+        rule: Rule::Suited,
+    };
+    same(&rt, &verdict, &unlawful);
+    Ok(())
+}
+
+/// A dump without its last bytes is refused at the line that is cut or missing.
+#[test]
+fn cut_at_each_byte(rt: HostRuntime) -> Result<(), Fail> {
+    let mut line = 1;
+    let mut cut = Vec::new(rt.alloc());
+    for byte in SHARED.as_bytes() {
+        same_at(&rt, &line, &fault_of(rt.alloc(), &cut), &Some(line));
+        cut.push(*byte)?;
+        line = line_behind(line, *byte);
+    }
+    assert!(rt; read_dump(rt.alloc(), &cut).is_ok());
+    Ok(())
+}
+
+/// Texts that are no dumps, and the line of the first fault.
+const FAULTS: [(&str, &str, u64); 16] = [
+    ("scidump 1 3 1", "scidump 2 3 1", 1),
+    ("scidump 1 3 1", "scidump 1 65 1", 1),
+    ("scidump 1 3 1", "scidump 1 0 1", 1),
+    ("scidump 1 3 1", "scidump 1 3 1025", 1),
+    ("scidump 1 3 1", "scidump 1 03 1", 1),
+    ("scidump 1 3 1\n", "scidump 1 3 1\r\n", 1),
+    ("scidump 1 3 1", "scidump 1 2 1", 5),
+    ("scidump 1 3 1", "scidump 1 3 2", 6),
+    ("line 0 ", "line 1 ", 2),
+    ("line 0 ", "line  0 ", 2),
+    ("0000000000000201 0", "0000000000000201 00", 2),
+    ("000000000001ff07", "000000000001FF07", 3),
+    ("tag 0 1 ", "tag 0 0 ", 4),
+    ("tag 0 2 0000000000ff0102", "tag 0 2 0000000000ffff00", 5),
+    (
+        "0000000000020007 0",
+        "0000000000020007 18446744073709551616",
+        4,
+    ),
+    ("end\n", "end\n\n", 7),
+];
+
+#[test]
+fn faults(rt: HostRuntime) -> Result<(), Fail> {
+    for (old, new, line) in &FAULTS {
+        let fault = fault_with(rt.alloc(), SHARED, old, new)?;
+        same_at(&rt, new, &fault, &Some(*line));
+    }
+    Ok(())
+}
+
+/// The line where SHARED is at fault with the byte at this place of this line changed to that: its own, but where another count or
+/// node's number stands that might be right. Then a later line is the first that can't be.
+fn fault_behind(place: usize, line: u64, byte: u8) -> u64 {
+    match (place, byte) {
+        // one node or two: the next node's tag stands where `end` must
+        (10, b'1') => 4,
+        (10, b'2') => 5,
+        // more lines: `end` stands where line 1 must
+        (12, b'2'..=b'9') => 6,
+        // a greater node: the next tag is not behind it
+        (62, b'1' | b'2') => 4,
+        (105, b'2') => 5,
+        _ => line,
+    }
+}
+
+// SHARED with this byte in this place.
+fn with_byte(alloc: Global, place: usize, byte: u8) -> Result<Vec<u8>, AllocError> {
+    let mut text = Vec::from_slice(alloc, SHARED.as_bytes())?;
+    if let Some(changed) = text.get_mut(place) {
+        *changed = byte;
+    }
+    Ok(text)
+}
+
+// The text, changed in this place, is refused at that line; or it is a dump, and is written as it was read.
+fn is_read_back_or_refused(
+    rt: &impl Abort,
+    alloc: Global,
+    place: usize,
+    text: &[u8],
+    fault: u64,
+) -> Result<(), Fail> {
+    match read_dump(alloc, text) {
+        Ok(read) => is_so_at(rt, &place, text_of(alloc, &read)?.as_bytes() == text),
+        Err(refusal) => same_at(rt, &place, &refusal, &DumpRefusal::DumpFault(fault)),
+    }
+    Ok(())
+}
+
+/// A dump with one byte changed, to any other, is refused at that byte's line, but for the changes above; or it is a dump.
+#[test]
+fn changed_in_each_byte(rt: HostRuntime) -> Result<(), Fail> {
+    let mut line = 1;
+    for (place, old) in SHARED.as_bytes().iter().enumerate() {
+        for byte in 0..=u8::MAX {
+            let text = with_byte(rt.alloc(), place, byte)?;
+            let fault = fault_behind(place, line, byte);
+            is_read_back_or_refused(&rt, rt.alloc(), place, &text, fault)?;
+        }
+        line = line_behind(line, *old);
+    }
+    Ok(())
+}
+
+fn node(number: u16) -> NodeId
+    requires { number < 255 }
+{
+    match NodeId::new(number) {
+        Some(node) => node,
+        None => unreachable!(),
+    }
+}
+
+fn fresh(forw: Option<NodeId>) -> Tag {
+    Tag {
+        kind: Kind::Fresh,
+        held: false,
+        forw,
+        back: None,
+    }
+}
+
+// The line at rest.
+fn closed_of(alloc: Global, whole: &Whole<AnyWords>) -> Result<Closed, Fail> {
+    for number in 0..whole.nodes() {
+        let node = NodeId::new(number).ok_or("a node")?;
+        let Pending::Idle = whole.pending(node) else {
+            return Err(Fail::new("a node is at work"));
+        };
+    }
+    Ok(whole.closed(alloc)?)
+}
+
+// Makes a step of a node.
+#[tactic(auto, using(sci_core::proofs::Fitting::any_event_fits))]
+fn take(whole: &mut Whole<AnyWords>, node: NodeId, event: Event) -> Result<(), Fail> {
+    if node.get() >= whole.nodes() || whole.step(node, event).is_err() {
+        return Err(Fail::new("the event is not in turn"));
+    }
+    Ok(())
+}
+
+// A node has found this head, enters the list in front of it, and has memory's bytes.
+fn enter(whole: &mut Whole<AnyWords>, node: NodeId, head: Option<NodeId>) -> Result<(), Fail> {
+    take(whole, node, Event::Queue(head))?;
+    take(whole, node, Event::PrependValid)?;
+    take(whole, node, Event::ReturnMemory)
+}
+
+// A node loads, in front of this head, whose entry names that node behind it.
+fn load(
+    whole: &mut Whole<AnyWords>,
+    node: NodeId,
+    head: NodeId,
+    behind: Option<NodeId>,
+) -> Result<(), Fail> {
+    enter(whole, node, Some(head))?;
+    take(whole, node, Event::AttachFresh(fresh(behind)))?;
+    take(whole, node, Event::Settle)
+}
+
+// The line that nodes 0, 1 and 2 have loaded, in this order.
+fn shared(alloc: Global) -> Result<Closed, Fail> {
+    let (zero, one, two) = (node(0), node(1), node(2));
+    let mut whole = Whole::open(alloc, 3, 0, Line::ZERO, AnyWords)?;
+    enter(&mut whole, zero, None)?;
+    take(&mut whole, zero, Event::Settle)?;
+    load(&mut whole, one, zero, None)?;
+    load(&mut whole, two, one, Some(zero))?;
+    closed_of(alloc, &whole)
+}
+
+// The same line again.
+fn same_line(rt: &impl Abort, line: &Closed, back: &Closed) {
+    same(rt, &line.mem, &back.mem);
+    same(rt, &line.memory, &back.memory);
+    same(rt, &line.tags.as_slice(), &back.tags.as_slice());
+    same(rt, &line.lines.as_slice(), &back.lines.as_slice());
+}
+
+// The dump of this line of three nodes.
+fn is_read(rt: &impl Abort, lines: &[Closed], read: &Dump) {
+    same(rt, &read.nodes, &3);
+    same(rt, &read.lines.len(), &1);
+    for (line, back) in lines.iter().zip(read.lines.iter()) {
+        same_line(rt, line, back);
+    }
+}
+
+#[test]
+fn a_closed_line_is_dumped_and_read_back(rt: HostRuntime) -> Result<(), Fail> {
+    let closed = shared(rt.alloc())?;
+    // (told to the prover too: `dump` asks for lines of one number of nodes)
+    assert_eq!(rt; closed.tags.len(), 3);
+    let lines = vec![in rt.alloc(); closed]?;
+    let text = dump(rt.alloc(), &lines)?;
+    assert!(rt; text.as_str() == SHARED);
+    let read = read_dump(rt.alloc(), text.as_bytes())?;
+    is_read(&rt, &lines, &read);
+    Ok(())
+}
+
+// The word of a node's tag, where 63 is the head, in front of 62, and so on to 0.
+fn word_of(node: u64) -> u64
+    requires { node < 64 }
+{
+    match node {
+        0 => 0x01_FF07,
+        63 => 0xFF_3E02,
+        _ => (node + 1) * 65_536 + (node - 1) * 256 + 7,
+    }
+}
+
+// A line that 64 nodes share.
+fn write_line(text: &mut String, line: u64) -> Result<(), Fail> {
+    write!(text, "line {line} 0000000000003f01 0 0 0 0 0 0 0 0 0\n")?;
+    for node in 0..64u64 {
+        let word = word_of(node);
+        write!(text, "tag {line} {node} {word:016x} 0 0 0 0 0 0 0 0 0\n")?;
+    }
+    Ok(())
+}
+
+// The dump of so many lines that 64 nodes share.
+fn shared_by_all(alloc: Global, lines: u64) -> Result<String, Fail> {
+    let mut text = format!(in alloc; "scidump 1 64 {lines}\n")?;
+    for line in 0..lines {
+        write_line(&mut text, line)?;
+    }
+    text.push_str("end\n")?;
+    Ok(text)
+}
+
+// The dump of so many lines that 64 nodes share is lawful, and is written as it was read.
+fn dumps_lines_of_64_nodes(rt: &impl Abort, alloc: Global, lines: u64) -> Result<(), Fail> {
+    let text = shared_by_all(alloc, lines)?;
+    let read = read_dump(alloc, text.as_bytes())?;
+    same(rt, &check(&read), &Verdict::Lawful);
+    let again = text_of(alloc, &read)?;
+    is_so_at(rt, &lines, again.as_str() == text.as_str());
+    Ok(())
+}
+
+#[test]
+fn dumps_of_64_nodes(rt: HostRuntime) -> Result<(), Fail> {
+    for lines in [1, 340, 1024] {
+        dumps_lines_of_64_nodes(&rt, rt.alloc(), lines)?;
+    }
+    Ok(())
+}
+
+#[test]
+fn numbers_of_refusals(rt: HostRuntime) {
+    same(&rt, &DumpRefusal::OutOfMemory.number(), &7);
+    same(&rt, &DumpRefusal::DumpFault(1).number(), &21);
+}

@@ -1,0 +1,13 @@
+//! The tests of the crates of one line, in a crate above them: so what they have proved isn't proved once more for them.
+#![tactic(auto)]
+
+#[cfg(test)]
+mod checks;
+#[cfg(test)]
+mod dump;
+#[cfg(test)]
+mod ops;
+#[cfg(test)]
+mod port;
+#[cfg(test)]
+mod whole;

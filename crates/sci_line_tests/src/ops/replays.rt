@@ -1,0 +1,119 @@
+//! A run of several nodes, whose recorded events are done once more on another line.
+use crate::checks::{same, same_at};
+use sci_core::{AnyWords, Event, Line, Whole};
+use sci_ops::{Answer, BadWord, Op, Turn};
+use sci_port::Solo;
+use sci_port::recording::{Recorder, Trace};
+use sci_words::NodeId;
+use std::process::Abort;
+use std::test::Fail;
+
+// One turn of a node's operation, through a port that records it.
+pub(crate) fn turn(
+    whole: &mut Whole<AnyWords>,
+    trace: &mut Trace,
+    number: u16,
+    op: &mut Op,
+) -> Option<Turn> {
+    let node = NodeId::new(number)?;
+    if node.get() >= whole.nodes() {
+        return None;
+    }
+    let mut solo = Solo::new(whole, node);
+    let mut port = Recorder::new(&mut solo, trace);
+    Some(op.turn(&mut port))
+}
+
+// Does the events from this place on; whether each was in turn.
+#[tactic(auto, using(sci_core::proofs::Fitting::any_event_fits))]
+fn replay(whole: &mut Whole<AnyWords>, events: &[(NodeId, Event)], from: usize) -> bool {
+    for (node, event) in events.iter().skip(from) {
+        if node.get() >= whole.nodes() || whole.step(*node, *event).is_err() {
+            return false;
+        }
+    }
+    true
+}
+
+// Whether two lines have the same words, pending steps and bytes.
+fn is_same(one: &Whole<AnyWords>, other: &Whole<AnyWords>) -> bool {
+    for number in 0..one.nodes() {
+        let Some(node) = NodeId::new(number) else {
+            return false;
+        };
+        if node.get() >= one.nodes()
+            || node.get() >= other.nodes()
+            || one.tag(node) != other.tag(node)
+            || one.pending(node) != other.pending(node)
+            || one.line(node) != other.line(node)
+        {
+            return false;
+        }
+    }
+    one.mem() == other.mem() && one.memory_line() == other.memory_line()
+}
+
+// An operation for each of three nodes, four times.
+fn operations() -> Result<[[Op; 3]; 4], BadWord> {
+    Ok([
+        [Op::load(), Op::load(), Op::load()],
+        [Op::add(0, 5)?, Op::evict(), Op::load()],
+        [Op::evict(), Op::load(), Op::write_line([3; 8])],
+        [Op::add(1, 4)?, Op::add(1, 4)?, Op::evict()],
+    ])
+}
+
+// One turn of a node, recorded. Its events are done once more on the other line, which then is the same.
+fn take_turn(
+    rt: &impl Abort,
+    whole: &mut Whole<AnyWords>,
+    trace: &mut Trace,
+    again: &mut Whole<AnyWords>,
+    number: u16,
+    op: &mut Op,
+) -> Result<(), Fail> {
+    let replayed = trace.events().ok_or("no room")?.len();
+    assert!(rt; turn(whole, trace, number, op).is_some());
+    let events = trace.events().ok_or("no room")?;
+    assert!(rt; replay(again, events, replayed));
+    same_at(rt, &events.len(), &is_same(whole, again), &true);
+    Ok(())
+}
+
+// Forty turns of each node, each node with an operation.
+fn take_turns(
+    rt: &impl Abort,
+    whole: &mut Whole<AnyWords>,
+    trace: &mut Trace,
+    again: &mut Whole<AnyWords>,
+    ops: &mut [Op; 3],
+) -> Result<(), Fail> {
+    for _ in 0..40 {
+        for (number, op) in (0..3).zip(ops.iter_mut()) {
+            take_turn(rt, whole, trace, again, number, op)?;
+        }
+    }
+    Ok(())
+}
+
+// Node 2 reads these words in its sixth turn, after four writes.
+fn sees(rt: &impl Abort, whole: &mut Whole<AnyWords>, trace: &mut Trace, words: [u64; 8]) {
+    let seen = Turn::Done(Answer::Seen { words, stamp: 4 });
+    let mut op = Op::load();
+    for _ in 0..5 {
+        assert!(rt; turn(whole, trace, 2, &mut op) != Some(Turn::Waiting));
+    }
+    same(rt, &turn(whole, trace, 2, &mut op), &Some(seen));
+}
+
+#[test]
+fn replays_what_a_recorder_kept(rt: HostRuntime) -> Result<(), Fail> {
+    let mut whole = Whole::open(rt.alloc(), 3, 0, Line::ZERO, AnyWords)?;
+    let mut again = Whole::open(rt.alloc(), 3, 0, Line::ZERO, AnyWords)?;
+    let mut trace = Trace::new(Vec::with_capacity(rt.alloc(), 1_000)?);
+    for mut ops in operations()? {
+        take_turns(&rt, &mut whole, &mut trace, &mut again, &mut ops)?;
+    }
+    sees(&rt, &mut again, &mut trace, [3, 11, 3, 3, 3, 3, 3, 3]);
+    Ok(())
+}

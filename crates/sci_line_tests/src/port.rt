@@ -1,0 +1,183 @@
+//! Ports to a line that is lent, event by event.
+ghost use Rattle.std.specs.Prelude.{◌≡◌, ◌<◌};
+
+mod memory;
+
+use crate::checks::same;
+use sci_core::{Event, Line, Outcome, Pending, Whole};
+use sci_port::recording::{Recorder, Trace};
+use sci_port::*;
+use sci_words::{Kind, MemState, NodeId, Tag};
+use std::alloc::Global;
+use std::process::Abort;
+use std::test::Fail;
+
+const LINE: Line = Line {
+    words: [1, 2, 3, 4, 5, 6, 7, 8],
+    stamp: 40,
+};
+
+fn node(number: u16) -> NodeId
+    requires { number < 255 }
+    ensures { result ≡ number }
+{
+    match NodeId::new(number) {
+        Some(node) => node,
+        None => unreachable!(),
+    }
+}
+
+fn fresh(forw: Option<NodeId>) -> Tag {
+    Tag {
+        kind: Kind::Fresh,
+        held: false,
+        forw,
+        back: None,
+    }
+}
+
+/// One event through a port, if its step allows it. It is proved for all ports at once.
+fn step_of<P: Port<Keep = AnyWords>>(port: &mut P, event: Event) -> Option<Outcome> {
+    if port.pending().allows(port.node(), port.nodes(), &event) {
+        Some(port.step(event))
+    } else {
+        None
+    }
+}
+
+/// The same through a recorder of the port.
+fn record_of<P: Port<Keep = AnyWords>>(
+    port: &mut P,
+    trace: &mut Trace,
+    event: Event,
+) -> Option<Outcome> {
+    step_of(&mut Recorder::new(port, trace), event)
+}
+
+/// One event of a node through a port that records it, if there is that node and its step allows it.
+fn step(
+    whole: &mut Whole<AnyWords>,
+    trace: &mut Trace,
+    number: u16,
+    event: Event,
+) -> Option<Outcome> {
+    let node = NodeId::new(number)?;
+    if node.get() >= whole.nodes() {
+        return None;
+    }
+    record_of(&mut Solo::new(whole, node), trace, event)
+}
+
+/// A line of two nodes, and a trace with so much room.
+fn opened(alloc: Global, room: usize) -> Result<(Whole<AnyWords>, Trace), Fail> {
+    let whole = Whole::open(alloc, 2, 0, LINE, AnyWords)?;
+    let events = Vec::with_capacity(alloc, room)?;
+    Ok((whole, Trace::new(events)))
+}
+
+// A reader who turns to a writer, until a second reader comes in before it.
+fn two_readers() -> [(u16, Event, Outcome); 8] {
+    [
+        (0, Event::Queue(None), Outcome::Done(None)),
+        (0, Event::PrependValid, Outcome::Done(None)),
+        (0, Event::ReturnMemory, Outcome::Done(None)),
+        (0, Event::Settle, Outcome::Done(Some(LINE))),
+        (0, Event::Convert(fresh(None)), Outcome::Done(None)),
+        (1, Event::Queue(Some(node(0))), Outcome::Done(None)),
+        (1, Event::PrependValid, Outcome::Done(None)),
+        (0, Event::FreshToGone, Outcome::Missed(0x111)),
+    ]
+}
+
+// The second reader isn't allowed to settle, and the first turns back.
+fn behind_the_miss() -> [(u16, Event, Option<Outcome>); 3] {
+    [
+        (1, Event::Settle, None),
+        (0, Event::Unconverted, Some(Outcome::Done(None))),
+        (0, Event::Look, Some(Outcome::Done(None))),
+    ]
+}
+
+// What passed at the miss and behind it stands in the trace.
+fn shows_the_miss(rt: &impl Abort, trace: &Trace) -> Result<(), Fail> {
+    let events = trace.events().ok_or("no room")?;
+    same(rt, &events.len(), &10);
+    same(rt, &events.get(7), &Some(&(node(0), Event::FreshToGone)));
+    same(rt, &events.get(8), &Some(&(node(0), Event::Unconverted)));
+    Ok(())
+}
+
+#[test]
+fn steps_two_readers(rt: HostRuntime) -> Result<(), Fail> {
+    let (mut whole, mut trace) = opened(rt.alloc(), 16)?;
+    for (number, event, outcome) in two_readers() {
+        let answer = step(&mut whole, &mut trace, number, event);
+        same(&rt, &answer, &Some(outcome));
+    }
+    for (number, event, outcome) in behind_the_miss() {
+        same(&rt, &step(&mut whole, &mut trace, number, event), &outcome);
+    }
+    shows_the_miss(&rt, &trace)
+}
+
+// The port of node 2 of three to line 7, as it was opened.
+fn stands<P: Port>(rt: &impl Abort, port: &mut P)
+    ensures { P.way port.new ≡ P.way port.old }
+{
+    same(rt, &port.node().get(), &2);
+    same(rt, &port.nodes(), &3);
+    same(rt, &port.number(), &7);
+    same(rt, &port.pending(), &Pending::Idle);
+    same(rt, &port.mem().map(|mem| mem.state), &Some(MemState::Home));
+}
+
+// The tags of the port's node and of node 1, as they were opened.
+fn tags_stand<P: Port>(rt: &impl Abort, port: &mut P)
+    requires { 1 < (P.way port.old).nodes }
+{
+    same(rt, &port.own().map(|tag| tag.kind), &Some(Kind::Invalid));
+    same(
+        rt,
+        &port.tag(node(1)).map(|tag| tag.kind),
+        &Some(Kind::Invalid),
+    );
+}
+
+// The same through a recorder of the port.
+fn recorded_tags_stand<P: Port>(rt: &impl Abort, port: &mut P, trace: &mut Trace)
+    requires { 1 < (P.way port.old).nodes }
+{
+    tags_stand(rt, &mut Recorder::new(port, trace));
+}
+
+// The only event that passed is the node's look.
+fn shows_a_look(rt: &impl Abort, trace: &Trace, node: NodeId) -> Result<(), Fail> {
+    let events = trace.events().ok_or("no room")?;
+    same(rt, &events.get(0), &Some(&(node, Event::Look)));
+    same(rt, &events.len(), &1);
+    Ok(())
+}
+
+#[test]
+fn loads_the_words_that_stand(rt: HostRuntime) -> Result<(), Fail> {
+    let mut whole = Whole::open(rt.alloc(), 3, 7, LINE, AnyWords)?;
+    let mut trace = Trace::new(Vec::with_capacity(rt.alloc(), 16)?);
+    let first = node(2);
+    if first.get() < whole.nodes() {
+        let mut port = Solo::new(&mut whole, first);
+        stands(&rt, &mut port);
+        recorded_tags_stand(&rt, &mut port, &mut trace);
+    }
+    shows_a_look(&rt, &trace, first)
+}
+
+#[test]
+fn a_trace_without_room_is_cut(rt: HostRuntime) -> Result<(), Fail> {
+    let (mut whole, mut trace) = opened(rt.alloc(), 3)?;
+    for (place, (number, event, outcome)) in two_readers().iter().enumerate() {
+        let answer = step(&mut whole, &mut trace, *number, *event);
+        same(&rt, &answer, &Some(*outcome));
+        same(&rt, &trace.events().is_some(), &(place < 3));
+    }
+    Ok(())
+}

@@ -1,0 +1,209 @@
+//! Steps and runs worked out by hand from the table of exchanges.
+ghost use Rattle.std.specs.Prelude.{◌≡◌, ℕ, ◌<◌, All, IfOk};
+ghost use Rattle.sci_core.specs.declared.pending.Pending.TheVariants.{Idle};
+ghost use Rattle.sci_core.specs.Whole.{nodes_of, state_of};
+
+mod answers;
+mod closing;
+mod growths;
+mod memory;
+mod texts;
+mod words;
+
+use crate::checks::{same, same_at};
+use sci_core::*;
+use sci_words::{Kind, LineNo, MemState, NodeId, Tag};
+use std::alloc::Global;
+use std::process::Abort;
+use std::test::Fail;
+
+const LINE: Line = Line {
+    words: [1, 2, 3, 4, 5, 6, 7, 8],
+    stamp: 40,
+};
+
+fn node(number: u16) -> NodeId
+    requires { number < 255 }
+    ensures { result ≡ number }
+{
+    match NodeId::new(number) {
+        Some(node) => node,
+        None => unreachable!(),
+    }
+}
+
+/// The tag of a node that is alone on its list.
+pub const ALONE: Tag = Tag {
+    kind: Kind::Fresh,
+    held: false,
+    forw: None,
+    back: None,
+};
+
+/// A line that nobody has used.
+fn opened(
+    alloc: Global,
+    nodes: u16,
+    number: LineNo,
+    line: Line,
+) -> Result<Whole<AnyWords>, OpenRefusal>
+    ensures { IfOk result (λ w. (i : ℕ) → i < nodes_of w → (state_of w).steps i ≡ Idle) }
+{
+    Whole::open(alloc, nodes, number, line, AnyWords)
+}
+
+/// The numbers of the nodes on the line's list, from its head.
+fn numbers(alloc: Global, whole: &Whole<AnyWords>) -> Result<Vec<u16>, Fail> {
+    let numbers = whole
+        .chain(alloc)?
+        .iter()
+        .map(|node| node.get())
+        .collect(alloc)?;
+    Ok(numbers)
+}
+
+/// One event of a node, if there is that node.
+#[tactic(auto, using(sci_core::proofs::Fitting::any_event_fits))]
+fn step(
+    whole: &mut Whole<AnyWords>,
+    number: u16,
+    event: Event,
+) -> Option<Result<Outcome, NotInTurn>> {
+    let node = NodeId::new(number)?;
+    if node.get() < whole.nodes() {
+        Some(whole.step(node, event))
+    } else {
+        None
+    }
+}
+
+/// Events of nodes, if there are those nodes.
+#[tactic(auto, using(sci_core::proofs::Fitting::any_events_fit))]
+fn run(whole: &mut Whole<AnyWords>, events: &[(NodeId, Event)]) -> Option<Result<usize, usize>> {
+    let nodes = whole.nodes();
+    if events.iter().all(|event| event.0.get() < nodes) {
+        Some(whole.run(events))
+    } else {
+        None
+    }
+}
+
+#[test]
+fn opens_with_1_to_64_nodes(rt: HostRuntime) -> Result<(), Fail> {
+    for (nodes, refused) in [(0, true), (1, false), (64, false), (65, true)] {
+        let opened = Whole::open(rt.alloc(), nodes, 7, LINE, AnyWords);
+        match opened {
+            Ok(whole) => {
+                same_at(&rt, &nodes, &refused, &false);
+                same(&rt, &whole.nodes(), &nodes);
+                same(&rt, &whole.number(), &7);
+                same(&rt, &whole.mem().state, &MemState::Home);
+            }
+            Err(refusal) => {
+                same_at(&rt, &nodes, &refused, &true);
+                same(&rt, &refusal.number(), &6);
+            }
+        }
+    }
+    Ok(())
+}
+
+/// One node after the other reads the line, and is its list's new head.
+fn all_read(rt: &impl Abort, whole: &mut Whole<AnyWords>, nodes: u16) {
+    let mut head = None;
+    for number in 0..nodes {
+        for event in [Event::Queue(head), Event::PrependValid, Event::ReturnMemory] {
+            let outcome = step(whole, number, event);
+            let is_done = matches!(outcome, Some(Ok(Outcome::Done(_))));
+            same_at(rt, &nodes, &is_done, &true);
+        }
+        head = NodeId::new(number);
+    }
+}
+
+/// The line's list has all nodes, the last one first.
+fn lists_all(
+    rt: &impl Abort,
+    alloc: Global,
+    whole: &Whole<AnyWords>,
+    nodes: u16,
+) -> Result<(), Fail> {
+    let chain = numbers(alloc, whole)?;
+    let want: Vec<u16> = (0..nodes).rev().collect(alloc)?;
+    same_at(rt, &nodes, &chain.as_slice(), &want.as_slice());
+    Ok(())
+}
+
+#[test]
+fn closes_and_lists_1_to_64_nodes(rt: HostRuntime) -> Result<(), Fail> {
+    for nodes in 1..65 {
+        let mut whole = opened(rt.alloc(), nodes, 7, LINE)?;
+        let closed = whole.closed(rt.alloc())?;
+        same(&rt, &closed.tags.len(), &usize::from(nodes));
+        all_read(&rt, &mut whole, nodes);
+        lists_all(&rt, rt.alloc(), &whole, nodes)?;
+    }
+    Ok(())
+}
+
+// A reader, until a second one prepends itself.
+fn two_read(zero: NodeId, one: NodeId, alone: Tag) -> [(NodeId, Event); 7] {
+    [
+        (zero, Event::Queue(None)),
+        (zero, Event::PrependValid),
+        (zero, Event::ReturnMemory),
+        (zero, Event::Settle),
+        (zero, Event::Convert(alone)),
+        (one, Event::Queue(Some(zero))),
+        (one, Event::PrependValid),
+    ]
+}
+
+// What further events come to, after those.
+fn then() -> [(u16, Event, Result<Outcome, NotInTurn>); 4] {
+    [
+        (0, Event::FreshToGone, Ok(Outcome::Missed(0x111))),
+        (1, Event::Settle, Err(NotInTurn)),
+        (0, Event::Unconverted, Ok(Outcome::Done(None))),
+        (0, Event::Look, Ok(Outcome::Done(None))),
+    ]
+}
+
+#[test]
+fn runs_two_readers(rt: HostRuntime) -> Result<(), Fail> {
+    let mut whole = Whole::open(rt.alloc(), 2, 0, LINE, AnyWords)?;
+    same(
+        &rt,
+        &run(&mut whole, &two_read(node(0), node(1), ALONE)),
+        &Some(Ok(7)),
+    );
+    let chain = numbers(rt.alloc(), &whole)?;
+    same(&rt, &chain.as_slice(), &[1, 0].as_slice());
+    for (number, event, outcome) in then() {
+        same(&rt, &step(&mut whole, number, event), &Some(outcome));
+    }
+    Ok(())
+}
+
+#[test]
+fn stops_at_the_first_that_is_not_in_turn(rt: HostRuntime) -> Result<(), Fail> {
+    let mut whole = Whole::open(rt.alloc(), 1, 0, LINE, AnyWords)?;
+    let events = [
+        (node(0), Event::Queue(None)),
+        (node(0), Event::PrependValid),
+        (node(0), Event::Settle),
+        (node(0), Event::ReturnMemory),
+    ];
+    same(&rt, &run(&mut whole, &events), &Some(Err(2)));
+    same(
+        &rt,
+        &step(&mut whole, 0, Event::ReturnMemory),
+        &Some(Ok(Outcome::Done(None))),
+    );
+    same(
+        &rt,
+        &step(&mut whole, 0, Event::Settle),
+        &Some(Ok(Outcome::Done(Some(LINE)))),
+    );
+    Ok(())
+}

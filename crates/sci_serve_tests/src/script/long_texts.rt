@@ -1,0 +1,118 @@
+//! Texts of more than 2,000 bytes, through writers that take little at a time or are interrupted: what arrives is the whole text.
+ghost use Rattle.std.specs.Prelude.{Some};
+
+use super::{NODES, add_list, add_load, add_read, run_text};
+use crate::checks::same;
+use sci_script::put;
+use std::alloc::{AllocError, Global};
+use std::io;
+use std::io::{ErrorKind, Write};
+use std::test::Fail;
+
+/// Takes so many bytes a write at most, and is interrupted so many times before each.
+#[derive(Clone, Copy)]
+struct Pace {
+    most: usize,
+    interruptions: u32,
+}
+
+const PACES: [Pace; 7] = [
+    Pace {
+        most: 1,
+        interruptions: 0,
+    },
+    Pace {
+        most: 1,
+        interruptions: 1,
+    },
+    Pace {
+        most: 7,
+        interruptions: 0,
+    },
+    Pace {
+        most: 600,
+        interruptions: 0,
+    },
+    Pace {
+        most: 601,
+        interruptions: 3,
+    },
+    Pace {
+        most: usize::MAX,
+        interruptions: 0,
+    },
+    Pace {
+        most: usize::MAX,
+        interruptions: 5_000,
+    },
+];
+
+#[derive(Drop)]
+struct Slow {
+    held: Vec<u8>,
+    pace: Pace,
+    interruptions: u32,
+}
+
+impl Write for Slow {
+    ghost contents = { λ w. Some w.held.items };
+
+    fn write(&mut self, buf: &[u8]) -> io::Result<usize> {
+        if self.interruptions < self.pace.interruptions {
+            self.interruptions += 1;
+            return Err(io::Error::from(ErrorKind::Interrupted));
+        }
+        self.interruptions = 0;
+        let count = buf.len().min(self.pace.most);
+        self.held.extend_from_slice(&buf[..count])?;
+        Ok(count)
+    }
+
+    fn flush(&mut self) -> io::Result<()> {
+        Ok(())
+    }
+}
+
+fn writer_of(alloc: Global, pace: Pace) -> Slow {
+    Slow {
+        held: Vec::new(alloc),
+        pace,
+        interruptions: 0,
+    }
+}
+
+/// A script in which 64 nodes load a line, one after the other, and its text, of one line of 900 bytes and more than 2,000 in all.
+fn readers(alloc: Global) -> Result<(String, String), AllocError> {
+    let mut script = format!(in alloc; "memory {NODES} 1\n")?;
+    let mut text = String::new(alloc);
+    for node in 0..NODES {
+        add_load(&mut script, node, 0, 0)?;
+        add_read(&mut text, node, 0)?;
+    }
+    script.push_str("list 0\n")?;
+    add_list(&mut text, NODES - 1)?;
+    Ok((script, text))
+}
+
+#[test]
+fn a_long_text_arrives(rt: HostRuntime) -> Result<(), Fail> {
+    let (script, text) = readers(rt.alloc())?;
+    assert!(rt; text.len() > 2_000);
+    for pace in PACES {
+        let mut writer = writer_of(rt.alloc(), pace);
+        same(&rt, &run_text(rt.alloc(), &script, &mut writer), &Ok(()));
+        assert!(rt; writer.held.as_slice() == text.as_bytes());
+    }
+    Ok(())
+}
+
+#[test]
+fn a_long_text_arrives_in_one_put(rt: HostRuntime) -> Result<(), Fail> {
+    let (_, text) = readers(rt.alloc())?;
+    for pace in PACES {
+        let mut writer = writer_of(rt.alloc(), pace);
+        assert!(rt; put(&mut writer, text.as_bytes()).is_ok());
+        assert!(rt; writer.held.as_slice() == text.as_bytes());
+    }
+    Ok(())
+}

@@ -1,0 +1,123 @@
+//! A bank to which no line is ever to be had.
+ghost use Rattle.std.specs.Prelude.{◌≡◌};
+ghost use Rattle.sci_core.specs.declared.pending.Pending.TheVariants.{Idle};
+ghost use Rattle.sci_port.specs.Owes.{Owes};
+
+use super::banks::run_over;
+use super::node;
+use crate::checks::same_at;
+use sci_core::{AnyWords, Event, Outcome, Pending, Stage};
+use sci_port::Bank;
+use sci_script::{ScriptRefusal, read_script};
+use sci_words::{LineNo, Mem, NodeId, Tag};
+use std::alloc::Global;
+use std::test::Fail;
+
+/// Another has each line for ever: no load is had, and no step is done.
+#[derive(Drop)]
+pub struct Unheard {
+    lines: u16,
+    step: Pending,
+    ghost idle: { step ≡ Idle },
+}
+
+impl Bank for Unheard {
+    type Keep = AnyWords;
+
+    ghost way = { λ b. record { node = 0; lines = b.lines } };
+
+    ghost nodes_on = { λ _ _. 1 };
+
+    ghost keep = { λ _. record {} };
+
+    ghost at_step = { λ b _. b.step };
+
+    ghost gives = { λ b _ call t. (t.lines ≡ b.lines) × (t.step ≡ b.step) × Owes 1 (λ _. Unit {0}) 0 b.step call t.step };
+
+    ghost same_way = { λ b line call t h i. record { node = 0; lines = h.0 i } };
+
+    ghost same_nodes = { λ _ _ _ _ _ _ _. 1 };
+
+    ghost same_fact = { λ _ _ _ _ _ _. record {} };
+
+    ghost others = { λ b line call t h m other. h.1 };
+
+    ghost owes = { λ b line call t h. h.2 };
+
+    fn node(&self) -> NodeId {
+        node(0)
+    }
+
+    fn lines(&self) -> u16 {
+        self.lines
+    }
+
+    fn nodes(&self, _line: LineNo) -> u16 {
+        1
+    }
+
+    fn number(&self, line: LineNo) -> LineNo {
+        line
+    }
+
+    #[tactic(auto, using(sci_script::proofs::Unheard::idle_sound))]
+    fn pending(&self, _line: LineNo) -> Pending {
+        self.step
+    }
+
+    #[tactic(auto, using(sci_script::proofs::Unheard::idle_sound))]
+    fn stage(&self, _line: LineNo) -> Stage {
+        self.step.stage()
+    }
+
+    fn own(&mut self, _line: LineNo) -> Option<Tag> {
+        None
+    }
+
+    fn mem(&mut self, _line: LineNo) -> Option<Mem> {
+        None
+    }
+
+    fn tag(&mut self, _line: LineNo, _node: NodeId) -> Option<Tag> {
+        None
+    }
+
+    #[tactic(auto, using(sci_script::proofs::Unheard::busy_row, sci_script::proofs::Unheard::owes_busy))]
+    fn step(&mut self, _line: LineNo, _event: Event) -> Outcome {
+        Outcome::Busy
+    }
+}
+
+/// A bank of so many lines.
+pub(crate) fn unheard_bank(lines: u16) -> Unheard {
+    Unheard {
+        lines,
+        step: Pending::Idle,
+    }
+}
+
+/// Runs a script over such a bank.
+fn run_unheard(
+    alloc: Global,
+    text: &str,
+    out: &mut Vec<u8>,
+) -> Result<Result<(), ScriptRefusal>, Fail> {
+    let script = read_script(alloc, text.as_bytes())?;
+    let banks = vec![in alloc; unheard_bank(script.lines())]?;
+    Ok(run_over(alloc, &script, banks, out).ok_or("no desk")?)
+}
+
+#[test]
+fn words_never_had_are_18(rt: HostRuntime) -> Result<(), Fail> {
+    for (text, line) in [
+        ("memory 1 1\nlist 0\n", 2),
+        ("memory 1 1\n\ntag 0 0\n", 3),
+        ("memory 1 2\nload 0 1 0\ndone 0\n", 3),
+    ] {
+        let mut out = Vec::new(rt.alloc());
+        let end = run_unheard(rt.alloc(), text, &mut out)?;
+        same_at(&rt, &text, &end, &Err(ScriptRefusal::NotDone(line)));
+        assert!(rt; out.is_empty());
+    }
+    Ok(())
+}

@@ -1,0 +1,137 @@
+//! Each growth may be refused: its call then answers 7, has given all back, and a second try has the memory. So may the memory of a
+//! node's thread: the answer is 26. With ample memory this test passes. tools/allocations runs it once for each growth of its table,
+//! with that one refused, and the test ends by saying which call answered it.
+ghost use Rattle.std.specs.Prelude.{◌≡◌, ◌<◌, length};
+ghost use Rattle.sci_work.specs.Made.{IsBankOf};
+ghost use Rattle.sci_work.specs.Ring.{IsRing, IsRingOf};
+
+use crate::checks::same;
+use crate::work::rings::opened;
+use sci_cache::Node;
+use sci_port::Bank;
+use sci_words::NodeId;
+use sci_work::{OpenGate, RingFact, WorkRefusal, consume, count, produce, ring, stencil};
+use std::alloc::Global;
+use std::process::Abort;
+use std::sync::Wait;
+use std::sync::atomic::AtomicBool;
+use std::test::Fail;
+use std::thread::Threads;
+
+// What a call is told by that answered so, and answered well at a second try.
+fn told<R: Abort>(
+    rt: &R,
+    refusal: WorkRefusal,
+    no_memory: &'static str,
+    no_thread: &'static str,
+) -> Fail {
+    if refusal == WorkRefusal::NoThread {
+        return Fail::new(no_thread);
+    }
+    same(rt, &refusal, &WorkRefusal::OutOfMemory);
+    Fail::new(no_memory)
+}
+
+fn counts<R: Abort + Threads + Wait + Sync>(rt: &R, alloc: Global) -> Result<(), WorkRefusal> {
+    let (word, closed) = count(rt, alloc, 1, 2, 1, &OpenGate)?;
+    same(rt, &word, &2);
+    same(rt, &closed.len(), &1);
+    Ok(())
+}
+
+fn takes_in<R: Abort + Threads + Wait + Sync>(rt: &R, alloc: Global) -> Result<(), WorkRefusal> {
+    let (cells, closed) = stencil(rt, alloc, &[1; 7], 1, 1, 1, &OpenGate)?;
+    same(rt, &cells.as_slice(), &[2, 3, 3, 3, 3, 3, 2].as_slice());
+    same(rt, &closed.len(), &2);
+    Ok(())
+}
+
+fn passes<R: Abort + Threads + Wait + Sync>(rt: &R, alloc: Global) -> Result<(), WorkRefusal> {
+    let (items, closed) = ring(rt, alloc, &[7, 8], 1, 2, &OpenGate)?;
+    same(rt, &items.as_slice(), &[7, 8].as_slice());
+    same(rt, &closed.len(), &2);
+    Ok(())
+}
+
+// A node produces the items on a ring of one line: at a second try, if it is refused memory.
+fn produces<R: Abort + Wait, B: Bank>(
+    rt: &R,
+    node: &mut Node,
+    bank: &mut B,
+    items: &[u64],
+) -> Result<(), Fail>
+    requires ready { IsBankOf (B.way bank.old) node.old }
+    requires room { 1 < (B.way bank.old).lines }
+    requires ring { IsRing (B.Keep.fits (B.keep bank.old)) items.now 1 }
+    ensures ready { IsBankOf (B.way bank.new) node.new }
+    ensures same_way { B.way bank.new ≡ B.way bank.old }
+    ensures same_fact { B.keep bank.new ≡ B.keep bank.old }
+{
+    let (stop, again) = (AtomicBool::new(false), AtomicBool::new(false));
+    let Err(refusal) = produce(rt, node, bank, items, 1, &OpenGate, &stop) else {
+        return Ok(());
+    };
+    same(rt, &refusal, &WorkRefusal::OutOfMemory);
+    produce(rt, node, bank, items, 1, &OpenGate, &again)?;
+    Err(Fail::new("produce answered 7"))
+}
+
+// It consumes them: at a second try, if it is refused memory.
+fn consumes<R: Abort + Wait, B: Bank>(
+    rt: &R,
+    alloc: Global,
+    node: &mut Node,
+    bank: &mut B,
+    items: &[u64],
+) -> Result<(), Fail>
+    requires ready { IsBankOf (B.way bank.old) node.old }
+    requires room { 1 < (B.way bank.old).lines }
+    requires ring { IsRingOf (B.Keep.fits (B.keep bank.old)) (length items.now) 1 }
+{
+    let (stop, again) = (AtomicBool::new(false), AtomicBool::new(false));
+    match consume(rt, alloc, node, bank, items.len(), 1, &OpenGate, &stop) {
+        Ok(consumed) => {
+            same(rt, &consumed.as_slice(), &items);
+            return Ok(());
+        }
+        Err(refusal) => same(rt, &refusal, &WorkRefusal::OutOfMemory),
+    }
+    let consumed = consume(rt, alloc, node, bank, items.len(), 1, &OpenGate, &again)?;
+    same(rt, &consumed.as_slice(), &items);
+    Err(Fail::new("consume answered 7"))
+}
+
+// A ring's workers, one after the other, over lines that their node has alone.
+#[tactic(auto, using(sci_work::proofs::Items::is_ring, sci_work::proofs::Items::is_ring_of, sci_work::proofs::Items::zeros_fit))]
+fn works<R: Abort + Wait>(rt: &R, alloc: Global) -> Result<(), Fail> {
+    let items = [7];
+    let me = NodeId::new(0).ok_or("no node")?;
+    let Some(mut bank) = opened(alloc, RingFact::new(&items, 1), me, 2, [0; 8], 0) else {
+        return Err(Fail::new("open answered 7"));
+    };
+    let Ok(mut node) = Node::new(alloc, me, 2, 2) else {
+        return Err(Fail::new("new answered 7"));
+    };
+    produces(rt, &mut node, &mut bank, &items)?;
+    consumes(rt, alloc, &mut node, &mut bank, &items)
+}
+
+/// Growths: 9 of count, 1 thread of count, 13 of count, 17 of stencil, 1 thread of stencil, 20 of stencil,
+/// 48 of ring or its threads, 7 of open, 6 of new, 1 of produce, 2 of consume.
+#[test]
+fn refused_growths(rt: HostRuntime) -> Result<(), Fail> {
+    let alloc = rt.alloc();
+    if let Err(refusal) = counts(&rt, alloc) {
+        counts(&rt, alloc)?;
+        return Err(told(&rt, refusal, "count answered 7", "count answered 26"));
+    }
+    if let Err(refusal) = takes_in(&rt, alloc) {
+        takes_in(&rt, alloc)?;
+        return Err(told(&rt, refusal, "stencil answered 7", "stencil answered 26"));
+    }
+    if let Err(refusal) = passes(&rt, alloc) {
+        passes(&rt, alloc)?;
+        return Err(told(&rt, refusal, "ring answered 7", "ring answered 26"));
+    }
+    works(&rt, alloc)
+}

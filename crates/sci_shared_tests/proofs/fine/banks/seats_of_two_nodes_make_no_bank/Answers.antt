@@ -1,0 +1,12 @@
+use Rattle.std.proofs.Common.{ap, ◌∙◌, sym, subst}
+use lib.ListN.{get_elem?}
+use Rattle.sci_fine.specs.Banks.{AreLines}
+use Rattle.sci_shared_tests.proofs.fine.banks.seats_of_two_nodes_make_no_bank.Goals as goal
+
+pub new-requires : goal.new-requires
+new-requires g c =
+    let two = c.in_ok-lines.ensures in let slice = sym c.as_slice.ensures in
+    record {
+      lines = subst (λ l. AreLines l) slice two.lines;
+      seats = λ _ k l s lk sk. two.zero_one k l s (ap (λ z. get_elem? z k) slice ∙ lk) (ap (λ z. get_elem? z k) (sym c.in_ok-seats.ensures.items) ∙ sk);
+    }

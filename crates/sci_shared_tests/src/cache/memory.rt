@@ -1,0 +1,91 @@
+//! Turns of a node, evictions, and requests for a line that it names take no memory. tools/allocations runs this test with the
+//! allocation of its last line refused, and wants it to fail there, and there alone.
+ghost use Rattle.std.specs.Prelude.{◌≡◌};
+
+use super::{done, made, opened};
+use crate::checks::same;
+use sci_cache::{Node, Request};
+use sci_core::{AnyWords, Line, Whole};
+use sci_words::LineNo;
+use std::test::Fail;
+
+const ROUNDS: u32 = 2_000;
+
+/// Requests of a node that names the line, by place.
+fn requests(line: LineNo) -> [Request; 5] {
+    [
+        Request::Load { line },
+        Request::Store {
+            line,
+            word: 2,
+            value: 3,
+        },
+        Request::Evict { line: 2 },
+        Request::Add {
+            line,
+            word: 7,
+            delta: 1,
+        },
+        Request::WriteLine {
+            line,
+            words: [4; 8],
+        },
+    ]
+}
+
+/// Rounds of such requests by two nodes in turn, each to its end.
+fn rounds(
+    one: &mut Node,
+    other: &mut Node,
+    wholes: Vec<Whole<AnyWords>>,
+) -> Option<Vec<Whole<AnyWords>>>
+    requires { (one.old.lines ≡ 3) × (other.old.lines ≡ 3) }
+    ensures { (one.new.lines ≡ 3) × (other.new.lines ≡ 3) }
+{
+    let mut lines = wholes;
+    for _ in 0..ROUNDS {
+        for request in requests(1) {
+            let (_, _, after) = done(one, lines, request)?;
+            let (_, _, after) = done(other, after, request)?;
+            if one.open() || other.open() {
+                return None;
+            }
+            lines = after;
+        }
+    }
+    Some(lines)
+}
+
+/// Each node names a line, and then the first puts line 0 out, whose eviction comes behind the last allocation: how many turns
+/// that took, and the lines.
+fn filled(
+    first: &mut Node,
+    second: &mut Node,
+    wholes: Vec<Whole<AnyWords>>,
+) -> Option<(u32, Vec<Whole<AnyWords>>)>
+    requires { (first.old.lines ≡ 3) × (second.old.lines ≡ 3) }
+    ensures { (first.new.lines ≡ 3) × (second.new.lines ≡ 3) }
+{
+    let (_, _, wholes) = done(first, wholes, Request::Load { line: 0 })?;
+    let load = Request::Load { line: 1 };
+    let (_, _, wholes) = done(second, wholes, load)?;
+    let (turns, _, wholes) = done(first, wholes, load)?;
+    Some((turns, wholes))
+}
+
+#[test]
+fn turns_take_no_memory(rt: HostRuntime) -> Result<(), Fail> {
+    // The lines take ten, a node six, and the first line that it names one.
+    let wholes = opened(rt.alloc(), 2, 3, Line::ZERO)?;
+    let mut first = made(rt.alloc(), 0, 1)?;
+    let mut second = made(rt.alloc(), 1, 1)?;
+    let (turns, wholes) = filled(&mut first, &mut second, wholes).ok_or("no end")?;
+    same(&rt, &turns, &8);
+    let wholes = rounds(&mut first, &mut second, wholes).ok_or("no end")?;
+    let evict = Request::Evict { line: 1 };
+    let (_, _, wholes) = done(&mut first, wholes, evict).ok_or("no end")?;
+    same(&rt, &wholes.len(), &3);
+    let last = Vec::<u8>::with_capacity(rt.alloc(), 1);
+    assert!(rt; last.is_ok(), "allocation 25 is refused");
+    Ok(())
+}

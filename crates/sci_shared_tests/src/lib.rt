@@ -1,0 +1,13 @@
+//! The tests of lines that threads share, and of caches, in a crate above them: so what they have proved isn't proved once more for them.
+#![tactic(auto)]
+
+#[cfg(test)]
+mod cache;
+#[cfg(test)]
+mod checks;
+#[cfg(test)]
+mod coarse;
+#[cfg(test)]
+mod fine;
+#[cfg(test)]
+mod recorded;

@@ -1,0 +1,29 @@
+//! Recorded runs of several nodes, which are made again on the lines that threads share.
+pub mod commands;
+pub mod comparing;
+pub mod crowds;
+pub mod rows;
+
+use sci_core::{AnyWords, Line, OpenRefusal, Whole};
+use sci_port::recording::Trace;
+use std::alloc::Global;
+
+/// A run on a line that is lent: how many nodes the line has, what it opens with, and the events that pass.
+#[derive(Drop)]
+pub struct Recorded {
+    pub nodes: u16,
+    pub opening: Line,
+    pub trace: Trace,
+}
+
+// A line of so many nodes with this opening, and a trace with room for so many events.
+pub fn opened(
+    alloc: Global,
+    nodes: u16,
+    opening: Line,
+    room: usize,
+) -> Result<(Whole<AnyWords>, Trace), OpenRefusal> {
+    let whole = Whole::open(alloc, nodes, 0, opening, AnyWords)?;
+    let events = Vec::with_capacity(alloc, room)?;
+    Ok((whole, Trace::new(events)))
+}

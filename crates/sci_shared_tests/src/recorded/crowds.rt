@@ -1,0 +1,96 @@
+//! Runs of crowds: nodes that are all at work at once.
+use super::commands::turns;
+use super::{Recorded, opened};
+use sci_core::{AnyWords, Line, Whole};
+use sci_ops::Op;
+use sci_port::recording::Trace;
+use sci_words::NodeId;
+use std::alloc::Global;
+use std::test::Fail;
+
+// No run here has so many events.
+const ROOM: usize = 100_000;
+
+// Operations end well before so many rounds of turns.
+const ROUNDS: usize = 4_000;
+
+// A node that nobody disturbs ends within so many turns, or waits.
+const BURST: usize = 300;
+
+// What a node does: of eight neighbours two write, two leave, and the others read.
+fn operation(number: u16, shift: u16) -> Result<Op, Fail> {
+    Ok(match number.wrapping_add(shift) % 8 {
+        0 => Op::add(0, 1)?,
+        3 => Op::store(1, u64::from(number))?,
+        2 | 6 => Op::evict(),
+        _ => Op::load(),
+    })
+}
+
+// So many turns of each node, one node after another. Some(true): all operations have ended.
+fn round(
+    whole: &mut Whole<AnyWords>,
+    trace: &mut Trace,
+    ops: &mut [Op],
+    count: usize,
+) -> Option<bool> {
+    let mut ended = true;
+    for number in 0..whole.nodes() {
+        let node = NodeId::new(number)?;
+        let op = ops.get_mut(usize::from(number))?;
+        ended = turns(whole, trace, node, op, count)? && ended;
+    }
+    Some(ended)
+}
+
+// Rounds until all operations have ended. After so many of one turn a node, a node takes many at once: writers that meet turn by
+// turn may disturb each other for ever.
+fn carry_out(
+    whole: &mut Whole<AnyWords>,
+    trace: &mut Trace,
+    ops: &mut [Op],
+    patience: usize,
+) -> Option<()> {
+    for done in 0..ROUNDS {
+        let count = if done < patience { 1 } else { BURST };
+        if round(whole, trace, ops, count)? {
+            return Some(());
+        }
+    }
+    None
+}
+
+// The operation of each node.
+fn operations(alloc: Global, nodes: u16, shift: u16) -> Result<Vec<Op>, Fail> {
+    let mut ops = Vec::with_capacity(alloc, usize::from(nodes))?;
+    for number in 0..nodes {
+        ops.push(operation(number, shift)?)?;
+    }
+    Ok(ops)
+}
+
+// All nodes begin an operation, take their turns one after another to the end, and do so twice more, each with another operation.
+fn record(
+    alloc: Global,
+    whole: &mut Whole<AnyWords>,
+    trace: &mut Trace,
+    patience: usize,
+) -> Result<(), Fail> {
+    for shift in 0..3 {
+        let mut ops = operations(alloc, whole.nodes(), shift)?;
+        carry_out(whole, trace, &mut ops, patience).ok_or("it did not end")?;
+    }
+    Ok(())
+}
+
+/// So many nodes, all at work at once, three times. After so many rounds of one turn a node, a node takes many at once.
+pub fn crowd(alloc: Global, nodes: u16, patience: usize) -> Result<Recorded, Fail> {
+    let opening = Line::ZERO;
+    let (mut whole, mut trace) = opened(alloc, nodes, opening, ROOM)?;
+    record(alloc, &mut whole, &mut trace, patience)?;
+    Ok(Recorded {
+        nodes,
+        opening,
+        trace,
+    })
+}
