@@ -1,6 +1,8 @@
 """The edits of a crate, and the function that each one changes."""
 
 import os
+import re
+import shutil
 import tempfile
 
 import functions
@@ -16,6 +18,8 @@ class Edit:
         self.path, self.name, self.why = path, os.path.basename(path), None
         # the function as the file has it, and what the prover calls it
         self.change, self.function = None, None
+        # the file that it changes, and the function's whole text there, where a copy of it can stand beside it
+        self.file, self.item = None, None
         with open(path, encoding="utf-8", errors="replace") as it:
             self.text = it.read()
 
@@ -36,13 +40,16 @@ def edits_of(crate):
                     it.write(text)
                 texts.append((edit, path, file))
         changed = {}
-        for (edit, path, _), tokens in zip(texts, functions.tokens_of([file for _, _, file in texts])):
+        for (edit, path, file), tokens in zip(texts, functions.tokens_of([it for _, _, it in texts])):
             if tokens is None:
                 edit.why = f"the edited {path} is no text that the prover reads"
                 continue
-            of_path, why = functions.changed(items[path], functions.items_of(path, tokens), path)
+            now = functions.items_of(path, tokens)
+            of_path, why = functions.changed(items[path], now, path)
             edit.why = edit.why or why
             changed.setdefault(edit, []).extend(of_path or [])
+            if of_path and now.spans.get(of_path[0]):
+                edit.file, edit.item = path, item_of(file, now.spans[of_path[0]])
     for edit in found:
         of_edit = changed.get(edit, [])
         if not edit.why and len(of_edit) != 1:
@@ -69,15 +76,67 @@ def changes_of(edit, crate, items):
     return {} if edit.why else texts
 
 
+def item_of(file, span):
+    """Returns a function's text, from its attributes to its last brace, or None where no copy can stand beside it: it is proved together
+    with others."""
+    with open(file, "rb") as it:
+        text = it.read()[slice(*span)]
+    return None if b"#[cycle" in text else text
+
+
 def in_batches(edits, size):
-    """Returns the edits in batches, of distinct functions each."""
+    """Returns the edits in batches. Several of one function stand in one where copies of that function can stand beside it."""
     by_function = {}
     for it in edits:
         by_function.setdefault(it.change, []).append(it)
-    most = max((len(it) for it in by_function.values()), default=0)
-    batches = [[] for _ in range(max(most, -(-len(edits) // size)))]
+    alone = [len(it) for it in by_function.values() if not all(edit.item for edit in it)]
+    batches = [[] for _ in range(max([-(-len(edits) // size), *alone]))]
     for together in sorted(by_function.values(), key=len, reverse=True):
         free = sorted(batches, key=len)
-        for edit, batch in zip(together, free):
-            batch.append(edit)
+        for at, edit in enumerate(together):
+            free[at % len(free)].append(edit)
     return [it for it in batches if it]
+
+
+def with_numbers(batch):
+    """Returns each edit of a batch with its number among those of its function: 0 is made in the function itself, others in copies."""
+    seen = {}
+    for it in batch:
+        number = seen[it.change] = seen.get(it.change, -1) + 1
+        yield it, number
+
+
+def name_of_copy(name, number):
+    return f"{name}_edit_{number}"
+
+
+def put_copies(room, file, copies, types, crate):
+    """Puts copies of functions of a file beside them, each with its proof: of a function, as a number and its text, or None for the text
+    that stands there."""
+    with open(f"{room}/{file}", "rb") as it:
+        text = it.read()
+    spans = functions.items_of(file, functions.tokens_of([f"{room}/{file}"])[0]).spans
+    for change, number, item in sorted(copies, key=lambda it: -spans[it[0]][1]):
+        start, end = spans[change]
+        name, copy = change.name, name_of_copy(change.name, number)
+        item = re.sub(rb"\bfn(\s+)%s\b" % name.encode(), rb"fn\1%s" % copy.encode(), item or text[start:end], count=1)
+        text = text[:end] + b"\n\n" + item + text[end:]
+        for path in functions.names_of(change, types, crate):
+            copy_proof(room, path, path[: -len(name)] + copy)
+    with open(f"{room}/{file}", "wb") as it:
+        it.write(text)
+
+
+def copy_proof(room, path, copy):
+    """Copies the folder of a function's proof for its copy, both given as the prover calls them."""
+    crate, *own = path.split("::")
+    folder, to = f"{room}/proofs/{'/'.join(own)}", f"{room}/proofs/{'/'.join(copy.split('::')[1:])}"
+    if not os.path.isdir(folder):
+        return
+    shutil.copytree(folder, to)
+    was, now = (f"Rattle.{crate}.proofs.{'.'.join(it.split('::')[1:])}." for it in (path, copy))
+    for file in os.listdir(to):
+        with open(f"{to}/{file}", encoding="utf-8") as it:
+            text = it.read()
+        with open(f"{to}/{file}", "w", encoding="utf-8") as it:
+            it.write(text.replace(was, now))

@@ -7,25 +7,26 @@ from collections import namedtuple
 
 from kit import RATTLE
 
-TOKEN = re.compile(r"\d+ \d+ \d+ (\w+) (.*)")
+TOKEN = re.compile(r"\d+ (\d+) (\d+) (\w+) (.*)")
 TYPES = ("struct", "enum", "union", "trait")
 
 # A function of a file: the modules that it is written in, the type and the trait of its impl, if any, and its name.
 Function = namedtuple("Function", "modules type trait name")
 
-# What a file has: the tokens of each function's body, all other tokens, and the types that it declares, with their modules.
-Items = namedtuple("Items", "bodies rest types")
+# What a file has: the tokens of each function's body, all other tokens, and the types that it declares, with their modules; and where
+# each function stands that is no method of a trait, from its attributes to its last brace, in bytes.
+Items = namedtuple("Items", "bodies rest types spans")
 
 
 def tokens_of(files):
-    """Returns the tokens of each of these .rt files, as pairs of kind and text, or None for one that can't be read."""
+    """Returns the tokens of each of these .rt files, as kind, text, start and end in bytes, or None for one that can't be read."""
     if not files:
         return []
     ran = subprocess.run([RATTLE, "fmt", "--tokens", *files], stdout=subprocess.PIPE, stderr=subprocess.DEVNULL)
     if ran.returncode:
         return [None] if len(files) == 1 else [it for file in files for it in tokens_of([file])]
     parts = re.split(r"(?m)^file \d+\n", ran.stdout.decode(errors="replace"))[1:]
-    return [[(kind, json.loads(text)) for kind, text in TOKEN.findall(part)] for part in parts]
+    return [[(kind, json.loads(text), int(start), int(end)) for start, end, kind, text in TOKEN.findall(part)] for part in parts]
 
 
 def module_of(path):
@@ -79,18 +80,22 @@ def types_of_impl(words):
 
 def items_of(path, tokens):
     """Returns what a file has."""
-    items, scopes, head = Items({}, [], []), [], []
-    inside, depth, is_clause = None, 0, False
-    for kind, text in tokens:
+    items, scopes, head = Items({}, [], [], {}), [], []
+    inside, depth, is_clause, begun = None, 0, False, None
+    for kind, text, start, end in tokens:
         # from the brace that a clause's head ends in to its end, all is the clause's
         is_clause = (is_clause or (kind, text) == ("Head", "{")) and kind != "End"
         code = text if kind == "Code" and not is_clause else ""
         if inside is not None:
             depth += (code == "{") - (code == "}")
             inside.append((kind, text))
-            inside = inside if depth else None
+            if not depth:
+                if not owner[2] and owner[0] != "trait":
+                    items.spans[function] = (begun, end) if function not in items.spans else None
+                inside, begun = None, None
             continue
         items.rest.append((kind, text))
+        begun = start if begun is None else begun
         if code in ("{", "}", ";") and not is_nested(head):
             modules = [*module_of(path), *[name for what, name, _ in scopes if what == "mod"]]
             what, name, trait = scope_of(head) if code != "}" else ("", "", "")
@@ -104,7 +109,7 @@ def items_of(path, tokens):
                 scopes.append((what, name, trait))
             elif code == "}" and scopes:
                 scopes.pop()
-            head = []
+            head, begun = [], begun if inside is not None else None
         elif code:
             head.append(code)
     return items

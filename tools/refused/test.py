@@ -74,9 +74,10 @@ returns-clause-some c = let more = returns-clause-more c in omega arith
 # the name of an edit, its text, and a word of what the tool says of it
 EDITS = [
     ("refused_in_a_function", "file: src/lib.rt\nold:     number + 1\nnew:     number + 2\n", "lib::next did not prove"),
+    ("refused_too_in_a_copy", "file: src/lib.rt\nold:     number + 1\nnew:     number + 3\n", "lib::next_edit_1 did not prove"),
     ("refused_in_a_method", "file: src/lib.rt\nold:         self.0\nnew:         self.0 / 2\n", "lib::Number::get did not prove"),
     ("refused_by_an_answer", "file: src/lib.rt\nold:     next(two)\nnew:     next(two) - 1\n", "`returns-clause-more`"),
-    # the same value, without the call that an answer names
+    # the same value, without the call that an answer names: in `third`, and the one above in a copy of it
     ("only_names_fail", "file: src/lib.rt\nold: second(number);\nnew: number + 2;\n", "only a proof file that names"),
     ("accepted", "file: src/lib.rt\nold:     number / 2\nnew:     number / 3\n", "NOT REFUSED"),
     # the same value, while the function that it calls is edited beside it in the same check

@@ -8,7 +8,7 @@ import subprocess
 import tempfile
 import time
 
-from edits import in_batches
+from edits import in_batches, name_of_copy, put_copies, with_numbers
 from functions import modules_of, named, names_of
 from kit import RATTLE, RT
 
@@ -71,17 +71,26 @@ def ended(status):
     return -os.WTERMSIG(status) if os.WIFSIGNALED(status) else os.WEXITSTATUS(status)
 
 
+def told_as(edit, number):
+    """Returns what the prover calls the function, or the copy of it, that an edit of this number changes."""
+    return name_of_copy(edit.function, number) if number else edit.function
+
+
 class Trial:
     """A crate of the copy, its folder of kept work, and what became of its edits."""
 
     def __init__(self, crate, edits, types, kept, say):
         self.crate, self.edits, self.types, self.kept, self.say = crate, edits, types, kept, say
         self.refused, self.failed, self.is_begun = {}, {}, False
-        self.asks = self.asked(names_of)
+        # by file, the functions of which copies are tried in a batch
+        self.copied = {}
+        self.asks = set()
 
     def asked(self, by):
-        """Returns the names, by functions or by their modules, of what the edits change."""
-        return {path for it in self.edits if it.change for path in by(it.change, self.types, self.crate.name)}
+        """Returns the names, by functions or by their modules, of what the edits change, and of a copy of each that is copied."""
+        copies = [it._replace(name=name_of_copy(it.name, 0)) for those in self.copied.values() for it in those]
+        of_edits = [it.change for it in self.edits if it.change]
+        return {path for it in [*of_edits, *copies] for path in by(it, self.types, self.crate.name)}
 
     def words(self, jobs, kept=None):
         return [*self.crate.words(["--jobs", str(jobs)], keeps=False), "--incremental", kept or self.kept]
@@ -94,9 +103,15 @@ class Trial:
         return not status and "\nlogic=proved " in said, said, used, seconds
 
     def prove(self, jobs):
-        """Proves the edited functions as they stand, and what they call, into the folder of kept work; returns whether all are proved."""
+        """Proves the edited functions as they stand, and what they call, into the folder of kept work; returns whether all are proved.
+        Where copies of a function are tried, one as it stands must be proved too."""
         os.makedirs(self.kept, exist_ok=True)
-        status, said, used, seconds = run(["check", *self.words(jobs), *only(self.asks)], self.crate.folder)
+        self.asks = self.asks or self.asked(names_of)
+        with tempfile.TemporaryDirectory(prefix="refused-") as room:
+            self.copy_to(room)
+            for file, changes in self.copied.items():
+                put_copies(room, file, [(it, 0, None) for it in changes], self.types, self.crate.name)
+            status, said, used, seconds = run(["check", *self.words(jobs), *only(self.asks)], room)
         if status == 2 and "has no function" in said and self.asks != self.asked(modules_of):
             self.asks = self.asked(modules_of)
             return self.prove(jobs)
@@ -108,26 +123,43 @@ class Trial:
         told = ASKED.search(said)
         return not status and bool(told) and told[1] == told[2], said, used, seconds
 
+    def copy_to(self, room):
+        """Copies what a check reads of the crate."""
+        for part in RT.rtlib.PARTS:
+            if os.path.isdir(f"{self.crate.folder}/{part}"):
+                shutil.copytree(f"{self.crate.folder}/{part}", f"{room}/{part}")
+
+    def edit(self, room, edits):
+        """Makes these edits in a copy of the crate: the first of a function in the function itself, others in copies of it. Returns the
+        files that are changed, and why an edit can't be made, or None."""
+        changed, copies = set(), {}
+        for edit, number in with_numbers(edits):
+            if number:
+                copies.setdefault(edit.file, []).append((edit.change, number, edit.item))
+                continue
+            texts, why = RT.edited(edit.text, room)
+            if why:
+                return changed, why
+            for path, text in texts.items():
+                with open(f"{room}/{path}", "w", encoding="utf-8") as it:
+                    it.write(text)
+            changed |= {*texts}
+        for file, of_file in copies.items():
+            put_copies(room, file, of_file, self.types, self.crate.name)
+        return changed, None
+
     def check(self, edits, costs):
         """Checks a copy of the crate with these edits, over a copy of the folder of kept work: so none is tried over what another left.
         Returns what the prover said, or why they can't stand together; costs gets the CPU seconds by function."""
-        with tempfile.TemporaryDirectory(prefix="refused-") as room:
-            for part in RT.rtlib.PARTS:
-                if os.path.isdir(f"{self.crate.folder}/{part}"):
-                    shutil.copytree(f"{self.crate.folder}/{part}", f"{room}/{part}")
-            changed = set()
-            for edit in edits:
-                texts, why = RT.edited(edit.text, room)
-                if why:
-                    return None, changed, why, 0
-                for path, text in texts.items():
-                    with open(f"{room}/{path}", "w", encoding="utf-8") as it:
-                        it.write(text)
-                changed |= {*texts}
-            with tempfile.TemporaryDirectory(prefix="refused-") as kept:
-                RT.linked(self.kept, f"{kept}/{self.crate.name}")
-                words = ["check", *self.words(1, f"{kept}/{self.crate.name}"), "--progress", *only(it.function for it in edits)]
-                status, said, used, _ = run(words, room, costs)
+        with tempfile.TemporaryDirectory(prefix="refused-") as room, tempfile.TemporaryDirectory(prefix="refused-") as kept:
+            self.copy_to(room)
+            changed, why = self.edit(room, edits)
+            if why:
+                return None, changed, why, 0
+            RT.linked(self.kept, f"{kept}/{self.crate.name}")
+            asked = only(told_as(*it) for it in with_numbers(edits))
+            words = ["check", *self.words(1, f"{kept}/{self.crate.name}"), "--progress", *asked]
+            status, said, used, _ = run(words, room, costs)
         return status, changed, said, used
 
     def reaches_the_prover(self, status, changed, said):
@@ -142,27 +174,27 @@ class Trial:
             return None
         return "it doesn't reach the prover: " + " | ".join(it for it in lines[:3])[:300]
 
-    def judge(self, edit, said):
+    def judge(self, function, said):
         """Returns whether a goal of the edit's own function failed, and what to say."""
         lines = dict(LINE.findall(said))
-        line = lines.get(edit.function)
+        line = lines.get(function)
         if line is None:
-            return False, f"the prover says nothing of {edit.function}"
+            return False, f"the prover says nothing of {function}"
         goals = GOALS.search(line)
         if line != "proved" and goals:
-            return True, f"{edit.function} did not prove {goals[1][:160]}"
-        place = re.escape("/".join(edit.function.split("::")[1:]))
+            return True, f"{function} did not prove {goals[1][:160]}"
+        place = re.escape("/".join(function.split("::")[1:]))
         errors = re.findall(rf"(?m)^(?:\./)?proofs/{place}/\w+\.antt:\d+:\d+: error.*$", said)
         own = [it for it in errors if ANSWER.search(it) and not NAMES.search(it)]
         if line != "proved" and own:
-            return True, f"{edit.function}: {own[0][:200]}"
+            return True, f"{function}: {own[0][:200]}"
         if line == "proved":
             others = [name for name, it in lines.items() if it != "proved"]
             told = f", though {others[0]} isn't" if others else ""
-            return False, f"NOT REFUSED: {edit.function} is still proved with this edit{told}"
+            return False, f"NOT REFUSED: {function} is still proved with this edit{told}"
         if errors:
-            return False, f"{edit.function}: only a proof file that names what the edit took away fails: change a value and keep the names"
-        return False, f"no goal of {edit.function} failed: {line[:200]}"
+            return False, f"{function}: only a proof file that names what the edit took away fails: change a value and keep the names"
+        return False, f"no goal of {function} failed: {line[:200]}"
 
     def begin(self, jobs):
         """Proves what the edits change, as it stands."""
@@ -186,6 +218,9 @@ class Trial:
     def batches(self, size):
         """Returns the edits in batches, each with a label."""
         batches = in_batches([it for it in self.edits if not it.why], size)
+        for edit, number in [it for batch in batches for it in with_numbers(batch)]:
+            if number:
+                self.copied.setdefault(edit.file, set()).add(edit.change)
         return [(batch, f"batch {at + 1} of {len(batches)}") for at, batch in enumerate(batches)]
 
     def try_these(self, batch, label):
@@ -206,8 +241,8 @@ class Trial:
                 self.try_batch(half, label)
             return
         again = []
-        for edit in batch:
-            is_refused, told = (False, f"BAD EDIT: {why}") if why else self.judge(edit, said)
+        for edit, number in with_numbers(batch):
+            is_refused, told = (False, f"BAD EDIT: {why}") if why else self.judge(told_as(edit, number), said)
             if is_refused:
                 self.refused[edit] = told
             elif alone:
