@@ -126,7 +126,7 @@ def report(trials):
 
 def main():
     parser = argparse.ArgumentParser(prog="refused", description=__doc__.split("\n")[0])
-    parser.add_argument("--size", type=int, default=60, help="how many edits at most in one check")
+    parser.add_argument("--size", type=int, default=100, help="how many edits at most in one check")
     parser.add_argument("--warm", action="store_true", help="begin over what rt check kept in out/, and not from nothing")
     parser.add_argument("--built", action="store_true", help="take the libraries below as rt ci has just built them")
     parser.add_argument("--seeds", metavar="FOLDER", help="begin over what rt ci proved, where seeds.py kept it there")

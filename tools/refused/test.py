@@ -135,6 +135,9 @@ def main():
         said = ran.stdout.decode(errors="replace")
         is_kept = not (root / "crates" / "lib_of_halves" / "out").exists()
     faults = faults_of_seeds() + ([] if is_kept else ["it wrote into the repository"])
+    # of `next`, `below` and `third`
+    if "what its edits change, and 3 copies (" not in said:
+        faults.append("it didn't prove a copy of each function that it copies")
     for name, _, word in EDITS:
         line = next((it for it in said.split("\n") if f"/{name}.edit: " in it), "no line")
         is_refused = ": refused, as it must be: " in line

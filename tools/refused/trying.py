@@ -199,7 +199,9 @@ class Trial:
     def begin(self, jobs):
         """Proves what the edits change, as it stands."""
         self.is_begun, said, used, seconds = self.prove(jobs)
-        self.say(f"{self.crate.name}: {'proved' if self.is_begun else 'NOT PROVED'}, what its edits change ({used:.0f} CPU s, {seconds:.0f} s)")
+        copies = sum(name.endswith(name_of_copy("", 0)) and line == "proved" for name, line in LINE.findall(said))
+        told = f"what its edits change{f', and {copies} copies' if copies else ''} ({used:.0f} CPU s, {seconds:.0f} s)"
+        self.say(f"{self.crate.name}: {'proved' if self.is_begun else 'NOT PROVED'}, {told}")
         if not self.is_begun:
             self.say(said[-3000:])
 

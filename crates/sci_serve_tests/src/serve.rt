@@ -8,7 +8,7 @@ mod runs;
 mod settings;
 mod works;
 
-use crate::checks::same;
+use crate::checks::{same, same_at};
 use sci_script::ScriptRefusal;
 use sci_serve::{Form, SimFault, serve, serve_buffered, serve_script};
 use sci_work::WorkRefusal;
@@ -121,7 +121,7 @@ fn check(rt: &impl Abort, alloc: Global, cases: &[Case]) {
     for (script, fault, text) in cases {
         let mut out = Vec::new(alloc);
         let end = serve_script(alloc, &mut script.as_bytes(), &mut out);
-        assert_eq!(rt; end.err(), *fault, "of {script}");
+        same_at(rt, script, &end.err(), fault);
         assert!(rt; out.as_slice() == text.as_bytes(), "text of {script}");
     }
 }
@@ -240,7 +240,7 @@ fn check_buffer(
     let (held, end) = through_buffer(alloc, form, script, capacity, room)?;
     let cut = Some(SimFault::CannotWrite);
     let wanted = if room < text.len() { cut } else { fault };
-    assert_eq!(rt; end, wanted, "of {script}, {room}");
+    same_at(rt, &(script, room), &end, &wanted);
     same_bytes(rt, &held, text.as_bytes().get(..room).unwrap_or(b""));
     Ok(())
 }

@@ -106,11 +106,12 @@ fn tags_of(alloc: Global, nodes: u16) -> Option<usize> {
 fn opens_and_finishes_with_1_to_64_nodes(rt: HostRuntime) {
     for nodes in 1..65 {
         let count = usize::from(nodes);
-        assert_eq!(rt; seats_of(rt.alloc(), nodes), Ok(count), "with {nodes}");
-        assert_eq!(rt; tags_of(rt.alloc(), nodes), Some(count), "with {nodes}");
+        let counts = (seats_of(rt.alloc(), nodes), tags_of(rt.alloc(), nodes));
+        same(&rt, &(nodes, counts), &(nodes, (Ok(count), Some(count))));
     }
     for nodes in [0, 65, u16::MAX] {
-        assert_eq!(rt; seats_of(rt.alloc(), nodes), Err(6), "with {nodes}");
+        let seats = seats_of(rt.alloc(), nodes);
+        same(&rt, &(nodes, seats), &(nodes, Err(6)));
     }
 }
 

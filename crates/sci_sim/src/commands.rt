@@ -211,38 +211,31 @@ fn check<'a>(rt: &impl AllocGlobal) -> Result<Command<'a>, AllocError> {
     reader_of(rt, "check", about, DUMPS, file)
 }
 
+/// The program without its commands.
+fn program<'a>(rt: &impl AllocGlobal) -> Result<Command<'a>, AllocError> {
+    let named = Command::new(rt.alloc(), "scisim").bin_name("scisim")?;
+    Ok(
+        named
+            .version("0.1.0")
+            .about(ABOUT)
+            .after_help(STATUSES)
+            .subcommand_required(true),
+    )
+}
+
 /// The program with one more command.
 fn with<'a>(
-    program: Command<'a>,
+    program: Result<Command<'a>, AllocError>,
     command: Result<Command<'a>, AllocError>,
 ) -> Result<Command<'a>, AllocError> {
-    program.subcommand(command?)
-}
-
-/// Adds the commands that run a script.
-fn with_scripts<'a>(
-    rt: &impl AllocGlobal,
-    program: Command<'a>,
-) -> Result<Command<'a>, AllocError> {
-    let program = with(program, script(rt))?;
-    let program = with(program, trace(rt))?;
-    with(program, draw(rt))
-}
-
-/// Adds the commands that run a workload, and check a dump.
-fn with_works<'a>(rt: &impl AllocGlobal, program: Command<'a>) -> Result<Command<'a>, AllocError> {
-    let program = with(program, run(rt))?;
-    with(program, check(rt))
+    program?.subcommand(command?)
 }
 
 /// The program's commands.
 pub fn commands<'a>(rt: &impl AllocGlobal) -> Result<Command<'a>, AllocError> {
-    let program = Command::new(rt.alloc(), "scisim")
-        .bin_name("scisim")?
-        .version("0.1.0")
-        .about(ABOUT)
-        .after_help(STATUSES)
-        .subcommand_required(true);
-    let program = with_scripts(rt, program)?;
-    with_works(rt, program)
+    let program = with(program(rt), script(rt));
+    let program = with(program, trace(rt));
+    let program = with(program, draw(rt));
+    let program = with(program, run(rt));
+    with(program, check(rt))
 }

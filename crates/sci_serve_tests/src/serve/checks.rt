@@ -1,6 +1,7 @@
 //! Dumps that `scisim check` reads, and what it writes.
 
-use super::{Broken, OneByte, same, same_bytes, with_room};
+use super::{Broken, OneByte, same_bytes, with_room};
+use crate::checks::{same, same_at};
 use sci_serve::{SimFault, serve_check};
 use std::alloc::Global;
 use std::process::Abort;
@@ -58,7 +59,7 @@ fn check_room(
     let end = serve_check(alloc, &mut dump.as_bytes(), &mut writer);
     let cut = Some(SimFault::CannotWrite);
     let wanted = if room < text.len() { cut } else { fault };
-    assert_eq!(rt; end.err(), wanted, "in {room}");
+    same_at(rt, &room, &end.err(), &wanted);
     same_bytes(rt, &writer.held, text.as_bytes().get(..room).unwrap_or(b""));
 }
 

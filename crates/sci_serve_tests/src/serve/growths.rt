@@ -201,7 +201,7 @@ fn traces_a_script(rt: &impl Abort, alloc: Global, script: &Script) -> Result<()
             Ok(())
         }
         Err(refusal) => {
-            assert_eq!(rt; refusal, ScriptRefusal::OutOfMemory);
+            same(rt, &refusal, &ScriptRefusal::OutOfMemory);
             assert!(rt; out.length < TOLD.len());
             assert!(rt; is_front(out.text(), TOLD.as_bytes()));
             Err(Fail::new("trace answered 7"))

@@ -74,7 +74,7 @@ fn an_addition_has_ended_when_it_is_told(rt: HostRuntime) -> Result<(), Fail> {
         let gate = InOrder::new(&order);
         let (word, closed) = count(&rt, rt.alloc(), 2, 1, 1, &gate)?;
         same(&rt, &(word, gate.calls()), &(2, 2));
-        assert_eq!(rt; closed[0].tags.len(), 2);
+        assert!(rt; closed[0].tags.len() == 2);
         for node in 0..2 {
             let is_last = usize::from(order[1]) == node;
             same(&rt, &(closed[0].tags[node].kind == Kind::Dirty), &is_last);
