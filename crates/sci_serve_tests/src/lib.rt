@@ -4,6 +4,8 @@
 #[cfg(test)]
 mod checks;
 #[cfg(test)]
+mod fixed;
+#[cfg(test)]
 mod script;
 #[cfg(test)]
 mod serve;

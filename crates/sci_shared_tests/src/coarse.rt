@@ -6,7 +6,7 @@ ghost use Rattle.sci_coarse.specs.Seats.{IsSeatOf};
 mod banks;
 mod growths;
 mod memory;
-mod replays;
+pub(crate) mod replays;
 
 use crate::checks::same;
 use crossbeam_utils::Backoff;

@@ -6,7 +6,7 @@ ghost use Rattle.sci_fine.specs.Seats.{IsSeatOf};
 mod banks;
 mod growths;
 mod memory;
-mod replays;
+pub(crate) mod replays;
 mod threads;
 
 use crate::checks::same;

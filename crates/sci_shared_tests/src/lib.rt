@@ -11,3 +11,5 @@ mod coarse;
 mod fine;
 #[cfg(test)]
 mod recorded;
+#[cfg(test)]
+mod replays;

@@ -1,8 +1,8 @@
 //! Recorded runs of several nodes, which are made again on the lines that threads share.
-pub mod commands;
-pub mod comparing;
-pub mod crowds;
-pub mod rows;
+pub(crate) mod commands;
+pub(crate) mod comparing;
+pub(crate) mod crowds;
+pub(crate) mod rows;
 
 use sci_core::{AnyWords, Line, OpenRefusal, Whole};
 use sci_port::recording::Trace;
@@ -10,14 +10,14 @@ use std::alloc::Global;
 
 /// A run on a line that is lent: how many nodes the line has, what it opens with, and the events that pass.
 #[derive(Drop)]
-pub struct Recorded {
+pub(crate) struct Recorded {
     pub nodes: u16,
     pub opening: Line,
     pub trace: Trace,
 }
 
-// A line of so many nodes with this opening, and a trace with room for so many events.
-pub fn opened(
+/// A line of so many nodes with this opening, and a trace with room for so many events.
+pub(crate) fn opened(
     alloc: Global,
     nodes: u16,
     opening: Line,

@@ -2,62 +2,22 @@
 //! commands, and a second try has the memory. With ample memory this test passes. tools/allocations runs it once for each
 //! growth of its table, with that one refused, and the test ends by saying which call answered it. Where a call makes up for a
 //! refused growth by a later one, it answers Ok.
-ghost use Rattle.std.specs.Prelude.{None};
-
 use super::banks::are_banks;
 use super::unheard::{Unheard, unheard_bank};
 use super::{node, tag};
 use crate::checks::same;
+use crate::fixed::{empty, is_front};
 use sci_script::{
     BankDesk, NoDesk, Script, ScriptRefusal, WholeDesk, list_text, read_script, tag_text,
 };
 use sci_words::{Kind, Mem, MemState};
 use std::alloc::{AllocError, Global};
-use std::io;
-use std::io::Write;
 use std::process::Abort;
 use std::test::Fail;
 
 const SCRIPT: &str = "memory 1 1\nload 0 0 0\ndone 0\nlist 0\nresidents 0\n";
 
 const TEXT: &str = "node 0 read 0 stamp 0\nline 0 FRESH 0: 0 ONLY_FRESH\nnode 0 residents 0\n";
-
-/// A writer that takes no memory.
-#[derive(Drop)]
-struct Fixed {
-    bytes: [u8; 96],
-    length: usize,
-}
-
-impl Write for Fixed {
-    ghost contents = { λ _. None };
-
-    fn write(&mut self, buf: &[u8]) -> io::Result<usize> {
-        match buf {
-            [first, ..] if self.length < 96 => {
-                self.bytes[self.length] = *first;
-                self.length += 1;
-                Ok(1)
-            }
-            _ => Ok(0),
-        }
-    }
-
-    fn flush(&mut self) -> io::Result<()> {
-        Ok(())
-    }
-}
-
-impl Fixed {
-    fn text(&self) -> &[u8] {
-        self.bytes.get(..self.length).unwrap_or(&[])
-    }
-}
-
-/// Whether these are whole lines at the front of the text.
-fn is_front(front: &[u8], text: &[u8]) -> bool {
-    text.starts_with(front) && (front.is_empty() || front.last() == Some(&b'\n'))
-}
 
 fn reads(rt: &impl Abort, alloc: Global) -> Result<Script, Fail> {
     match read_script(alloc, SCRIPT.as_bytes()) {
@@ -76,10 +36,7 @@ fn runs(rt: &impl Abort, alloc: Global, script: &Script) -> Result<(), Fail> {
         WholeDesk::open(alloc, script)?;
         return Err(Fail::new("open answered 7"));
     };
-    let mut out = Fixed {
-        bytes: [0; 96],
-        length: 0,
-    };
+    let mut out = empty();
     match script.run(alloc, &mut desk, &mut out) {
         Ok(()) => {
             assert!(rt; out.text() == TEXT.as_bytes());

@@ -3,11 +3,11 @@
 //! the front of their text. Where the memory of a workload's thread is refused, `run` answers 26. With ample memory these tests
 //! pass. tools/allocations runs each once for each growth of its table, with that one refused, and the test ends by saying which
 //! call answered it. Where a call makes up for a refused growth by a later one, it answers Ok.
-ghost use Rattle.std.specs.Prelude.{None};
 
 use super::checks::{LAWFUL, SHARED};
 use super::runs::{ALONE, ALONE_COUNTED};
 use crate::checks::same;
+use crate::fixed::{Fixed, empty, is_front};
 use sci_script::{Script, ScriptRefusal, read_script};
 use sci_serve::{
     Settings, SettingsRefusal, SimFault, read_settings, serve_check, serve_run, serve_trace,
@@ -16,52 +16,10 @@ use sci_trace::parts::NoteText;
 use sci_trace::{TraceDesk, trace};
 use sci_work::WorkRefusal;
 use std::alloc::Global;
-use std::io;
-use std::io::Write;
 use std::process::Abort;
 use std::sync::Wait;
 use std::test::Fail;
 use std::thread::Threads;
-
-/// A writer that takes no memory.
-#[derive(Drop)]
-struct Fixed {
-    bytes: [u8; 256],
-    length: usize,
-}
-
-impl Write for Fixed {
-    ghost contents = { λ _. None };
-
-    fn write(&mut self, buf: &[u8]) -> io::Result<usize> {
-        match buf {
-            [first, ..] if self.length < 256 => {
-                self.bytes[self.length] = *first;
-                self.length += 1;
-                Ok(1)
-            }
-            _ => Ok(0),
-        }
-    }
-
-    fn flush(&mut self) -> io::Result<()> {
-        Ok(())
-    }
-}
-
-impl Fixed {
-    fn text(&self) -> &[u8] {
-        self.bytes.get(..self.length).unwrap_or(&[])
-    }
-}
-
-/// A writer that holds nothing.
-fn empty() -> Fixed {
-    Fixed {
-        bytes: [0; 256],
-        length: 0,
-    }
-}
 
 // A check, and what it writes.
 fn checked(alloc: Global) -> (Option<SimFault>, Fixed) {
@@ -124,11 +82,6 @@ fn traced(alloc: Global) -> (Option<SimFault>, Fixed) {
     let mut out = empty();
     let end = serve_trace(alloc, &mut SCRIPT.as_bytes(), &mut out);
     (end.err(), out)
-}
-
-/// Whether these are whole lines at the front of the text.
-fn is_front(front: &[u8], text: &[u8]) -> bool {
-    text.starts_with(front) && (front.is_empty() || front.last() == Some(&b'\n'))
 }
 
 fn traces(rt: &impl Abort, alloc: Global) -> Result<(), Fail> {

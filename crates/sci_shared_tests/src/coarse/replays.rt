@@ -3,14 +3,10 @@ ghost use Rattle.std.specs.Prelude.{◌≡◌, All, IfSome, IsTrue};
 ghost use Rattle.sci_core.specs.declared.pending.Pending.TheVariants.{Idle};
 ghost use Rattle.sci_coarse.specs.Seats.{IsSeatOf};
 
-mod crowds;
-mod rows;
-
 use super::is_idle;
 use crate::checks::same;
 use crate::recorded::Recorded;
 use crate::recorded::comparing::{is_left_as, step_whole};
-use crate::recorded::rows::{Run, recorded};
 use sci_coarse::{CoarseLine, CoarsePort, Seat};
 use sci_core::{AnyWords, Closed, Event, Line, Outcome, Whole};
 use sci_port::Port;
@@ -139,7 +135,7 @@ fn replay_all(
 }
 
 // A line of so many nodes with this opening, and its seats.
-pub fn opened(
+pub(crate) fn opened(
     alloc: Global,
     nodes: u16,
     opening: Line,
@@ -187,19 +183,11 @@ fn left_by(
 }
 
 // Makes a run again on a line that is lent and on one under its lock word, to the end, where no node is in a step.
-fn replay_run(rt: &impl Abort, alloc: Global, run: &Recorded) -> Result<(), Fail> {
+pub(crate) fn replay_run(rt: &impl Abort, alloc: Global, run: &Recorded) -> Result<(), Fail> {
     let events = run.trace.events().ok_or("no room")?;
     assert!(rt; !events.is_empty());
     let mut whole = Whole::open(alloc, run.nodes, 0, run.opening, AnyWords)?;
     let left = left_by(rt, alloc, run.opening, &mut whole, events).ok_or("it is not closed")?;
     assert!(rt; is_left_as(&left, &whole));
-    Ok(())
-}
-
-// Records each run on a line of zeros that is lent, and makes it again.
-fn replay_runs(rt: &impl Abort, alloc: Global, runs: &[Run]) -> Result<(), Fail> {
-    for run in runs {
-        replay_run(rt, alloc, &recorded(alloc, Line::ZERO, run)?)?;
-    }
     Ok(())
 }

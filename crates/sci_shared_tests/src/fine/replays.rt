@@ -2,14 +2,10 @@
 ghost use Rattle.std.specs.Prelude.{◌≡◌, All};
 ghost use Rattle.sci_fine.specs.Seats.{IsSeatOf};
 
-mod crowds;
-mod rows;
-
 use super::{closed, opened};
 use crate::checks::same;
 use crate::recorded::Recorded;
 use crate::recorded::comparing::{is_left_as, step_whole};
-use crate::recorded::rows::{Run, recorded};
 use sci_core::{AnyWords, Closed, Event, Line, Outcome, Whole};
 use sci_fine::{FineLine, FinePort, Seat};
 use sci_port::Port;
@@ -147,19 +143,11 @@ fn left_by(
 }
 
 // Makes a run again on a line that is lent and on one on separate words, to the end, where no node is in a step.
-fn replay_run(rt: &impl Abort, alloc: Global, run: &Recorded) -> Result<(), Fail> {
+pub(crate) fn replay_run(rt: &impl Abort, alloc: Global, run: &Recorded) -> Result<(), Fail> {
     let events = run.trace.events().ok_or("no room")?;
     assert!(rt; !events.is_empty());
     let mut whole = Whole::open(alloc, run.nodes, 0, run.opening, AnyWords)?;
     let left = left_by(rt, alloc, run.opening, &mut whole, events).ok_or("it is not closed")?;
     assert!(rt; is_left_as(&left, &whole));
-    Ok(())
-}
-
-// Records each run on a line of zeros that is lent, and makes it again.
-fn replay_runs(rt: &impl Abort, alloc: Global, runs: &[Run]) -> Result<(), Fail> {
-    for run in runs {
-        replay_run(rt, alloc, &recorded(alloc, Line::ZERO, run)?)?;
-    }
     Ok(())
 }

@@ -10,7 +10,7 @@ const TURNS: usize = 100;
 
 /// What a node does next.
 #[derive(Clone, Copy)]
-pub enum Command {
+pub(crate) enum Command {
     /// It begins a load.
     Load,
     /// It begins to store this in word 0.
@@ -28,7 +28,7 @@ pub enum Command {
 }
 
 /// The last operation that each node began.
-pub type Ops = [Op; 4];
+pub(crate) type Ops = [Op; 4];
 
 // One turn over a port. Whether the operation has ended.
 fn ends<P: Port<Keep = AnyWords>>(port: &mut P, op: &mut Op) -> bool {
@@ -45,7 +45,7 @@ fn turn(whole: &mut Whole<AnyWords>, trace: &mut Trace, node: NodeId, op: &mut O
 }
 
 /// So many turns, with their events recorded. Some(true): the operation has ended.
-pub fn turns(
+pub(crate) fn turns(
     whole: &mut Whole<AnyWords>,
     trace: &mut Trace,
     node: NodeId,
@@ -95,7 +95,7 @@ fn carry_out(
 }
 
 /// Carries the nodes' commands out, with the events recorded. None: there is no such node, or no such word.
-pub fn record(
+pub(crate) fn record(
     whole: &mut Whole<AnyWords>,
     trace: &mut Trace,
     ops: &mut Ops,

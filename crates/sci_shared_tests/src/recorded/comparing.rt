@@ -3,7 +3,11 @@ use sci_core::{AnyWords, Closed, Event, Outcome, Whole};
 use sci_words::NodeId;
 
 /// An event on the line that is lent, if it is in turn.
-pub fn step_whole(whole: &mut Whole<AnyWords>, node: NodeId, event: Event) -> Option<Outcome> {
+pub(crate) fn step_whole(
+    whole: &mut Whole<AnyWords>,
+    node: NodeId,
+    event: Event,
+) -> Option<Outcome> {
     if node.get() < whole.nodes() {
         whole.step(node, event).ok()
     } else {
@@ -12,7 +16,7 @@ pub fn step_whole(whole: &mut Whole<AnyWords>, node: NodeId, event: Event) -> Op
 }
 
 /// Whether a line closed with the words and bytes of the one that is lent.
-pub fn is_left_as(closed: &Closed, whole: &Whole<AnyWords>) -> bool {
+pub(crate) fn is_left_as(closed: &Closed, whole: &Whole<AnyWords>) -> bool {
     for number in 0..whole.nodes() {
         let Some(node) = NodeId::new(number) else {
             return false;

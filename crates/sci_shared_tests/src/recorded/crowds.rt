@@ -84,7 +84,7 @@ fn record(
 }
 
 /// So many nodes, all at work at once, three times. After so many rounds of one turn a node, a node takes many at once.
-pub fn crowd(alloc: Global, nodes: u16, patience: usize) -> Result<Recorded, Fail> {
+pub(crate) fn crowd(alloc: Global, nodes: u16, patience: usize) -> Result<Recorded, Fail> {
     let opening = Line::ZERO;
     let (mut whole, mut trace) = opened(alloc, nodes, opening, ROOM)?;
     record(alloc, &mut whole, &mut trace, patience)?;

@@ -13,7 +13,7 @@ use std::test::Fail;
 const ROOM: usize = 1_000;
 
 /// A run: how many nodes there are, how many of them load to the end first, and what they do then.
-pub type Run = (u16, u16, &'static [(u16, Command)]);
+pub(crate) type Run = (u16, u16, &'static [(u16, Command)]);
 
 const ONLY_FRESH: Tag = Tag {
     kind: Kind::Fresh,
@@ -23,7 +23,7 @@ const ONLY_FRESH: Tag = Tag {
 };
 
 /// Loads and writes, one after another and in each other's way.
-pub const READS_AND_WRITES: [Run; 7] = [
+pub(crate) const READS_AND_WRITES: [Run; 7] = [
     (3, 3, &[]),
     (2, 0, &[(0, Store(5)), (0, Done), (1, Load), (1, Done)]),
     (
@@ -86,7 +86,7 @@ pub const READS_AND_WRITES: [Run; 7] = [
 ];
 
 /// Nodes that leave the list, alone and in each other's way.
-pub const EXITS: [Run; 4] = [
+pub(crate) const EXITS: [Run; 4] = [
     (1, 1, &[(0, Evict), (0, Done), (0, Evict), (0, Done)]),
     (3, 3, &[(0, Store(5)), (0, Turns(18)), (1, Load), (1, Done)]),
     (
@@ -117,7 +117,7 @@ pub const EXITS: [Run; 4] = [
 ];
 
 /// Readers that come while a node leaves or writes.
-pub const LATE_COMERS: [Run; 3] = [
+pub(crate) const LATE_COMERS: [Run; 3] = [
     (
         2,
         1,
@@ -170,7 +170,7 @@ pub const LATE_COMERS: [Run; 3] = [
 ];
 
 /// Writes on a line that has the last stamp, or the one before.
-pub const LAST_STAMPS: Run = (
+pub(crate) const LAST_STAMPS: Run = (
     1,
     0,
     &[
@@ -198,7 +198,7 @@ fn record_run(
 }
 
 /// Records a run on a line with this opening.
-pub fn recorded(alloc: Global, opening: Line, run: &Run) -> Result<Recorded, Fail> {
+pub(crate) fn recorded(alloc: Global, opening: Line, run: &Run) -> Result<Recorded, Fail> {
     let (nodes, sharers, commands) = *run;
     let (mut whole, mut trace) = opened(alloc, nodes, opening, ROOM)?;
     record_run(&mut whole, &mut trace, sharers, commands).ok_or("no node")?;
@@ -234,7 +234,7 @@ const AT_ONCE: [[Command; 3]; 4] = [
 ];
 
 /// Three nodes that are all at work at once, four times.
-pub fn at_once(alloc: Global) -> Result<Recorded, Fail> {
+pub(crate) fn at_once(alloc: Global) -> Result<Recorded, Fail> {
     let (nodes, opening) = (3, Line::ZERO);
     let (mut whole, mut trace) = opened(alloc, nodes, opening, ROOM)?;
     let mut ops = [Op::load(); 4];
@@ -249,7 +249,7 @@ pub fn at_once(alloc: Global) -> Result<Recorded, Fail> {
 }
 
 /// The head loses the line to a reader while it converts: an exchange misses.
-pub fn missing(alloc: Global) -> Result<Recorded, Fail> {
+pub(crate) fn missing(alloc: Global) -> Result<Recorded, Fail> {
     let zero = NodeId::new(0).ok_or("no node")?;
     let one = NodeId::new(1).ok_or("no node")?;
     let events = vec![in alloc;
