@@ -18,8 +18,8 @@ class Edit:
         self.path, self.name, self.why = path, os.path.basename(path), None
         # the function as the file has it, and what the prover calls it
         self.change, self.function = None, None
-        # the file that it changes, and the function's whole text there, where a copy of it can stand beside it
-        self.file, self.item = None, None
+        # the file that it changes, the function's whole text as it is then, and whether a copy of the function can stand beside it
+        self.file, self.item, self.has_copies = None, None, False
         with open(path, encoding="utf-8", errors="replace") as it:
             self.text = it.read()
 
@@ -50,6 +50,8 @@ def edits_of(crate):
             changed.setdefault(edit, []).extend(of_path or [])
             if of_path and now.spans.get(of_path[0]):
                 edit.file, edit.item = path, item_of(file, now.spans[of_path[0]])
+                # (functions that are proved together have one proof)
+                edit.has_copies = of_path[0] not in now.of_traits and b"#[cycle" not in edit.item
     for edit in found:
         of_edit = changed.get(edit, [])
         if not edit.why and len(of_edit) != 1:
@@ -77,20 +79,25 @@ def changes_of(edit, crate, items):
 
 
 def item_of(file, span):
-    """Returns a function's text, from its attributes to its last brace, or None where no copy can stand beside it: it is proved together
-    with others."""
+    """Returns a function's text, from its attributes to its last brace."""
     with open(file, "rb") as it:
-        text = it.read()[slice(*span)]
-    return None if b"#[cycle" in text else text
+        return it.read()[slice(*span)]
+
+
+# A check costs as much before its first edit as it costs to prove so many copies of functions as they stand.
+COPIES_A_CHECK = 8
 
 
 def in_batches(edits, size):
-    """Returns the edits in batches. Several of one function stand in one where copies of that function can stand beside it."""
+    """Returns the edits in batches, as many as cost the least. Several of one function stand in one where copies of that function can
+    stand beside it."""
     by_function = {}
     for it in edits:
         by_function.setdefault(it.change, []).append(it)
-    alone = [len(it) for it in by_function.values() if not all(edit.item for edit in it)]
-    batches = [[] for _ in range(max([-(-len(edits) // size), *alone]))]
+    counts = [len(it) for it in by_function.values()]
+    least = max([-(-len(edits) // size), *(len(it) for it in by_function.values() if not all(edit.has_copies for edit in it))])
+    cost = lambda number: COPIES_A_CHECK * number + sum(it > number for it in counts)
+    batches = [[] for _ in range(min(range(least, max([least, *counts]) + 1), key=cost))]
     for together in sorted(by_function.values(), key=len, reverse=True):
         free = sorted(batches, key=len)
         for at, edit in enumerate(together):
@@ -110,19 +117,23 @@ def name_of_copy(name, number):
     return f"{name}_edit_{number}"
 
 
-def put_copies(room, file, copies, types, crate):
-    """Puts copies of functions of a file beside them, each with its proof: of a function, as a number and its text, or None for the text
-    that stands there."""
+def put(room, file, changes, types, crate):
+    """Puts texts of functions into a file: in the place of a function under its own name, and under another as a copy beside it, with its
+    proof. None stands for the text that is there."""
     with open(f"{room}/{file}", "rb") as it:
         text = it.read()
     spans = functions.items_of(file, functions.tokens_of([f"{room}/{file}"])[0]).spans
-    for change, number, item in sorted(copies, key=lambda it: -spans[it[0]][1]):
+    for change in sorted({it[0] for it in changes}, key=lambda it: -spans[it][1]):
         start, end = spans[change]
-        name, copy = change.name, name_of_copy(change.name, number)
-        item = re.sub(rb"\bfn(\s+)%s\b" % name.encode(), rb"fn\1%s" % copy.encode(), item or text[start:end], count=1)
-        text = text[:end] + b"\n\n" + item + text[end:]
-        for path in functions.names_of(change, types, crate):
-            copy_proof(room, path, path[: -len(name)] + copy)
+        own, copies = text[start:end], b""
+        for _, name, item in (it for it in changes if it[0] == change):
+            if name == change.name:
+                own = item
+                continue
+            copies += b"\n\n" + re.sub(rb"\bfn(\s+)%s\b" % change.name.encode(), rb"fn\1%s" % name.encode(), item or text[start:end], count=1)
+            for path in functions.names_of(change, types, crate):
+                copy_proof(room, path, path[: -len(change.name)] + name)
+        text = text[:start] + own + copies + text[end:]
     with open(f"{room}/{file}", "wb") as it:
         it.write(text)
 

@@ -13,9 +13,9 @@ TYPES = ("struct", "enum", "union", "trait")
 # A function of a file: the modules that it is written in, the type and the trait of its impl, if any, and its name.
 Function = namedtuple("Function", "modules type trait name")
 
-# What a file has: the tokens of each function's body, all other tokens, and the types that it declares, with their modules; and where
-# each function stands that is no method of a trait, from its attributes to its last brace, in bytes.
-Items = namedtuple("Items", "bodies rest types spans")
+# What a file has: the tokens of each function's body, all other tokens, and the types that it declares, with their modules; where each
+# function stands, from its attributes to its last brace, in bytes; and which functions are methods of a trait.
+Items = namedtuple("Items", "bodies rest types spans of_traits")
 
 
 def tokens_of(files):
@@ -80,7 +80,7 @@ def types_of_impl(words):
 
 def items_of(path, tokens):
     """Returns what a file has."""
-    items, scopes, head = Items({}, [], [], {}), [], []
+    items, scopes, head = Items({}, [], [], {}, set()), [], []
     inside, depth, is_clause, begun = None, 0, False, None
     for kind, text, start, end in tokens:
         # from the brace that a clause's head ends in to its end, all is the clause's
@@ -90,8 +90,9 @@ def items_of(path, tokens):
             depth += (code == "{") - (code == "}")
             inside.append((kind, text))
             if not depth:
-                if not owner[2] and owner[0] != "trait":
-                    items.spans[function] = (begun, end) if function not in items.spans else None
+                items.spans[function] = (begun, end) if function not in items.spans else None
+                if owner[2] or owner[0] == "trait":
+                    items.of_traits.add(function)
                 inside, begun = None, None
             continue
         items.rest.append((kind, text))

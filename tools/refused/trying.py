@@ -8,7 +8,7 @@ import subprocess
 import tempfile
 import time
 
-from edits import in_batches, name_of_copy, put_copies, with_numbers
+from edits import in_batches, name_of_copy, put, with_numbers
 from functions import modules_of, named, names_of
 from kit import RATTLE, RT
 
@@ -110,7 +110,7 @@ class Trial:
         with tempfile.TemporaryDirectory(prefix="refused-") as room:
             self.copy_to(room)
             for file, changes in self.copied.items():
-                put_copies(room, file, [(it, 0, None) for it in changes], self.types, self.crate.name)
+                put(room, file, [(it, name_of_copy(it.name, 0), None) for it in changes], self.types, self.crate.name)
             status, said, used, seconds = run(["check", *self.words(jobs), *only(self.asks)], room)
         if status == 2 and "has no function" in said and self.asks != self.asked(modules_of):
             self.asks = self.asked(modules_of)
@@ -132,21 +132,15 @@ class Trial:
     def edit(self, room, edits):
         """Makes these edits in a copy of the crate: the first of a function in the function itself, others in copies of it. Returns the
         files that are changed, and why an edit can't be made, or None."""
-        changed, copies = set(), {}
+        changes = {}
         for edit, number in with_numbers(edits):
-            if number:
-                copies.setdefault(edit.file, []).append((edit.change, number, edit.item))
-                continue
-            texts, why = RT.edited(edit.text, room)
-            if why:
-                return changed, why
-            for path, text in texts.items():
-                with open(f"{room}/{path}", "w", encoding="utf-8") as it:
-                    it.write(text)
-            changed |= {*texts}
-        for file, of_file in copies.items():
-            put_copies(room, file, of_file, self.types, self.crate.name)
-        return changed, None
+            if not edit.item:
+                return {*changes}, "where its function begins and ends isn't told"
+            name = name_of_copy(edit.change.name, number) if number else edit.change.name
+            changes.setdefault(edit.file, []).append((edit.change, name, edit.item))
+        for file, of_file in changes.items():
+            put(room, file, of_file, self.types, self.crate.name)
+        return {*changes}, None
 
     def check(self, edits, costs):
         """Checks a copy of the crate with these edits, over a copy of the folder of kept work: so none is tried over what another left.
