@@ -10,6 +10,8 @@ mod coarse;
 #[cfg(test)]
 mod fine;
 #[cfg(test)]
+mod lines;
+#[cfg(test)]
 mod recorded;
 #[cfg(test)]
 mod replays;

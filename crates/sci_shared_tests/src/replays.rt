@@ -2,18 +2,20 @@
 mod crowds;
 mod rows;
 
+use crate::lines::replaying;
 use crate::recorded::Recorded;
 use crate::recorded::rows::{Run, recorded};
-use crate::{coarse, fine};
-use sci_core::Line;
+use sci_coarse::CoarseLine;
+use sci_core::{AnyWords, Line};
+use sci_fine::FineLine;
 use std::alloc::Global;
 use std::process::Abort;
 use std::test::Fail;
 
 // Makes a run again on both lines.
 fn replay_run(rt: &impl Abort, alloc: Global, run: &Recorded) -> Result<(), Fail> {
-    coarse::replays::replay_run(rt, alloc, run)?;
-    fine::replays::replay_run(rt, alloc, run)
+    replaying::replay_run::<CoarseLine<AnyWords>>(rt, alloc, run)?;
+    replaying::replay_run::<FineLine<AnyWords>>(rt, alloc, run)
 }
 
 // Records each run on a line of zeros that is lent, and makes it again.

@@ -1,8 +1,9 @@
 //! Each growth may be refused: its call then answers 7, all is as before, and a second try has the memory. With ample memory
 //! this test passes. tools/allocations runs it once for each growth of its table, with that one refused, and the test ends by
 //! saying which call answered it.
-use super::{OPENING, is_idle, is_unused};
 use crate::checks::same;
+use crate::lines::SharedLine;
+use crate::lines::opening::{OPENING, is_unused};
 use sci_coarse::{CoarseLine, FinishRefusal, Seat};
 use sci_core::{AnyWords, OpenRefusal};
 use std::alloc::Global;
@@ -14,7 +15,7 @@ fn are_as_before(rt: &impl Abort, seats: &[Seat<AnyWords>]) {
     for (place, seat) in seats.iter().enumerate() {
         same(rt, &usize::from(seat.node().get()), &place);
         same(rt, &seat.number(), &7);
-        assert!(rt; is_idle(seat));
+        assert!(rt; CoarseLine::is_idle(seat));
     }
 }
 

@@ -1,9 +1,9 @@
 //! Threads on one line: loads by three nodes, and four threads of loads, stores, additions and evictions by eight.
-ghost use Rattle.std.specs.Prelude.{◌≡◌, All};
+ghost use Rattle.std.specs.Prelude.{All};
 ghost use Rattle.sci_fine.specs.Seats.{IsSeatOf};
 
-use super::{closed, finish, opened};
 use crate::checks::same;
+use crate::lines::{SharedLine, closed};
 use sci_core::{AnyWords, Closed, Line};
 use sci_fine::{FineLine, Seat};
 use sci_ops::{Answer, Op};
@@ -25,8 +25,7 @@ fn load_once<R: Wait>(rt: &R, line: &FineLine<AnyWords>, seat: &mut Seat<AnyWord
     requires { IsSeatOf line.now seat.old }
     ensures { IsSeatOf line.now seat.new }
 {
-    let mut port = line.port(seat);
-    let _ = finish(rt, &mut port, Op::load());
+    let _ = line.carry_out(rt, seat, Op::load());
 }
 
 // Three threads, each with its own seat.
@@ -52,7 +51,7 @@ fn sharers(closed: &Closed) -> usize {
 
 #[test]
 fn three_threads_load(rt: HostRuntime) -> Result<(), Fail> {
-    let (line, mut seats) = opened(rt.alloc(), 3, Line::ZERO).ok_or("no line")?;
+    let (line, mut seats) = FineLine::opened(rt.alloc(), 3, 0, Line::ZERO)?;
     all_load(&rt, &line, seats.as_mut_slice());
     let Ok(left) = closed(rt.alloc(), line, seats) else {
         panic!(rt; "the nodes are not done")
@@ -139,8 +138,7 @@ fn serve<R: Wait>(rt: &R, line: &FineLine<AnyWords>, seat: &mut Seat<AnyWords>, 
     ensures { IsSeatOf line.now seat.new }
 {
     let op = operation(u64::from(seat.node().get()), step);
-    let mut port = line.port(seat);
-    finish(rt, &mut port, op)
+    line.carry_out(rt, seat, op)
 }
 
 // One operation of each of these nodes.
@@ -201,7 +199,7 @@ fn adds_up<R: Abort>(rt: &R, closed: &Closed) -> Result<(), Fail> {
 
 #[test]
 fn four_threads_work(rt: HostRuntime) -> Result<(), Fail> {
-    let (line, mut seats) = opened(rt.alloc(), 8, Line::ZERO).ok_or("no line")?;
+    let (line, mut seats) = FineLine::opened(rt.alloc(), 8, 0, Line::ZERO)?;
     all_work(&rt, &line, seats.as_mut_slice());
     let Ok(left) = closed(rt.alloc(), line, seats) else {
         panic!(rt; "the nodes are not done")

@@ -1,6 +1,0 @@
-use Rattle.std.proofs.Common.{◌≡◌, ℕ, ◌<◌, get_or}
-use Rattle.sci_core.specs.declared.pending.Pending.{Pending}
-use Rattle.sci_shared_tests.proofs.coarse.replays.are_idle.Given as goal
-
-abbrev pub invariant-loop-seat : goal.invariant-loop-seat
-invariant-loop-seat l = (k : ℕ) (d : _) → k < l.seat-index → (get_or l.seats k d).standing.pending ≡ Pending.Idle

@@ -1,8 +1,0 @@
-use Rattle.std.proofs.Common.{◌≡◌}
-use Rattle.sci_shared_tests.proofs.coarse.replays.has_words_of.Given as goal
-
-abbrev pub invariant-loop-number : goal.invariant-loop-number
-invariant-loop-number l = record {
-  same_line : l.port.line ≡ l.initial.port.line;
-  same_reference : l.port.seat.ghost_name ≡ l.initial.port.seat.ghost_name;
-}

@@ -1,7 +1,0 @@
-use Rattle.std.proofs.Common.{rules, sym, subst}
-use Rattle.std.specs.Prelude.{All}
-use Rattle.sci_coarse.specs.Seats.{IsSeatOf}
-use Rattle.sci_shared_tests.proofs.coarse.replays.left_by.Goals as goal
-
-pub replay_all-requires : goal.replay_all-requires
-replay_all-requires g c = subst (λ l. All (λ s. IsSeatOf c.in_ok-line.line s) l) (sym c.as_mut_slice.ensures.value) (search rules)

@@ -1,6 +1,0 @@
-use Rattle.std.specs.Prelude.{All}
-use Rattle.sci_coarse.specs.Seats.{IsSeatOf}
-use Rattle.sci_shared_tests.proofs.coarse.replays.replay.Given as goal
-
-abbrev pub invariant-loop-seat : goal.invariant-loop-seat
-invariant-loop-seat l = All (λ s. IsSeatOf l.line s) l.seats

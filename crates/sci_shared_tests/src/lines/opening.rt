@@ -1,0 +1,74 @@
+//! How a line that threads share is opened and closed.
+use super::{SharedLine, closed};
+use crate::checks::same;
+use sci_core::{Closed, Line};
+use sci_words::{Kind, Mem, MemState, Tag};
+use std::alloc::Global;
+use std::process::Abort;
+use std::test::Fail;
+
+pub(crate) const OPENING: Line = Line {
+    words: [7; 8],
+    stamp: 3,
+};
+
+const HOME: Mem = Mem {
+    state: MemState::Home,
+    lent: false,
+    forw: None,
+};
+
+const INVALID: Tag = Tag {
+    kind: Kind::Invalid,
+    held: false,
+    forw: None,
+    back: None,
+};
+
+// How many seats a line of so many nodes opens with, and how many tags that nobody used it closes with; or the refusal.
+fn counts_of<L: SharedLine>(alloc: Global, nodes: u16) -> Result<(usize, usize), u8> {
+    let (line, seats) = match L::opened(alloc, nodes, 7, OPENING) {
+        Ok(opened) => opened,
+        Err(refusal) => return Err(refusal.number()),
+    };
+    let count = seats.len();
+    match closed(alloc, line, seats) {
+        Ok(closed) => Ok((count, closed.tags.len())),
+        Err((refusal, _)) => Err(refusal),
+    }
+}
+
+/// A line opens with 1 to 64 nodes, and is closed again.
+pub(crate) fn opens_and_finishes<L: SharedLine>(rt: &impl Abort, alloc: Global) {
+    for nodes in 1..65 {
+        let count = usize::from(nodes);
+        let counts = counts_of::<L>(alloc, nodes);
+        same(rt, &(nodes, counts), &(nodes, Ok((count, count))));
+    }
+    for nodes in [0, 65, u16::MAX] {
+        let counts = counts_of::<L>(alloc, nodes);
+        same(rt, &(nodes, counts), &(nodes, Err(6)));
+    }
+}
+
+/// A line of two nodes was closed as it was opened.
+pub(crate) fn is_unused(rt: &impl Abort, closed: &Closed) {
+    same(rt, &closed.mem, &HOME);
+    same(rt, &closed.memory, &OPENING);
+    same(rt, &closed.tags.as_slice(), &[INVALID; 2].as_slice());
+    same(rt, &closed.lines.as_slice(), &[OPENING; 2].as_slice());
+}
+
+/// A line is closed with its seats in order, and with no others.
+pub(crate) fn finishes_in_order<L: SharedLine>(rt: &impl Abort, alloc: Global) -> Result<(), Fail> {
+    let (line, mut seats) = L::opened(alloc, 2, 0, OPENING)?;
+    seats.reverse();
+    let refused = closed(alloc, line, seats);
+    assert!(rt; matches!(refused, Err((9, 2))));
+    let (line, seats) = L::opened(alloc, 2, 0, OPENING)?;
+    let Ok(closed) = closed(alloc, line, seats) else {
+        panic!(rt; "it was refused")
+    };
+    is_unused(rt, &closed);
+    Ok(())
+}
