@@ -5,8 +5,8 @@ mod memory;
 
 use crate::lines::adding::adds_by_two;
 use crate::lines::opening::{finishes_in_order, opens_and_finishes};
-use sci_core::AnyWords;
 use sci_coarse::CoarseLine;
+use sci_core::AnyWords;
 use std::test::Fail;
 
 #[test]

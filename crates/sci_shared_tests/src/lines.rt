@@ -1,9 +1,9 @@
 //! A line that threads share, whichever it is, as the tests of both use it.
 ghost use Rattle.std.specs.Prelude.{All, IfOk, IsTrue};
 
+pub(crate) mod adding;
 mod coarse;
 mod fine;
-pub(crate) mod adding;
 pub(crate) mod opening;
 pub(crate) mod replaying;
 pub(crate) mod turning;

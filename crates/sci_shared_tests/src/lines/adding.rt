@@ -27,14 +27,9 @@ fn add_all<R: Wait, L: SharedLine>(rt: &R, line: &L, seat: &mut L::Seat)
 }
 
 // Two threads, each with its own seat.
-fn both_add<R: Threads + Wait + Sync, L: SharedLine + Sync>(
-    rt: &R,
-    line: &L,
-    seats: &mut [L::Seat],
-)
+fn both_add<R: Threads + Wait + Sync, L: SharedLine + Sync>(rt: &R, line: &L, seats: &mut [L::Seat])
 where
     L::Seat: Send,
-
     requires { All (λ s. L.is_seat line.now s) seats.old }
     ensures { All (λ s. L.is_seat line.now s) seats.new }
 {

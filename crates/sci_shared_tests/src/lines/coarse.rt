@@ -5,8 +5,8 @@ ghost use Rattle.sci_coarse.specs.Seats.{IsSeatOf};
 
 use super::SharedLine;
 use crossbeam_utils::Backoff;
-use sci_core::{AnyWords, Closed, Event, Line, OpenRefusal, Outcome, Pending};
 use sci_coarse::{CoarseLine, CoarsePort, Seat};
+use sci_core::{AnyWords, Closed, Event, Line, OpenRefusal, Outcome, Pending};
 use sci_ops::{Answer, Op, Turn};
 use sci_port::Port;
 use sci_words::{LineNo, Mem, NodeId, Tag};

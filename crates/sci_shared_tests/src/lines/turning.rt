@@ -39,12 +39,7 @@ fn turn_of<L: SharedLine>(line: &L, seat: &mut L::Seat, op: &mut Op) -> Option<T
 }
 
 /// One turn of the seat of this node. None: there is no such seat.
-fn turn_at<L: SharedLine>(
-    line: &L,
-    seats: &mut [L::Seat],
-    number: u16,
-    op: &mut Op,
-) -> Option<Turn>
+fn turn_at<L: SharedLine>(line: &L, seats: &mut [L::Seat], number: u16, op: &mut Op) -> Option<Turn>
     requires { All (λ s. L.is_seat line.now s) seats.old }
     ensures { All (λ s. L.is_seat line.now s) seats.new }
 {
