@@ -6,6 +6,8 @@ mod checks;
 #[cfg(test)]
 mod fixed;
 #[cfg(test)]
+mod paced;
+#[cfg(test)]
 mod script;
 #[cfg(test)]
 mod serve;

@@ -1,5 +1,3 @@
-ghost use Rattle.std.specs.Prelude.{Some};
-
 mod checks;
 mod faltering;
 mod growths;
@@ -9,12 +7,13 @@ mod settings;
 mod works;
 
 use crate::checks::{same, same_at};
+use crate::paced::{Pace, Paced};
 use sci_script::ScriptRefusal;
 use sci_serve::{Form, SimFault, serve, serve_buffered, serve_script};
 use sci_work::WorkRefusal;
 use std::alloc::{AllocError, Global};
 use std::io;
-use std::io::{BufWriter, ErrorKind, Read, Write};
+use std::io::{BufWriter, ErrorKind, Read};
 use std::process::Abort;
 use std::test::*;
 
@@ -74,36 +73,6 @@ impl Read for Late {
     }
 }
 
-/// Takes two bytes a write, and fails when it is full; each other write is interrupted.
-#[derive(Drop)]
-struct Narrow {
-    held: Vec<u8>,
-    room: usize,
-    interrupted: bool,
-}
-
-impl Write for Narrow {
-    ghost contents = { λ w. Some w.held.items };
-
-    fn write(&mut self, buf: &[u8]) -> io::Result<usize> {
-        self.interrupted = !self.interrupted;
-        if self.interrupted {
-            return Err(io::Error::from(ErrorKind::Interrupted));
-        }
-        let count = buf.len().min(2).min(self.room);
-        if count == 0 {
-            return Err(io::Error::from(ErrorKind::Other));
-        }
-        self.held.extend_from_slice(&buf[..count])?;
-        self.room -= count;
-        Ok(count)
-    }
-
-    fn flush(&mut self) -> io::Result<()> {
-        Ok(())
-    }
-}
-
 /// A script, its fault if it has one, and its text.
 type Case = (&'static str, Option<SimFault>, &'static str);
 
@@ -153,13 +122,13 @@ const READER_TOLD: &str = "# node 0 line 0 load: Queue(none) Done; Queueing(none
     # node 0 line 0 load: Settle Done; Idle; FRESH 0: 0 ONLY_FRESH\n\
     node 0 read 0 stamp 0\n";
 
-/// A writer with so much room.
-fn with_room(alloc: Global, room: usize) -> Narrow {
-    Narrow {
-        held: Vec::new(alloc),
-        room,
-        interrupted: false,
-    }
+/// A writer with so much room, that takes two bytes a write, and is interrupted before each.
+fn with_room(alloc: Global, room: usize) -> Paced {
+    let pace = Pace {
+        most: 2,
+        interruptions: 1,
+    };
+    Paced::new(alloc, pace, room)
 }
 
 /// The fault of a script that comes byte by byte to a narrow writer, and what the writer holds.

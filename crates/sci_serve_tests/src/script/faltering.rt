@@ -3,6 +3,7 @@ ghost use Rattle.std.specs.Prelude.{Some};
 
 use super::{SHARED, SHARERS, run_text, same_bytes_at};
 use crate::checks::{same, same_at};
+use crate::paced::{Pace, Paced};
 use sci_script::{ScriptRefusal, put};
 use std::alloc::Global;
 use std::io;
@@ -62,34 +63,6 @@ fn a_fault_is_told_at_once(rt: HostRuntime) {
     }
 }
 
-/// Takes so many bytes a write at most, and is interrupted so many times before each.
-#[derive(Drop)]
-struct Interrupted {
-    held: Vec<u8>,
-    most: usize,
-    interruptions: u32,
-    left: u32,
-}
-
-impl Write for Interrupted {
-    ghost contents = { λ w. Some w.held.items };
-
-    fn write(&mut self, buf: &[u8]) -> io::Result<usize> {
-        if self.left > 0 {
-            self.left -= 1;
-            return Err(io::Error::from(ErrorKind::Interrupted));
-        }
-        self.left = self.interruptions;
-        let count = buf.len().min(self.most);
-        self.held.extend_from_slice(&buf[..count])?;
-        Ok(count)
-    }
-
-    fn flush(&mut self) -> io::Result<()> {
-        Ok(())
-    }
-}
-
 // Each write is tried 2,097,152 times, and the count begins anew behind it.
 #[test]
 fn writes_of_2_097_152_tries(rt: HostRuntime) {
@@ -99,12 +72,11 @@ fn writes_of_2_097_152_tries(rt: HostRuntime) {
         (4, 2_097_152, false),
         (4, u32::MAX, false),
     ] {
-        let mut writer = Interrupted {
-            held: Vec::new(rt.alloc()),
+        let pace = Pace {
             most,
             interruptions,
-            left: interruptions,
         };
+        let mut writer = Paced::new(rt.alloc(), pace, usize::MAX);
         let end = put(&mut writer, b"list");
         same_at(&rt, &interruptions, &end.is_ok(), &is_written);
         same(&rt, &writer.held.len(), &if is_written { 4 } else { 0 });

@@ -1,20 +1,10 @@
 //! Texts of more than 2,000 bytes, through writers that take little at a time or are interrupted: what arrives is the whole text.
-ghost use Rattle.std.specs.Prelude.{Some};
-
 use super::{NODES, add_list, add_load, add_read, run_text};
 use crate::checks::same;
+use crate::paced::{Pace, Paced};
 use sci_script::put;
 use std::alloc::{AllocError, Global};
-use std::io;
-use std::io::{ErrorKind, Write};
 use std::test::Fail;
-
-/// Takes so many bytes a write at most, and is interrupted so many times before each.
-#[derive(Clone, Copy)]
-struct Pace {
-    most: usize,
-    interruptions: u32,
-}
 
 const PACES: [Pace; 7] = [
     Pace {
@@ -47,40 +37,6 @@ const PACES: [Pace; 7] = [
     },
 ];
 
-#[derive(Drop)]
-struct Slow {
-    held: Vec<u8>,
-    pace: Pace,
-    interruptions: u32,
-}
-
-impl Write for Slow {
-    ghost contents = { λ w. Some w.held.items };
-
-    fn write(&mut self, buf: &[u8]) -> io::Result<usize> {
-        if self.interruptions < self.pace.interruptions {
-            self.interruptions += 1;
-            return Err(io::Error::from(ErrorKind::Interrupted));
-        }
-        self.interruptions = 0;
-        let count = buf.len().min(self.pace.most);
-        self.held.extend_from_slice(&buf[..count])?;
-        Ok(count)
-    }
-
-    fn flush(&mut self) -> io::Result<()> {
-        Ok(())
-    }
-}
-
-fn writer_of(alloc: Global, pace: Pace) -> Slow {
-    Slow {
-        held: Vec::new(alloc),
-        pace,
-        interruptions: 0,
-    }
-}
-
 /// A script in which 64 nodes load a line, one after the other, and its text, of one line of 900 bytes and more than 2,000 in all.
 fn readers(alloc: Global) -> Result<(String, String), AllocError> {
     let mut script = format!(in alloc; "memory {NODES} 1\n")?;
@@ -99,7 +55,7 @@ fn a_long_text_arrives(rt: HostRuntime) -> Result<(), Fail> {
     let (script, text) = readers(rt.alloc())?;
     assert!(rt; text.len() > 2_000);
     for pace in PACES {
-        let mut writer = writer_of(rt.alloc(), pace);
+        let mut writer = Paced::new(rt.alloc(), pace, usize::MAX);
         same(&rt, &run_text(rt.alloc(), &script, &mut writer), &Ok(()));
         assert!(rt; writer.held.as_slice() == text.as_bytes());
     }
@@ -110,7 +66,7 @@ fn a_long_text_arrives(rt: HostRuntime) -> Result<(), Fail> {
 fn a_long_text_arrives_in_one_put(rt: HostRuntime) -> Result<(), Fail> {
     let (_, text) = readers(rt.alloc())?;
     for pace in PACES {
-        let mut writer = writer_of(rt.alloc(), pace);
+        let mut writer = Paced::new(rt.alloc(), pace, usize::MAX);
         assert!(rt; put(&mut writer, text.as_bytes()).is_ok());
         assert!(rt; writer.held.as_slice() == text.as_bytes());
     }

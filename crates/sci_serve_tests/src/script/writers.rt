@@ -1,48 +1,25 @@
 //! Writers that fail, and the lines that are printed.
-ghost use Rattle.std.specs.Prelude.{Some};
-
 use super::{SHARED, SHARERS, node, run_text, same_bytes_at, tag};
 use crate::checks::same;
+use crate::paced::{Pace, Paced};
 use sci_core::Line;
 use sci_script::{Script, ScriptRefusal, WholeDesk, list_text, read_script, tag_text};
 use sci_words::{Kind, Mem, MemState, NodeId};
 use std::alloc::{AllocError, Global};
-use std::io;
-use std::io::{ErrorKind, Write};
 use std::process::Abort;
 use std::test::Fail;
 
-/// Takes two bytes a write, and fails when it is full.
-#[derive(Drop)]
-struct Narrow {
-    held: Vec<u8>,
-    room: usize,
-}
-
-impl Write for Narrow {
-    ghost contents = { λ w. Some w.held.items };
-
-    fn write(&mut self, buf: &[u8]) -> io::Result<usize> {
-        let count = buf.len().min(2).min(self.room);
-        if count == 0 {
-            return Err(io::Error::from(ErrorKind::Other));
-        }
-        self.held.extend_from_slice(&buf[..count])?;
-        self.room -= count;
-        Ok(count)
-    }
-
-    fn flush(&mut self) -> io::Result<()> {
-        Ok(())
-    }
-}
+/// Takes two bytes a write.
+const NARROW: Pace = Pace {
+    most: 2,
+    interruptions: 0,
+};
 
 #[test]
 fn a_failing_writer_has_a_front_of_the_text(rt: HostRuntime) {
     let text = SHARED.as_bytes();
     for room in 0..text.len() {
-        let held = Vec::new(rt.alloc());
-        let mut writer = Narrow { held, room };
+        let mut writer = Paced::new(rt.alloc(), NARROW, room);
         let end = run_text(rt.alloc(), SHARERS, &mut writer);
         same(&rt, &end, &Err(ScriptRefusal::WriteFailed));
         same(&rt, &ScriptRefusal::WriteFailed.number(), &24);
