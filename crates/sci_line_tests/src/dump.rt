@@ -5,7 +5,8 @@ mod growths;
 mod memory;
 
 use crate::checks::{is_so_at, same, same_at};
-use sci_core::{AnyWords, Closed, Event, Line, Pending, Whole};
+use crate::whole::{closed_of, node};
+use sci_core::{AnyWords, Closed, Event, Line, Whole};
 use sci_dump::*;
 use sci_words::{Kind, NodeId, Tag};
 use std::alloc::{AllocError, Global};
@@ -270,15 +271,6 @@ fn changed_in_each_byte(rt: HostRuntime) -> Result<(), Fail> {
     Ok(())
 }
 
-fn node(number: u16) -> NodeId
-    requires { number < 255 }
-{
-    match NodeId::new(number) {
-        Some(node) => node,
-        None => unreachable!(),
-    }
-}
-
 fn fresh(forw: Option<NodeId>) -> Tag {
     Tag {
         kind: Kind::Fresh,
@@ -286,17 +278,6 @@ fn fresh(forw: Option<NodeId>) -> Tag {
         forw,
         back: None,
     }
-}
-
-// The line at rest.
-fn closed_of(alloc: Global, whole: &Whole<AnyWords>) -> Result<Closed, Fail> {
-    for number in 0..whole.nodes() {
-        let node = NodeId::new(number).ok_or("a node")?;
-        let Pending::Idle = whole.pending(node) else {
-            return Err(Fail::new("a node is at work"));
-        };
-    }
-    Ok(whole.closed(alloc)?)
 }
 
 // Makes a step of a node.
@@ -335,7 +316,7 @@ fn shared(alloc: Global) -> Result<Closed, Fail> {
     take(&mut whole, zero, Event::Settle)?;
     load(&mut whole, one, zero, None)?;
     load(&mut whole, two, one, Some(zero))?;
-    closed_of(alloc, &whole)
+    Ok(closed_of(alloc, &whole).ok_or("a node is at work")?)
 }
 
 // The same line again.
@@ -346,13 +327,13 @@ fn same_line(rt: &impl Abort, line: &Closed, back: &Closed) {
     same(rt, &line.lines.as_slice(), &back.lines.as_slice());
 }
 
-// The dump of this line of three nodes.
+// The dump of this one line of three nodes.
 fn is_read(rt: &impl Abort, lines: &[Closed], read: &Dump) {
     same(rt, &read.nodes, &3);
-    same(rt, &read.lines.len(), &1);
-    for (line, back) in lines.iter().zip(read.lines.iter()) {
-        same_line(rt, line, back);
-    }
+    let ([line], [back]) = (lines, read.lines.as_slice()) else {
+        panic!(rt; "not one line")
+    };
+    same_line(rt, line, back);
 }
 
 #[test]
@@ -379,12 +360,19 @@ fn word_of(node: u64) -> u64
     }
 }
 
+// A node's tag on a line that 64 nodes share.
+fn write_tag(text: &mut String, line: u64, node: u64) -> Result<(), AllocError>
+    requires { node < 64 }
+{
+    let word = word_of(node);
+    write!(text, "tag {line} {node} {word:016x} 0 0 0 0 0 0 0 0 0\n")
+}
+
 // A line that 64 nodes share.
-fn write_line(text: &mut String, line: u64) -> Result<(), Fail> {
+fn write_line(text: &mut String, line: u64) -> Result<(), AllocError> {
     write!(text, "line {line} 0000000000003f01 0 0 0 0 0 0 0 0 0\n")?;
-    for node in 0..64u64 {
-        let word = word_of(node);
-        write!(text, "tag {line} {node} {word:016x} 0 0 0 0 0 0 0 0 0\n")?;
+    for node in 0..64 {
+        write_tag(text, line, node)?;
     }
     Ok(())
 }

@@ -1,5 +1,5 @@
 //! Steps and runs worked out by hand from the table of exchanges.
-ghost use Rattle.std.specs.Prelude.{◌≡◌, ℕ, ◌<◌, All, IfOk};
+ghost use Rattle.std.specs.Prelude.{◌≡◌, ℕ, ◌<◌, All, IfOk, true};
 ghost use Rattle.sci_core.specs.declared.pending.Pending.TheVariants.{Idle};
 ghost use Rattle.sci_core.specs.Whole.{nodes_of, state_of};
 
@@ -22,7 +22,7 @@ const LINE: Line = Line {
     stamp: 40,
 };
 
-fn node(number: u16) -> NodeId
+pub(crate) fn node(number: u16) -> NodeId
     requires { number < 255 }
     ensures { result ≡ number }
 {
@@ -50,6 +50,26 @@ fn opened(
     ensures { IfOk result (λ w. (i : ℕ) → i < nodes_of w → (state_of w).steps i ≡ Idle) }
 {
     Whole::open(alloc, nodes, number, line, AnyWords)
+}
+
+// Whether there is this node, and it is in no step.
+fn is_idle(whole: &Whole<AnyWords>, number: u16) -> bool
+    ensures { result ≡ true → (state_of whole.now).steps number ≡ Idle }
+{
+    match NodeId::new(number) {
+        Some(node) => { node.get() < whole.nodes() && matches!(whole.pending(node), Pending::Idle) }
+        None => false,
+    }
+}
+
+/// The line at rest. None: a node is in a step, or memory ran out.
+pub(crate) fn closed_of(alloc: Global, whole: &Whole<AnyWords>) -> Option<Closed> {
+    for number in 0..whole.nodes() {
+        if !is_idle(whole, number) {
+            return None;
+        }
+    }
+    whole.closed(alloc).ok()
 }
 
 /// The numbers of the nodes on the line's list, from its head.

@@ -1,11 +1,7 @@
 //! Two nodes on one line: what stands is shown, in a slot or in a hand, and at rest it is closed.
-ghost use Rattle.std.specs.Prelude.{◌≡◌, true};
-ghost use Rattle.sci_core.specs.declared.pending.Pending.TheVariants.{Idle};
-ghost use Rattle.sci_core.specs.Whole.{state_of};
-
-use super::{ALONE, node, opened};
+use super::{ALONE, closed_of, node, opened};
 use crate::checks::{same, same_at};
-use sci_core::{AnyWords, Closed, Event, Line, NotInTurn, Outcome, Pending, Whole};
+use sci_core::{AnyWords, Closed, Event, Line, NotInTurn, Outcome, Whole};
 use sci_words::{Kind, Mem, MemState, NodeId, Tag};
 use std::alloc::Global;
 use std::process::Abort;
@@ -147,25 +143,6 @@ fn all_show(
     }
 }
 
-// Whether there is this node, and it is in no step.
-fn is_idle(whole: &Whole<AnyWords>, number: u16) -> bool
-    ensures { result ≡ true → (state_of whole.now).steps number ≡ Idle }
-{
-    match NodeId::new(number) {
-        Some(node) => { node.get() < whole.nodes() && matches!(whole.pending(node), Pending::Idle) }
-        None => false,
-    }
-}
-
-// A line of two nodes, closed. None: a node is in a step, or memory ran out.
-fn closed(alloc: Global, whole: &Whole<AnyWords>) -> Option<Closed> {
-    if whole.nodes() == 2 && is_idle(whole, 0) && is_idle(whole, 1) {
-        whole.closed(alloc).ok()
-    } else {
-        None
-    }
-}
-
 // Node 0 stores on its own, and then node 1 copies from it.
 #[test]
 fn shows_lines_in_hands(rt: HostRuntime) -> Result<(), Fail> {
@@ -173,7 +150,7 @@ fn shows_lines_in_hands(rt: HostRuntime) -> Result<(), Fail> {
     let mut whole = Whole::open(rt.alloc(), 2, 0, OPENING, AnyWords)?;
     all_show(&rt, &mut whole, writer, reader, OPENING, &stores());
     all_show(&rt, &mut whole, reader, writer, WRITTEN, &copies(writer));
-    let closed = closed(rt.alloc(), &whole).ok_or("a node is in a step")?;
+    let closed = closed_of(rt.alloc(), &whole).ok_or("a node is in a step")?;
     let gone = mem(MemState::Gone, Some(reader));
     let head = tag(Kind::Dirty, Some(writer), None);
     let tail = tag(Kind::Valid, None, Some(reader));
