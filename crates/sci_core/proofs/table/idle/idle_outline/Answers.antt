@@ -6,3 +6,6 @@ returns-in-Queue c = rw (c.in-Queue.is, c.takes.ensures, c.tag.ensures, c.invali
 
 pub returns-in-BeginPurge : goal.returns-in-BeginPurge
 returns-in-BeginPurge c = search rules
+
+pub returns-in-Hold : goal.returns-in-Hold
+returns-in-Hold c = search rules

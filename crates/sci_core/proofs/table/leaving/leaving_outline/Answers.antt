@@ -6,3 +6,6 @@ returns-in-ReturnHomeDirty-Some-None c = search rules
 
 pub returns-in-Promote-Some-Some : goal.returns-in-Promote-Some-Some
 returns-in-Promote-Some-Some c = search rules
+
+pub returns-in-Stay-Some : goal.returns-in-Stay-Some
+returns-in-Stay-Some c = search rules
