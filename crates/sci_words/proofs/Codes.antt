@@ -1,5 +1,5 @@
 -- A word has one code, and a code one word.
-use Rattle.std.proofs.Common.{◌≡◌, ℕ, ◌+◌, ◌*◌, ◌^◌, ◌<◌, ◌≤◌, ◌≢◌, ◌&&◌, Bool, true, false, eqb, refl, sym, ap, ◌∙◌, arith, ne_eqb, Option, Some, None}
+use Rattle.std.proofs.Common.{◌≡◌, ℕ, ◌+◌, ◌*◌, ◌/◌, ◌^◌, ◌<◌, ◌≤◌, ◌≢◌, ◌&&◌, Bool, true, false, eqb, refl, sym, ap, ◌∙◌, arith, ne_eqb, Option, Some, None}
 use Rattle.std.proofs.lemmas.Bool.Decides.{nat_tests}
 use borrow.Author.Tests.{ltb-true}
 use Rattle.sci_words.specs.declared.tags.Kind.{Kind}
@@ -8,7 +8,7 @@ use Rattle.sci_words.specs.declared.tags.Tag.{Tag}
 use Rattle.sci_words.specs.declared.memory.Mem.{Mem}
 use Rattle.sci_words.specs.declared.memory.MemState.{MemState}
 use Rattle.sci_words.specs.Codes.{kind_number, kind_of, state_number, state_of, tag_code, mem_code, tag_in, mem_in}
-use Rattle.sci_words.specs.Layout.{layout1, bit, kind_field, held_field, forward_field, back_field, link_of, link_code}
+use Rattle.sci_words.specs.Layout.{layout1, bit, field, kind_field, held_field, forward_field, back_field, link_of, link_code}
 use Rattle.sci_words.specs.Tag.{link_below, tag_links_below}
 use Rattle.sci_words.specs.Mem.{mem_links_below}
 
@@ -66,31 +66,42 @@ both : (a b : Bool) → (a && b) ≡ true → (a ≡ true) × (b ≡ true)
 both true b h = (refl, h)
 both false b h = cc
 
-and_both : (a b : Bool) → a ≡ true → b ≡ true → (a && b) ≡ true
+pub and_both : (a b : Bool) → a ≡ true → b ≡ true → (a && b) ≡ true
 and_both a b p q = rw p q
 
 -- the fields of a sum of numbers that fit their fields
-tag_fields_of_sum : (k b f r : ℕ) → k < 16 → b < 2 → f < 256 → r < 256 → let w : ℕ = k + 2 ^ 4 * b + 2 ^ 8 * f + 2 ^ 16 * r in (kind_field w ≡ k) × (held_field w ≡ b) × (forward_field layout1 w ≡ f) × (back_field layout1 w ≡ r)
-tag_fields_of_sum k b f r p q s t = (omega arith, omega arith, omega arith, omega arith)
+tag_fields_of_sum : (k b f r : ℕ) → k < 16 → b < 2 → f < 256 → r < 256 → let w : ℕ = k + 2 ^ 4 * b + 2 ^ 8 * f + 2 ^ 16 * r in (kind_field w ≡ k) × (held_field w ≡ b) × (forward_field layout1 w ≡ f) × (back_field layout1 w ≡ r) × (field 5 3 w ≡ 0) × (w / 2 ^ 24 ≡ 0)
+tag_fields_of_sum k b f r p q s t = (omega arith, omega arith, omega arith, omega arith, omega arith, omega arith)
 
-mem_fields_of_sum : (k b f : ℕ) → k < 16 → b < 2 → f < 256 → let w : ℕ = k + 2 ^ 4 * b + 2 ^ 8 * f in (kind_field w ≡ k) × (held_field w ≡ b) × (forward_field layout1 w ≡ f)
-mem_fields_of_sum k b f p q s = (omega arith, omega arith, omega arith)
+mem_fields_of_sum : (k b f : ℕ) → k < 16 → b < 2 → f < 256 → let w : ℕ = k + 2 ^ 4 * b + 2 ^ 8 * f in (kind_field w ≡ k) × (held_field w ≡ b) × (forward_field layout1 w ≡ f) × (field 5 3 w ≡ 0) × (w / 2 ^ 16 ≡ 0)
+mem_fields_of_sum k b f p q s = (omega arith, omega arith, omega arith, omega arith, omega arith)
+
+-- the fields of a tag's code
+pub tag_fields_of_code : (t : Tag) → tag_links_below 255 t ≡ true → let w : ℕ = tag_code t in (kind_field w ≡ kind_number t.kind) × (held_field w ≡ bit t.held) × (forward_field layout1 w ≡ link_code layout1 t.forw) × (back_field layout1 w ≡ link_code layout1 t.back) × (field 5 3 w ≡ 0) × (w / 2 ^ 24 ≡ 0)
+tag_fields_of_code t l =
+    let a = both (link_below 255 t.forw) (link_below 255 t.back) l in
+    tag_fields_of_sum (kind_number t.kind) (bit t.held) (link_code layout1 t.forw) (link_code layout1 t.back) (kind_number_below t.kind) (bit_below t.held) (link_code_below t.forw a.0) (link_code_below t.back a.1)
 
 -- the fields of a tag's code say the tag
 pub tag_in-code : (t : Tag) → tag_links_below 255 t ≡ true → tag_in layout1 (tag_code t) ≡ t
 tag_in-code t l =
     let a = both (link_below 255 t.forw) (link_below 255 t.back) l in
-    let p = tag_fields_of_sum (kind_number t.kind) (bit t.held) (link_code layout1 t.forw) (link_code layout1 t.back) (kind_number_below t.kind) (bit_below t.held) (link_code_below t.forw a.0) (link_code_below t.back a.1) in
+    let p = tag_fields_of_code t l in
     let k : kind_of (kind_field (tag_code t)) ≡ t.kind = ap kind_of p.0 ∙ kind_of-number t.kind in
     let h : eqb (held_field (tag_code t)) 1 ≡ t.held = ap (λ (n : ℕ). eqb n 1) p.1 ∙ bit_back t.held in
     let f : link_of layout1 (forward_field layout1 (tag_code t)) ≡ t.forw = ap (λ (n : ℕ). link_of layout1 n) p.2 ∙ link_of-code t.forw a.0 in
     let r : link_of layout1 (back_field layout1 (tag_code t)) ≡ t.back = ap (λ (n : ℕ). link_of layout1 n) p.3 ∙ link_of-code t.back a.1 in
     λ i. record { kind = k i; held = h i; forw = f i; back = r i }
 
+-- the fields of a memory word's code
+pub mem_fields_of_code : (m : Mem) → mem_links_below 255 m ≡ true → let w : ℕ = mem_code m in (kind_field w ≡ state_number m.state) × (held_field w ≡ bit m.lent) × (forward_field layout1 w ≡ link_code layout1 m.forw) × (field 5 3 w ≡ 0) × (w / 2 ^ 16 ≡ 0)
+mem_fields_of_code m l =
+    mem_fields_of_sum (state_number m.state) (bit m.lent) (link_code layout1 m.forw) (state_number_below m.state) (bit_below m.lent) (link_code_below m.forw l)
+
 -- the fields of a memory word's code say the memory word
 pub mem_in-code : (m : Mem) → mem_links_below 255 m ≡ true → mem_in layout1 (mem_code m) ≡ m
 mem_in-code m l =
-    let p = mem_fields_of_sum (state_number m.state) (bit m.lent) (link_code layout1 m.forw) (state_number_below m.state) (bit_below m.lent) (link_code_below m.forw l) in
+    let p = mem_fields_of_code m l in
     let s : state_of (kind_field (mem_code m)) ≡ m.state = ap state_of p.0 ∙ state_of-number m.state in
     let h : eqb (held_field (mem_code m)) 1 ≡ m.lent = ap (λ (n : ℕ). eqb n 1) p.1 ∙ bit_back m.lent in
     let f : link_of layout1 (forward_field layout1 (mem_code m)) ≡ m.forw = ap (λ (n : ℕ). link_of layout1 n) p.2 ∙ link_of-code m.forw l in

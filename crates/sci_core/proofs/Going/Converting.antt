@@ -1,4 +1,5 @@
 -- The rows of a fresh head on its way to write.
+use Rattle.std.proofs.lemmas.Bool.{false≢true}
 use Rattle.std.proofs.Common.{◌≡◌, ℕ, true, false, Bool, Option, Some, None, refl, ap}
 use Rattle.sci_words.specs.declared.tags.Kind.{Kind}
 use Rattle.sci_words.specs.declared.tags.Tag.{Tag}
@@ -51,4 +52,4 @@ module _ (n : ℕ) (s : State) (g : Witness) (me : ℕ) where
   converting_goes f false Event.FreshToGone t allowed finds = fresh_to_gone_goes f t finds
   converting_goes f true Event.Converted t allowed finds = converted_goes f t finds
   converting_goes f false Event.Unconverted t allowed finds = unconverted_goes f t finds
-  converting_goes f turned _ t allowed finds = absurd (cc)
+  converting_goes f turned _ t allowed finds = absurd (false≢true allowed)

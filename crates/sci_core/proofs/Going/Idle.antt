@@ -1,4 +1,5 @@
 -- The rows of a node that is Idle or Holding.
+use Rattle.std.proofs.lemmas.Bool.{false≢true}
 use Rattle.std.proofs.Common.{◌≡◌, ℕ, true, false, Option, Some, refl, subst, ap}
 use Rattle.sci_words.specs.declared.tags.Tag.{Tag}
 use Rattle.sci_words.specs.Tag.{link_below}
@@ -107,7 +108,7 @@ module _ (n : ℕ) (s : State) (g : Witness) (me : ℕ) where
   idle_goes (Event.BeginPurge w) t allowed finds = own_goes Event.BeginPurge begin_purge_goes w t allowed finds
   idle_goes (Event.Roll w) t allowed finds = own_goes Event.Roll roll_goes w t allowed finds
   idle_goes (Event.Leave w) t allowed finds = own_goes Event.Leave leave_goes w t allowed finds
-  idle_goes _ t allowed finds = absurd (cc)
+  idle_goes _ t allowed finds = absurd (false≢true allowed)
 
   unhold_goes : (w : Tag) (l : Line) → Turn n s g me (Pending.Holding w l) → s.tags me ≡ held_word w → Going n s g me Event.Unhold (holding_row me w l Event.Unhold)
   unhold_goes w l t word = record {
@@ -120,4 +121,4 @@ module _ (n : ℕ) (s : State) (g : Witness) (me : ℕ) where
 
   pub holding_goes : (w : Tag) (l : Line) (e : Event) → Turn n s g me (Pending.Holding w l) → holding_allows e ≡ true → FindsRow s (holding_row me w l e) → Going n s g me e (holding_row me w l e)
   holding_goes w l Event.Unhold t allowed finds = unhold_goes w l t finds
-  holding_goes w l _ t allowed finds = absurd (cc)
+  holding_goes w l _ t allowed finds = absurd (false≢true allowed)

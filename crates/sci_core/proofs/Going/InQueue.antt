@@ -1,4 +1,5 @@
 -- The rows of a node in the list that attaches the entry behind it and settles.
+use Rattle.std.proofs.lemmas.Bool.{false≢true}
 use Rattle.std.proofs.Common.{◌≡◌, ℕ, true, false, Bool, Option, Some, None, refl, subst}
 use Rattle.sci_words.specs.declared.tags.Kind.{Kind}
 use Rattle.sci_words.specs.declared.tags.Tag.{Tag}
@@ -62,7 +63,7 @@ module _ (n : ℕ) (s : State) (g : Witness) (me : ℕ) where
       let P : Tag → Type 0 = λ w. is_found is_dirty w ≡ true → Going n s g me (Event.AttachDirty w) (in_queue_row me (Event.AttachDirty w) (Some x) true None) in
       subst P finds (attach_dirty_goes x t) allowed
   in_queue_goes Event.Settle None d (Some l) t allowed finds = settle_goes d l t finds
-  in_queue_goes _ f d c t allowed finds = absurd (cc)
+  in_queue_goes _ f d c t allowed finds = absurd (false≢true allowed)
 
   return_copy_goes : (x : ℕ) (w : Tag) (l : Line) → Turn n s g me (Pending.Copying x w l) → s.tags x ≡ w → Going n s g me Event.ReturnCopy (copying_row x w l Event.ReturnCopy)
   return_copy_goes x w l t word = record {
@@ -75,7 +76,7 @@ module _ (n : ℕ) (s : State) (g : Witness) (me : ℕ) where
 
   pub copying_goes : (x : ℕ) (w : Tag) (l : Line) (e : Event) → Turn n s g me (Pending.Copying x w l) → copying_allows e ≡ true → FindsRow s (copying_row x w l e) → Going n s g me e (copying_row x w l e)
   copying_goes x w l Event.ReturnCopy t allowed finds = return_copy_goes x w l t finds
-  copying_goes x w l _ t allowed finds = absurd (cc)
+  copying_goes x w l _ t allowed finds = absurd (false≢true allowed)
 
   settle_ready_goes : (f : Option ℕ) (d : Bool) (l : Line) → Turn n s g me (Pending.Ready f d l) → s.tags me ≡ queued_word f → Going n s g me Event.Settle (ready_row me f d l Event.Settle)
   settle_ready_goes f d l t word = record {
@@ -88,4 +89,4 @@ module _ (n : ℕ) (s : State) (g : Witness) (me : ℕ) where
 
   pub ready_goes : (f : Option ℕ) (d : Bool) (l : Line) (e : Event) → Turn n s g me (Pending.Ready f d l) → ready_allows e ≡ true → FindsRow s (ready_row me f d l e) → Going n s g me e (ready_row me f d l e)
   ready_goes f d l Event.Settle t allowed finds = settle_ready_goes f d l t finds
-  ready_goes f d l _ t allowed finds = absurd (cc)
+  ready_goes f d l _ t allowed finds = absurd (false≢true allowed)

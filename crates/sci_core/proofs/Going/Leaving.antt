@@ -1,4 +1,5 @@
 -- The rows of a head on its way out.
+use Rattle.std.proofs.lemmas.Bool.{false≢true}
 use Rattle.std.proofs.Common.{◌≡◌, ℕ, true, false, Bool, Option, Some, None, refl, subst, ap, ◌&&◌, not}
 use Rattle.sci_words.specs.declared.memory.Mem.{Mem}
 use Rattle.sci_words.specs.declared.tags.Tag.{Tag}
@@ -71,7 +72,7 @@ module _ (n : ℕ) (s : State) (g : Witness) (me : ℕ) where
   leaving_goes d l Event.Stay (Some f) t allowed finds = stay_goes d l f t finds
   leaving_goes d l Event.ReturnHomeFresh (Some None) t allowed finds = return_home_fresh_goes d l t allowed finds
   leaving_goes d l Event.ReturnHomeDirty (Some None) t allowed finds = return_home_dirty_goes d l t allowed finds
-  leaving_goes d l _ seen t allowed finds = absurd (cc)
+  leaving_goes d l _ seen t allowed finds = absurd (false≢true allowed)
 
   pass_on_goes : (d : Bool) (l : Line) (x : ℕ) → Turn n s g me (Pending.Promoted d l x) → s.memory ≡ listed d me → Going n s g me Event.PassOn (promoted_row me d l x Event.PassOn)
   pass_on_goes d l x t word = record {
@@ -101,7 +102,7 @@ module _ (n : ℕ) (s : State) (g : Witness) (me : ℕ) where
   pub promoted_goes : (d : Bool) (l : Line) (x : ℕ) (e : Event) → Turn n s g me (Pending.Promoted d l x) → promoted_allows e ≡ true → FindsRow s (promoted_row me d l x e) → Going n s g me e (promoted_row me d l x e)
   promoted_goes d l x Event.PassOn t allowed finds = pass_on_goes d l x t finds
   promoted_goes d l x Event.ReEnter t allowed finds = re_enter_goes d l x t finds
-  promoted_goes d l x _ t allowed finds = absurd (cc)
+  promoted_goes d l x _ t allowed finds = absurd (false≢true allowed)
 
   write_back_goes : (l : Line) → Turn n s g me (Pending.WritingBack l) → s.memory ≡ lent_word home → Going n s g me Event.ReturnMemory (writing_back_row l Event.ReturnMemory)
   write_back_goes l t word =
@@ -119,7 +120,7 @@ module _ (n : ℕ) (s : State) (g : Witness) (me : ℕ) where
 
   pub writing_back_goes : (l : Line) (e : Event) → Turn n s g me (Pending.WritingBack l) → writing_back_allows e ≡ true → FindsRow s (writing_back_row l e) → Going n s g me e (writing_back_row l e)
   writing_back_goes l Event.ReturnMemory t allowed finds = write_back_goes l t finds
-  writing_back_goes l _ t allowed finds = absurd (cc)
+  writing_back_goes l _ t allowed finds = absurd (false≢true allowed)
 
   left_goes : (f : Option ℕ) → Turn n s g me (Pending.Parted f) → s.tags me ≡ leaving_word f → Going n s g me Event.Left (parted_row me f Event.Left)
   left_goes f t me_word = record {
@@ -132,4 +133,4 @@ module _ (n : ℕ) (s : State) (g : Witness) (me : ℕ) where
 
   pub parted_goes : (f : Option ℕ) (e : Event) → Turn n s g me (Pending.Parted f) → parted_allows e ≡ true → FindsRow s (parted_row me f e) → Going n s g me e (parted_row me f e)
   parted_goes f Event.Left t allowed finds = left_goes f t finds
-  parted_goes f _ t allowed finds = absurd (cc)
+  parted_goes f _ t allowed finds = absurd (false≢true allowed)

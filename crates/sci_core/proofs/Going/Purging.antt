@@ -1,4 +1,5 @@
 -- The rows of a head that purges the entries behind it, one after another, and writes.
+use Rattle.std.proofs.lemmas.Bool.{false≢true}
 use Rattle.std.proofs.Common.{◌≡◌, ℕ, true, false, Option, Some, None, List, refl, subst, ap, ◌&&◌, not}
 use Rattle.sci_words.specs.declared.tags.Tag.{Tag}
 use Rattle.sci_core.specs.declared.lines.Line.{Line}
@@ -68,7 +69,7 @@ module _ (n : ℕ) (s : State) (g : Witness) (me : ℕ) where
   purging_goes l (Event.Adopt w) (Some (Some x)) t allowed finds =
       let P : Tag → Type 0 = λ w. (is_found is_rolling w && not (names me w.back)) ≡ true → Going n s g me (Event.Adopt w) (purging_row me l (Event.Adopt w) (Some (Some x))) in
       subst P finds (adopt_goes l x t) allowed
-  purging_goes l _ seen t allowed finds = absurd (cc)
+  purging_goes l _ seen t allowed finds = absurd (false≢true allowed)
 
   advance_goes : (l : Line) (x : ℕ) (w : Tag) → Turn n s g me (Pending.Advancing l x w) → s.tags me ≡ purging_word (Some x) → Going n s g me Event.Advance (advancing_row me l x w Event.Advance)
   advance_goes l x w t me_word = record {
@@ -81,7 +82,7 @@ module _ (n : ℕ) (s : State) (g : Witness) (me : ℕ) where
 
   pub advancing_goes : (l : Line) (x : ℕ) (w : Tag) (e : Event) → Turn n s g me (Pending.Advancing l x w) → advancing_allows e ≡ true → FindsRow s (advancing_row me l x w e) → Going n s g me e (advancing_row me l x w e)
   advancing_goes l x w Event.Advance t allowed finds = advance_goes l x w t finds
-  advancing_goes l x w _ t allowed finds = absurd (cc)
+  advancing_goes l x w _ t allowed finds = absurd (false≢true allowed)
 
   clear_goes : (l : Line) (x : ℕ) (w : Tag) → Turn n s g me (Pending.Clearing l x w) → s.tags x ≡ purged_word w → Going n s g me Event.Clear (clearing_row l x w Event.Clear)
   clear_goes l x w t victim = record {
@@ -94,4 +95,4 @@ module _ (n : ℕ) (s : State) (g : Witness) (me : ℕ) where
 
   pub clearing_goes : (l : Line) (x : ℕ) (w : Tag) (e : Event) → Turn n s g me (Pending.Clearing l x w) → clearing_allows e ≡ true → FindsRow s (clearing_row l x w e) → Going n s g me e (clearing_row l x w e)
   clearing_goes l x w Event.Clear t allowed finds = clear_goes l x w t finds
-  clearing_goes l x w _ t allowed finds = absurd (cc)
+  clearing_goes l x w _ t allowed finds = absurd (false≢true allowed)

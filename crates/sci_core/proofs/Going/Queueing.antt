@@ -1,4 +1,5 @@
 -- The rows of a node that prepends itself and copies memory's bytes.
+use Rattle.std.proofs.lemmas.Bool.{false≢true}
 use Rattle.std.proofs.Common.{◌≡◌, ℕ, ◌+◌, true, false, Bool, Option, Some, None, refl, subst, sym, ap}
 use Rattle.sci_words.specs.declared.memory.Mem.{Mem}
 use Rattle.sci_words.specs.Tag.{link_below}
@@ -68,8 +69,8 @@ module _ (n : ℕ) (s : State) (g : Witness) (me : ℕ) where
   queueing_goes None Event.PrependValid t allowed finds = prepend_home_goes t finds
   queueing_goes (Some x) Event.PrependValid t allowed finds = prepend_listed_goes x t finds
   queueing_goes (Some x) Event.PrependGone t allowed finds = prepend_gone_goes x t finds
-  queueing_goes None Event.PrependGone t allowed finds = absurd (cc)
-  queueing_goes f _ t allowed finds = absurd (cc)
+  queueing_goes None Event.PrependGone t allowed finds = absurd (false≢true allowed)
+  queueing_goes f _ t allowed finds = absurd (false≢true allowed)
 
   return_memory_goes : (f : Option ℕ) (d : Bool) (l : Line) → Turn n s g me (Pending.Fetching f d l) → s.memory ≡ lent_word (listed d me) → Going n s g me Event.ReturnMemory (fetching_row me f d l Event.ReturnMemory)
   return_memory_goes f d l t word =
@@ -87,4 +88,4 @@ module _ (n : ℕ) (s : State) (g : Witness) (me : ℕ) where
 
   pub fetching_goes : (f : Option ℕ) (d : Bool) (l : Line) (e : Event) → Turn n s g me (Pending.Fetching f d l) → fetching_allows e ≡ true → FindsRow s (fetching_row me f d l e) → Going n s g me e (fetching_row me f d l e)
   fetching_goes f d l Event.ReturnMemory t allowed finds = return_memory_goes f d l t finds
-  fetching_goes f d l _ t allowed finds = absurd (cc)
+  fetching_goes f d l _ t allowed finds = absurd (false≢true allowed)

@@ -1,4 +1,5 @@
 -- The rows of a body entry on its way out.
+use Rattle.std.proofs.lemmas.Bool.{false≢true}
 use Rattle.std.proofs.Common.{◌≡◌, ◌⊎◌, ℕ, true, false, Bool, Option, Some, None, refl, subst, inl, inr, ◌&&◌, ◌||◌, not, is_none}
 use Rattle.sci_words.specs.declared.tags.Kind.{Kind}
 use Rattle.sci_words.specs.declared.tags.Tag.{Tag}
@@ -60,7 +61,7 @@ module _ (n : ℕ) (s : State) (g : Witness) (me : ℕ) where
   rolling_goes told (Event.TellPredecessor w) (Some (f, b)) t allowed finds =
       let P : Tag → Type 0 = λ w. ((told || is_none f) && (is_found can_be_told w && names me w.forw)) ≡ true → Going n s g me (Event.TellPredecessor w) (rolling_row (Event.TellPredecessor w) (Some (f, b))) in
       subst P finds (tell_predecessor_goes told f b t) allowed
-  rolling_goes told _ seen t allowed finds = absurd (cc)
+  rolling_goes told _ seen t allowed finds = absurd (false≢true allowed)
 
   rolled_goes : (f : Option ℕ) (b : ℕ) → Turn n s g me (Pending.Unlinked f b) → s.tags me ≡ word Kind.Roll f (Some b) → Going n s g me Event.Rolled (unlinked_row me f b Event.Rolled)
   rolled_goes f b t me_word = record {
@@ -73,4 +74,4 @@ module _ (n : ℕ) (s : State) (g : Witness) (me : ℕ) where
 
   pub unlinked_goes : (f : Option ℕ) (b : ℕ) (e : Event) → Turn n s g me (Pending.Unlinked f b) → unlinked_allows e ≡ true → FindsRow s (unlinked_row me f b e) → Going n s g me e (unlinked_row me f b e)
   unlinked_goes f b Event.Rolled t allowed finds = rolled_goes f b t finds
-  unlinked_goes f b _ t allowed finds = absurd (cc)
+  unlinked_goes f b _ t allowed finds = absurd (false≢true allowed)
