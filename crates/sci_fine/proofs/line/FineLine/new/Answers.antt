@@ -1,4 +1,4 @@
-use Rattle.std.proofs.Common.{ℕ, ◌≤◌, [], inl, inr, refl, sym, ap, ◌∙◌, subst, ⊎_elim, arith}
+use Rattle.std.proofs.Common.{ℕ, ◌≤◌, [], inl, inr, refl, sym, ap, ◌∙◌, subst, ⊎_elim}
 use Rattle.std.proofs.Math.Nat.{pos_of_ne-zero, not-le_of_lt}
 use Rattle.std.specs.Prelude.{vec_capacity}
 use Rattle.sci_fine.specs.declared.views.Terms.{Terms}
@@ -15,7 +15,7 @@ returns-then-nodes-eq0 g c = record {
 }
 
 pub open-requires : goal.open-requires
-open-requires g c = record { fits = c.requires; nodes = (pos_of_ne-zero c.if-nodes-eq0.false, omega arith) }
+open-requires g c = record { fits = c.requires; nodes = (pos_of_ne-zero c.if-nodes-eq0.false, c.if-nodes-gt64.false) }
 
 pub returns-in_default : goal.returns-in_default
 returns-in_default g c = record {
