@@ -1,5 +1,6 @@
 -- The take, a take that misses, and the give keep the rule: each is one more step of the run.
-use Rattle.std.proofs.Common.{◌≡◌, ◌≢◌, ℕ, ◌<◌, true, false, eqb, Option, Some, None, List, [], ◌∷◌, ◌++◌, length, get_or, set, refl, sym, ap, ◌∙◌, subst, inl, inr, ⊎_elim, ◌⊎◌, arith, length-set, get_or-set_same}
+use Rattle.std.specs.Bool.{MatchBool}
+use Rattle.std.proofs.Common.{◌≡◌, ◌≢◌, ℕ, ◌<◌, true, false, eqb, Option, Some, None, List, [], ◌∷◌, ◌++◌, length, get_or, set, refl, sym, ap, ◌∙◌, subst, inl, inr, ⊎_elim, ◌⊎◌, arith, rules, length-set, get_or-set_same}
 use mathlib.Core.Option as maybe
 use mathlib.Core.Option.{none, some, some-injective}
 use lib.ListN.{get_elem?}
@@ -208,3 +209,7 @@ takes_as {K} fits t key slots id me is live unheld hand = subst (λ (k : Terms K
 
 pub gives_as : {K : Type 0} (fits : K → ℕ → List ℕ → Type 0) (t key : Terms K) (slots id : ℕ) (me : Seated K) (call told : Call) (w x : WholeLine K) → key ≡ t → told ≡ call → me.0.of ≡ Some t → me.0.holds ≡ true → me.0.take ≡ Some w → me.1 ≡ (0, x) ∷ [] → Calls fits me.0.node call w x → Allows (Locked fits key) slots id me 0 (λ _. 0) (λ _. given told me)
 gives_as {K} fits t key slots id me call told w x is tells live holds took hand made = subst (λ (z : Terms K × Call). Allows (Locked fits z.0) slots id me 0 (λ _. 0) (λ _. given z.1 me)) (λ i. (sym is i, sym tells i)) (gives_kind fits t slots id me call w x live holds took hand made)
+
+-- what a take came to, by the test of the number that it found
+pub took_by : {P Q : Type 0} (found : ℕ) → (found ≡ 0 → P) × (found ≢ 0 → Q) → MatchBool (eqb found 0) P Q
+took_by found h = search rules

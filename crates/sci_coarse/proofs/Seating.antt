@@ -1,5 +1,6 @@
 -- A line is opened, and seats are split off or joined to the first.
 use Rattle.std.proofs.Common.{◌≡◌, ◌≢◌, ℕ, zero, suc, ◌+◌, ◌<◌, ◌≤◌, true, false, Some, None, List, [], ◌∷◌, ◌++◌, length, replicate, get_or, set, refl, sym, ap, ◌∙◌, subst, inl, inr, ⊎_elim, arith, length-set, length-append}
+use Rattle.std.specs.Prelude.{Result, Ok, Err}
 use Rattle.std.proofs.lemmas.List.{length-replicate}
 use mathlib.Core.Logic.{dite}
 use mathlib.Core.Option.{some, some-injective, some-ne-none}
@@ -7,6 +8,7 @@ use native.Mathlib.Decide.{ℕ_discrete}
 use lib.ListN.{get_elem?}
 use Rattle.atomic_table.specs.Table.{opening, Splits, Joins}
 use Rattle.atomic_table.proofs.Lists.{at_set, set_here, set_else, at_longer}
+use Rattle.sci_core.specs.declared.outcomes.OpenRefusal.{OpenRefusal}
 use Rattle.sci_core.specs.declared.pending.Pending.{Pending}
 use Rattle.sci_core.specs.State.{invalid}
 use Rattle.sci_core.specs.Whole.{WholeLine, nodes_of, state_of, opened_whole}
@@ -206,3 +208,10 @@ splits_as {K} fits t key id v is live unheld some_next below whole = subst (λ (
 
 pub joins_as : {K : Type 0} (fits : K → ℕ → List ℕ → Type 0) (t key : Terms K) (id : ℕ) (v : View K) (other : ℕ) (w : View K) → key ≡ t → v.of ≡ Some t → v.holds ≡ false → w.of ≡ Some t → w.holds ≡ false → w.node + 1 ≡ v.joined → w.pending ≡ Pending.Idle → Joins (Locked fits key) id v other w (joined_view v w) spent_view
 joins_as {K} fits t key id v other w is live unheld live' unheld' next idle = subst (λ (k : Terms K). Joins (Locked fits k) id v other w (joined_view v w) spent_view) (sym is) (joins fits t id v other w live unheld live' unheld' next idle)
+
+-- the refusal of a number of nodes is neither a line nor the other refusal
+pub no_refusal : {A : Type 0} (a : A) → ◌≡◌ {A = Result A OpenRefusal} (Ok a) (Err OpenRefusal.BadNodes) → ⊥
+no_refusal a e = cc
+
+pub other_refusal : {A : Type 0} → ◌≡◌ {A = Result A OpenRefusal} (Err OpenRefusal.OutOfMemory) (Err OpenRefusal.BadNodes) → ⊥
+other_refusal e = cc

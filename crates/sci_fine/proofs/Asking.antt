@@ -1,10 +1,11 @@
 -- What a row of a node's step asks: its word and its slot are those of nodes, its words are well formed.
-use Rattle.std.proofs.Common.{◌≡◌, ℕ, ◌<◌, ◌+◌, true, List, refl, sym, subst, arith, ap, ◌∙◌}
+use Rattle.std.proofs.Common.{◌≡◌, ℕ, ◌<◌, ◌+◌, true, List, refl, sym, subst, arith, rules, ap, ◌∙◌}
 use Rattle.sci_core.specs.declared.pending.Pending.{Pending}
 use Rattle.sci_core.specs.declared.events.Event.{Event}
 use Rattle.sci_core.specs.declared.rows.Change.{Change}
 use Rattle.sci_core.specs.declared.rows.Change.TheVariants.{OfMemory, OfTag}
 use Rattle.sci_core.specs.declared.outlines.Outline.{Outline}
+use Rattle.sci_core.specs.Answers.{is_allowed}
 use Rattle.sci_core.specs.Ranges.{ChangesBelow}
 use Rattle.sci_core.specs.Row.{Row}
 use Rattle.sci_core.specs.Stage.{outline_of}
@@ -42,3 +43,7 @@ codes_of r q o i old new is at here before after links =
 -- a step that a node has on a lawful line is a sound one
 pub sound_of : (n : ℕ) (fits : List ℕ → Type 0) (me : ℕ) (p : Pending) → IsStanding n fits me p → IsSoundStep n fits p
 sound_of n fits me p o = is_sound n fits o.state me p (o.state.tags me) (sym o.step) refl (o.ruled.words.tags me) (tag_links n o.state o.ruled.links me) (lawful_line n fits o.state o.ruled)
+
+-- an allowed event that is no look has a row
+pub row_allowed : (n me : ℕ) (p : Pending) (e : Event) → (e ≡ Event.Look → ⊥) → is_allowed n me p e ≡ true → has_row n me p e ≡ true
+row_allowed n me p e other allowed = search rules

@@ -1,5 +1,6 @@
 -- A line is opened, and seats are split off or joined to the first.
 use Rattle.std.proofs.Common.{◌≡◌, ◌≢◌, ℕ, zero, suc, ◌+◌, ◌<◌, ◌≤◌, ◌-◌, Some, None, List, [], ◌∷◌, ◌++◌, length, map, replicate, get_or, set, cond, ltb, refl, sym, ap, ◌∙◌, subst, ⊎_elim, arith, length-set, length-append, get_or-set_same, get_or-set_other}
+use Rattle.std.specs.Prelude.{Result, Ok, Err}
 use Rattle.std.proofs.lemmas.Bool.Decides.{nat_tests}
 use Rattle.std.proofs.lemmas.List.{length-map, length-replicate}
 use mathlib.Core.Logic.{dite}
@@ -11,6 +12,7 @@ use Rattle.atomic_table.proofs.Lists.{at_set, set_here, set_else, at_longer, at_
 use Rattle.sci_words.specs.Codes.{tag_code, mem_code}
 use Rattle.sci_words.specs.declared.memory.MemState.{MemState}
 use Rattle.sci_core.specs.declared.lines.Line.{Line}
+use Rattle.sci_core.specs.declared.outcomes.OpenRefusal.{OpenRefusal}
 use Rattle.sci_core.specs.declared.pending.Pending.{Pending}
 use Rattle.sci_core.specs.State.{opened, invalid, blank, memory_word}
 use Rattle.sci_core.specs.Whole.{IsRuled}
@@ -203,3 +205,10 @@ splits_as {K} fits t key id v is live whole some_next below = subst (λ (k : Ter
 
 pub joins_as : {K : Type 0} (fits : K → ℕ → List ℕ → Type 0) (t key : Terms K) (id : ℕ) (v : View K) (other : ℕ) (w : View K) → key ≡ t → v.of ≡ Some t → w.of ≡ Some t → w.node + 1 ≡ v.joined → w.pending ≡ Pending.Idle → Joins (Stands fits key) id v other w (joined_view v w) spent_view
 joins_as {K} fits t key id v other w is live live' next idle = subst (λ (k : Terms K). Joins (Stands fits k) id v other w (joined_view v w) spent_view) (sym is) (joins fits t id v other w live live' next idle)
+
+-- the refusal of a number of nodes is neither a line nor the other refusal
+pub no_refusal : {A : Type 0} (a : A) → ◌≡◌ {A = Result A OpenRefusal} (Ok a) (Err OpenRefusal.BadNodes) → ⊥
+no_refusal a e = cc
+
+pub other_refusal : {A : Type 0} → ◌≡◌ {A = Result A OpenRefusal} (Err OpenRefusal.OutOfMemory) (Err OpenRefusal.BadNodes) → ⊥
+other_refusal e = cc

@@ -29,7 +29,7 @@ pub join_seat-requires : goal.join_seat-requires
 join_seat-requires g c =
     let i = c.loop-seat.invariant in let sized = c.args.self.now.sized in let s = c.in-Some.seat in
     let l = last_of c.args.self.now 1 c.loop-seat.seats.items c.pop.new.self.items s i.seats c.in-Some.ensures.items in let node = l.0.1 in let seen = s.seen.0 in
-    (i.of, l.0.0.0, s.hand, omega arith, joins_as g.K.Keeps.fits c.args.self.now.terms c.args.self.now.table.shared.key _ _ _ _ sized.0 i.live i.unheld (s.of ∙ ap (λ x. Some x) l.0.0.1) s.seen.3 (omega (arith, c.pop.new.self.ok, c.in-Some.ensures.len, i.joined)) (s.seen.1 ∙ l.0.2))
+    (i.of, l.0.0.0, s.hand, omega (arith, sized.1), joins_as g.K.Keeps.fits c.args.self.now.terms c.args.self.now.table.shared.key _ _ _ _ sized.0 i.live i.unheld (s.of ∙ ap (λ x. Some x) l.0.0.1) s.seen.3 (omega (arith, c.pop.new.self.ok, c.in-Some.ensures.len, i.joined)) (s.seen.1 ∙ l.0.2))
 
 pub loop-seat-preserved : goal.loop-seat-preserved
 loop-seat-preserved g c =

@@ -8,7 +8,7 @@ use Rattle.sci_coarse.proofs.Ending.{left_as, taken_out, emptied}
 use Rattle.sci_coarse.proofs.line.CoarseLine.lay_open.Goals as goal
 
 pub take-whole-requires : goal.take-whole-requires
-take-whole-requires g c = let sized = c.args.self.sized in let counts = c.close_with-closed.ensures.counts.1 in (omega arith, c.close_with-closed.ensures.values.1 0 (omega arith) (omega arith))
+take-whole-requires g c = let sized = c.args.self.sized in let counts = c.close_with-closed.ensures.counts.1 in (omega (arith, sized.2, counts), c.close_with-closed.ensures.values.1 0 (omega arith) (omega arith))
 
 pub free-requires : goal.free-requires
 free-requires g c =

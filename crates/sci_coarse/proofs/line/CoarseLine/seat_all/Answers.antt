@@ -26,8 +26,13 @@ loop-number-init g c =
     }
 
 pub split_seat-token-requires : goal.split_seat-token-requires
-split_seat-token-requires g c = let i = c.loop-number.invariant in let sized = c.args.self.now.sized in
-    (i.of, omega arith, splits_as g.K.Keeps.fits c.args.self.now.terms c.args.self.now.table.shared.key _ _ sized.0 i.live i.unheld (omega arith) (omega arith) i.joined)
+split_seat-token-requires g c =
+    let i = c.loop-number.invariant in let sized = c.args.self.now.sized in let nodes = c.args.self.now.terms.nodes in (
+      i.of,
+      omega (arith, sized.1),
+      splits_as g.K.Keeps.fits c.args.self.now.terms c.args.self.now.table.shared.key _ _ sized.0 i.live i.unheld
+          (subst (λ (z : ℕ). 0 < z) (sym i.next) c.loop-number.auto.number) (subst (λ (z : ℕ). z < nodes) (sym i.next) c.loop-number-test.true) i.joined,
+    )
 
 pub node_of-requires : goal.node_of-requires
 node_of-requires g c = omega (arith, c.loop-number-test.true, c.args.self.now.sized.4)

@@ -2,7 +2,8 @@ use Rattle.std.proofs.Common.{◌<◌, ℕ, Some, refl, sym, ap, ◌∙◌, subs
 use Rattle.sci_core.specs.declared.pending.Pending.{Pending}
 use Rattle.sci_core.specs.declared.events.Event.{Event}
 use Rattle.sci_core.specs.declared.outlines.Outline.{Outline}
-use Rattle.sci_core.specs.Table.{row_of}
+use Rattle.sci_core.specs.Answers.{FitsEvent}
+use Rattle.sci_core.specs.Table.{has_row, row_of}
 use Rattle.sci_core.specs.Row.{Row}
 use Rattle.sci_core.specs.Carrying.{hand_of}
 use Rattle.sci_core.specs.declared.outcomes.Outcome.{Outcome}
@@ -20,6 +21,12 @@ codes-number-requires g c =
     let s = c.args.self.now in let t = s.standing.terms in let x : ℕ = s.standing.node in let p : Pending = s.standing.pending in let e : Event = c.args.event.now in
     record { formed = words_formed t.nodes (g.K.Keeps.fits t.keep t.number) x p c.outline-outline.ensures.standing e c.requires.allowed c.outline-outline.result.change (ap (λ (o : Outline). o.change) c.outline-outline.ensures.value) }
 
+pub lay-requires-clause-of : goal.lay-requires-clause-of
+lay-requires-clause-of g c = c.requires.of.0
+
+pub lay-requires-clause-allowed : goal.lay-requires-clause-allowed
+lay-requires-clause-allowed g c = c.requires.allowed
+
 pub lay-requires-clause-motion : goal.lay-requires-clause-motion
 lay-requires-clause-motion g c = ap (λ (o : Outline). o.motion) c.outline-outline.ensures.value
 
@@ -27,6 +34,20 @@ pub lay-requires-clause-hand : goal.lay-requires-clause-hand
 lay-requires-clause-hand g c =
     let s = c.args.self.now in let t = s.standing.terms in let x : ℕ = s.standing.node in let p : Pending = s.standing.pending in let e : Event = c.args.event.now in
     hand_fits t.nodes x p e _ c.requires.allowed s.hand
+
+pub swap-found-requires-clause-of : goal.swap-found-requires-clause-of
+swap-found-requires-clause-of g c = (c.lay.ensures.same.0 ∙ c.requires.of.0, ap (λ v. v.of) c.lay.ensures.same.2 ∙ (c.args.self.now.of ∙ ap (λ t. Some t) c.requires.of.1))
+
+pub swap-found-requires-clause-ask : goal.swap-found-requires-clause-ask
+swap-found-requires-clause-ask g c = refl
+
+pub swap-found-requires-clause-turn : goal.swap-found-requires-clause-turn
+swap-found-requires-clause-turn g c =
+    let s = c.args.self.now in let same = c.lay.ensures.same.2 in
+    (λ i. has_row (sym c.requires.of.1 i).nodes ((ap (λ v. v.node) same ∙ s.seen.0) i) ((ap (λ v. v.pending) same ∙ s.seen.1) i) c.args.event.now) ∙ c.requires.allowed
+
+pub swap-found-requires-clause-fits : goal.swap-found-requires-clause-fits
+swap-found-requires-clause-fits g c = subst (λ (t : Terms g.row.K.Denot). FitsEvent (g.K.Keeps.fits t.keep t.number) c.args.event.now) c.requires.of.1 c.requires.fits
 
 pub swap-found-requires-clause-codes : goal.swap-found-requires-clause-codes
 swap-found-requires-clause-codes g c =
@@ -44,6 +65,15 @@ swap-found-requires-clause-below g c =
     let s = c.args.self.now in let t = s.standing.terms in let x : ℕ = s.standing.node in let p : Pending = s.standing.pending in let e : Event = c.args.event.now in
     let near = place_near t.nodes (g.K.Keeps.fits t.keep t.number) x p c.outline-outline.ensures.standing e c.requires.allowed c.outline-outline.result.change (ap (λ (o : Outline). o.change) c.outline-outline.ensures.value) in
     let nodes = ap (λ z. z.nodes) c.requires.of.1 in omega (arith, c.codes-number.ensures.number)
+
+pub pick_up-requires-clause-of : goal.pick_up-requires-clause-of
+pick_up-requires-clause-of g c = c.swap-found.ensures.same.0 ∙ c.lay.ensures.same.0 ∙ c.requires.of.0
+
+pub pick_up-requires-clause-allowed : goal.pick_up-requires-clause-allowed
+pick_up-requires-clause-allowed g c = c.requires.allowed
+
+pub pick_up-requires-clause-outline : goal.pick_up-requires-clause-outline
+pick_up-requires-clause-outline g c = c.outline-outline.ensures.value
 
 pub pick_up-requires-clause-hand : goal.pick_up-requires-clause-hand
 pick_up-requires-clause-hand g c =
