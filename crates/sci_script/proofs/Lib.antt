@@ -14,3 +14,4 @@ pub mod Extended
 pub mod BankDesks
 pub mod Unheard
 pub mod Dealt
+pub mod Arguments

@@ -10,6 +10,7 @@ use Rattle.sci_port.specs.Banks.{AreLinesOf}
 use Rattle.sci_cache.specs.Nodes.{NodeState, node_state}
 use Rattle.sci_script.specs.declared.commands.Opening.{Opening}
 use Rattle.sci_script.specs.Openings.{zeros, content_of}
+use Rattle.sci_script.specs.Nodes.{AreNodesOf}
 use Rattle.sci_script.specs.Unused.{AreOpened, AreIdle}
 
 its_keep : (w : WholeLine AnyWords) (keep : AnyWords) (k nodes : ℕ) (line : Line) → w ≡ opened_whole keep k nodes line → w ≡ opened_whole w.keep k nodes line
@@ -46,6 +47,11 @@ idle_push lines capacity nodes n node count before e = λ k d lt.
           let same : k ≡ n = omega arith in
           subst (λ (j : ℕ). get_or (nodes ++ node ∷ []) j d ≡ node_state j lines capacity [] None) (sym same) (get_or_push nodes node d n count ∙ e)
     ]
+
+pub idle_nodes : (lines capacity n : ℕ) (nodes : List NodeState) → length nodes ≡ n → AreIdle lines capacity n nodes → AreNodesOf lines nodes
+idle_nodes lines capacity n nodes count idle = λ k d lt.
+    let here = idle k d (omega (arith, count)) in
+    (ap (λ (node : NodeState). node.id) here, ap (λ (node : NodeState). node.lines) here)
 
 -- the lines of a bank of their node
 pub are_lines : (nodes : ℕ) (openings : List Opening) (wholes : List (WholeLine AnyWords)) (n node : ℕ) → length wholes ≡ n → 0 < n → n ≤ 1024 → node < nodes → AreOpened nodes openings n wholes

@@ -1,6 +1,8 @@
-use Rattle.std.proofs.Common.{◌∙◌, None, Option, refl, subst}
+use Rattle.std.proofs.Common.{◌≡◌, ◌<◌, ◌∙◌, ℕ, None, Option, IfSome, refl, subst, sym, arith}
 use Rattle.sci_words.specs.declared.memory.Mem.{Mem}
+use Rattle.sci_script.specs.declared.commands.Size.{Size}
 use Rattle.sci_script.specs.Event.{SawMem}
+use Rattle.sci_script.specs.Run.{Repeats}
 use Rattle.sci_script.proofs.Runs.{repeats_none, repeats_more}
 use Rattle.sci_script.proofs.loading.load_mem.Goals as goal
 
@@ -14,3 +16,23 @@ loop-preserved g c =
       so_far = repeats_more g.D.Desk.does (SawMem c.args.line None) c.loop.counter c.args.desk.now c.loop.desk c.mem.new.self c.loop.invariant.so_far none;
       size = c.mem.ensures.size ∙ c.loop.invariant.size;
     }
+
+pub mem-requires : goal.mem-requires
+mem-requires g c = subst (λ (size : Size). c.args.line < size.lines) (sym c.loop.invariant.size) c.requires
+
+pub returns-in-Some-clause-loads : goal.returns-in-Some-clause-loads
+returns-in-Some-clause-loads g c = (c.loop.counter, c.loop-test.true, c.loop.desk, c.loop.invariant.so_far, c.in-Some.ensures.saw)
+
+pub returns-in-Some-clause-link : goal.returns-in-Some-clause-link
+returns-in-Some-clause-link g c = subst (λ (size : Size). IfSome c.in-Some.mem.forw (λ n. n < size.nodes)) c.loop.invariant.size c.in-Some.ensures.link
+
+pub returns-in-Some-clause-size : goal.returns-in-Some-clause-size
+returns-in-Some-clause-size g c = c.in-Some.ensures.size ∙ c.loop.invariant.size
+
+pub returns-clause-loads : goal.returns-clause-loads
+returns-clause-loads g c =
+    let all : c.loop.counter ≡ 100000 = omega (arith, c.loop-test.false, c.loop.auto.counter-end) in
+    subst (λ (n : ℕ). Repeats g.D.Desk.does (SawMem c.args.line None) n c.args.desk.now c.loop.desk) all c.loop.invariant.so_far
+
+pub returns-clause-size : goal.returns-clause-size
+returns-clause-size g c = c.loop.invariant.size
