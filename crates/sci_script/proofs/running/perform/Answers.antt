@@ -1,5 +1,5 @@
 use Rattle.std.proofs.lemmas.Bool.{and_parts, ltb-true}
-use Rattle.sci_script.specs.declared.commands.Command.TheVariants.{Begin, Turn, List as ListLine, Tag as ShowTag, Residents}
+use Rattle.sci_script.specs.declared.commands.Command.TheVariants.{Begin, Turn, Done, List as ListLine, Tag as ShowTag, Residents}
 use Rattle.sci_script.proofs.Runs.{stopped}
 use Rattle.sci_script.proofs.running.perform.Goals as goal
 
@@ -37,6 +37,16 @@ returns-in-Turn-clause-err g c =
 
 pub returns-in-Turn-clause-size : goal.returns-in-Turn-clause-size
 returns-in-Turn-clause-size g c = c.turn.ensures.size
+
+pub returns-in-Done-clause-ok : goal.returns-in-Done-clause-ok
+returns-in-Done-clause-ok g c = rw c.in-Done.is c.done.ensures.ok
+
+pub returns-in-Done-clause-err : goal.returns-in-Done-clause-err
+returns-in-Done-clause-err g c =
+    stopped g.D.Desk.is_open g.D.Desk.does c.args.nodes c.args.desk.now c.done.new.desk c.args.step (Done c.in-Done.node) c.done.result c.in-Done.is c.done.ensures.err
+
+pub returns-in-Done-clause-size : goal.returns-in-Done-clause-size
+returns-in-Done-clause-size g c = c.done.ensures.size
 
 pub returns-in-List-clause-ok : goal.returns-in-List-clause-ok
 returns-in-List-clause-ok g c = rw c.in-List.is c.list.ensures.ok

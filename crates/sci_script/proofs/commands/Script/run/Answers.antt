@@ -20,6 +20,9 @@ loop-step-init g c =
       written = ([], prints_none g.D.Desk.is_open g.D.Desk.does no_words c.args.desk.now, Appends-nil _);
     }
 
+pub perform-requires-clause-empty : goal.perform-requires-clause-empty
+perform-requires-clause-empty g c = c.clear.ensures.bytes
+
 pub perform-requires-clause-command : goal.perform-requires-clause-command
 perform-requires-clause-command g c =
     let script = c.args.self.now in
