@@ -1,5 +1,9 @@
-use Rattle.std.proofs.Common.{refl}
+use Rattle.std.proofs.Common.{Result, IfOk, refl, subst}
 use Rattle.std.proofs.lemmas.Result.{IfOk-from_err}
+use Rattle.sci_ops.specs.declared.answers.Answer.{Answer}
+use Rattle.sci_ops.specs.declared.goals.Goal.{Goal}
+use Rattle.sci_cache.specs.declared.refusals.NodeRefusal.{NodeRefusal}
+use Rattle.sci_cache.specs.Nodes.{IsAnswerTo}
 use Rattle.sci_cache.specs.declared.requests.Request.{Request}
 use Rattle.sci_work.specs.Made.{none, load}
 use Rattle.sci_work.proofs.Making.{still_bank}
@@ -46,3 +50,8 @@ returns-in-Ok-Seen-clause-same_fact g c = c.load-answer.ensures.same_fact
 
 pub load-answer-requires : goal.load-answer-requires
 load-answer-requires g c = record { node = c.requires.ready.node; lines = c.requires.ready.lines }
+
+pub returns-in-Ok-Seen-clause-fits : goal.returns-in-Ok-Seen-clause-fits
+returns-in-Ok-Seen-clause-fits g c =
+    let shown = subst (λ (r : Result Answer NodeRefusal). IfOk r (λ a. IsAnswerTo (g.B.Keep.Keeps.fits (g.B.Bank.keep c.args.bank.now) c.args.line) Goal.Load a)) c.in-Ok-Seen.is c.load-answer.ensures.content in
+    subst (λ (a : Answer). IsAnswerTo (g.B.Keep.Keeps.fits (g.B.Bank.keep c.args.bank.now) c.args.line) Goal.Load a) (rw c.in-Ok-Seen.is at c.in-Ok-Seen.field-0-is) shown
