@@ -61,8 +61,8 @@ same_desk d place n m found same =
     subst (λ (v : Vec Node). (lines : length d.bank.wholes.items ≡ d.size.lines) (widths : All (λ w. nodes_of w ≡ d.size.nodes) d.bank.wholes.items) (count : v.len ≡ d.size.nodes) (of : AreNodesOf d.size.lines v.items) → with_nodes d v lines widths count of ≡ d)
     (sym (same_vec d.nodes place n m found same))
     (λ lines widths count of.
-        ap (λ h. with_nodes d d.nodes h widths count of) (lines_prop lines d.lines) ∙ ap (λ h. with_nodes d d.nodes d.lines h count of) (widths_prop widths d.widths)
-        ∙ ap (λ h. with_nodes d d.nodes d.lines d.widths h of) (count_prop count d.count) ∙ ap (λ h. with_nodes d d.nodes d.lines d.widths d.count h) (of_prop of d.of))
+    ap (λ h. with_nodes d d.nodes h widths count of) (lines_prop lines d.lines) ∙ ap (λ h. with_nodes d d.nodes d.lines h count of) (widths_prop widths d.widths)
+    ∙ ap (λ h. with_nodes d d.nodes d.lines d.widths h of) (count_prop count d.count) ∙ ap (λ h. with_nodes d d.nodes d.lines d.widths d.count h) (of_prop of d.of))
 
 -- a turn of the call of the node that stands at its number
 module _ (width : ℕ) (wholes after : List (WholeLine AnyWords)) (nodes : List NodeState) (node : ℕ) (shown : Turn) (m : NodeState) (inside : node < length nodes)
