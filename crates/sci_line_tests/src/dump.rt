@@ -4,7 +4,7 @@ ghost use Rattle.std.specs.Prelude.{◌<◌};
 mod growths;
 mod memory;
 
-use crate::checks::{is_so_at, same, same_at};
+use crate::checks::{same, same_at};
 use crate::whole::{closed_of, node};
 use sci_core::{AnyWords, Closed, Event, Line, Whole};
 use sci_dump::*;
@@ -96,16 +96,32 @@ fn fault_of(alloc: Global, text: &[u8]) -> Option<u64> {
 }
 
 // The line of the fault that a text has with one change.
-fn fault_with(alloc: Global, text: &str, old: &str, new: &str) -> Result<Option<u64>, AllocError> {
-    let changed = text.replacen(alloc, old, new, 1)?;
-    Ok(fault_of(alloc, changed.as_bytes()))
+fn fault_with(alloc: Global, text: &str, old: &str, new: &str) -> Option<u64> {
+    let changed = text.replacen(alloc, old, new, 1).ok()?;
+    fault_of(alloc, changed.as_bytes())
 }
 
-// The verdict of a dump with one change.
-fn verdict_with(alloc: Global, text: &str, old: &str, new: &str) -> Result<Verdict, Fail> {
-    let changed = text.replacen(alloc, old, new, 1)?;
-    let read = read_dump(alloc, changed.as_bytes())?;
-    Ok(check(&read))
+// Whether a dump is written as this text.
+fn is_written_as(alloc: Global, lines: &Dump, text: &[u8]) -> bool {
+    match text_of(alloc, lines) {
+        Ok(written) => written.as_bytes() == text,
+        Err(_) => false,
+    }
+}
+
+// How many nodes a dump has, and its verdict. None: it is no dump, isn't written as it was read, or there was no memory.
+fn judged(alloc: Global, text: &str) -> Option<(u16, Verdict)> {
+    let read = read_dump(alloc, text.as_bytes()).ok()?;
+    if is_written_as(alloc, &read, text.as_bytes()) {
+        Some((read.nodes, check(&read)))
+    } else {
+        None
+    }
+}
+
+// The same of a dump with one change.
+fn judged_with(alloc: Global, text: &str, old: &str, new: &str) -> Option<(u16, Verdict)> {
+    judged(alloc, text.replacen(alloc, old, new, 1).ok()?.as_str())
 }
 
 // The line of text behind a byte of this line.
@@ -117,25 +133,12 @@ fn line_behind(line: u64, byte: u8) -> u64 {
     }
 }
 
-// SHARED with one change has this verdict, and is written as it was read.
-fn judges(
-    rt: &impl Abort,
-    alloc: Global,
-    (old, new, verdict): &(&str, &str, Verdict),
-) -> Result<(), Fail> {
-    let text = SHARED.replacen(alloc, old, new, 1)?;
-    let read = read_dump(alloc, text.as_bytes())?;
-    same_at(rt, new, &check(&read), verdict);
-    same(rt, &text_of(alloc, &read)?, &text);
-    Ok(())
-}
-
 #[test]
-fn verdicts(rt: HostRuntime) -> Result<(), Fail> {
-    for row in &CHANGED {
-        judges(&rt, rt.alloc(), row)?;
+fn verdicts(rt: HostRuntime) {
+    for (old, new, verdict) in &CHANGED {
+        let judged = judged_with(rt.alloc(), SHARED, old, new);
+        same_at(&rt, new, &judged, &Some((3, *verdict)));
     }
-    Ok(())
 }
 
 /// Two lines of two nodes: the first is unused, the second is node 1's alone, dirty.
@@ -145,28 +148,19 @@ const TWO_LINES: &str = "scidump 1 2 2\n\
     tag 1 1 0000000000ffff03 1 18446744073709551615 0 0 0 0 0 0 0\n\
     end\n";
 
-// TWO_LINES is a lawful dump of two nodes, and is written as it was read.
-fn two_lines_are_lawful(rt: &impl Abort, alloc: Global) -> Result<(), Fail> {
-    let read = read_dump(alloc, TWO_LINES.as_bytes())?;
-    same(rt, &check(&read), &Verdict::Lawful);
-    same(rt, &read.nodes, &2);
-    assert!(rt; text_of(alloc, &read)?.as_str() == TWO_LINES);
-    Ok(())
-}
-
 #[test]
-fn the_first_line_that_breaks_a_rule(rt: HostRuntime) -> Result<(), Fail> {
-    two_lines_are_lawful(&rt, rt.alloc())?;
+fn the_first_line_that_breaks_a_rule(rt: HostRuntime) {
+    let lawful = judged(rt.alloc(), TWO_LINES);
+    same(&rt, &lawful, &Some((2, Verdict::Lawful)));
     let old = "0000000000000102";
-    let fault = fault_with(rt.alloc(), TWO_LINES, old, "000000000000ff02")?;
+    let fault = fault_with(rt.alloc(), TWO_LINES, old, "000000000000ff02");
     same(&rt, &fault, &Some(3));
-    let verdict = verdict_with(rt.alloc(), TWO_LINES, old, "0000000000000101")?;
     let unlawful = Verdict::Unlawful {
         line: 1,
         rule: Rule::Suited,
     };
-    same(&rt, &verdict, &unlawful);
-    Ok(())
+    let judged = judged_with(rt.alloc(), TWO_LINES, old, "0000000000000101");
+    same(&rt, &judged, &Some((2, unlawful)));
 }
 
 /// A dump without its last bytes is refused at the line that is cut or missing.
@@ -208,12 +202,11 @@ const FAULTS: [(&str, &str, u64); 16] = [
 ];
 
 #[test]
-fn faults(rt: HostRuntime) -> Result<(), Fail> {
+fn faults(rt: HostRuntime) {
     for (old, new, line) in &FAULTS {
-        let fault = fault_with(rt.alloc(), SHARED, old, new)?;
+        let fault = fault_with(rt.alloc(), SHARED, old, new);
         same_at(&rt, new, &fault, &Some(*line));
     }
-    Ok(())
 }
 
 /// The line where SHARED is at fault with the byte at this place of this line changed to that: its own, but where another count or
@@ -242,18 +235,11 @@ fn with_byte(alloc: Global, place: usize, byte: u8) -> Result<Vec<u8>, AllocErro
 }
 
 // The text, changed in this place, is refused at that line; or it is a dump, and is written as it was read.
-fn is_read_back_or_refused(
-    rt: &impl Abort,
-    alloc: Global,
-    place: usize,
-    text: &[u8],
-    fault: u64,
-) -> Result<(), Fail> {
+fn is_read_back_or_refused(rt: &impl Abort, alloc: Global, place: usize, text: &[u8], fault: u64) {
     match read_dump(alloc, text) {
-        Ok(read) => is_so_at(rt, &place, text_of(alloc, &read)?.as_bytes() == text),
+        Ok(read) => same_at(rt, &place, &is_written_as(alloc, &read, text), &true),
         Err(refusal) => same_at(rt, &place, &refusal, &DumpRefusal::DumpFault(fault)),
     }
-    Ok(())
 }
 
 /// A dump with one byte changed, to any other, is refused at that byte's line, but for the changes above; or it is a dump.
@@ -264,7 +250,7 @@ fn changed_in_each_byte(rt: HostRuntime) -> Result<(), Fail> {
         for byte in 0..=u8::MAX {
             let text = with_byte(rt.alloc(), place, byte)?;
             let fault = fault_behind(place, line, byte);
-            is_read_back_or_refused(&rt, rt.alloc(), place, &text, fault)?;
+            is_read_back_or_refused(&rt, rt.alloc(), place, &text, fault);
         }
         line = line_behind(line, *old);
     }
@@ -280,17 +266,17 @@ fn fresh(forw: Option<NodeId>) -> Tag {
     }
 }
 
-// Makes a step of a node.
+// Makes a step of a node. None: its event is not in turn.
 #[tactic(auto, using(sci_core::proofs::Fitting::any_event_fits))]
-fn take(whole: &mut Whole<AnyWords>, node: NodeId, event: Event) -> Result<(), Fail> {
+fn take(whole: &mut Whole<AnyWords>, node: NodeId, event: Event) -> Option<()> {
     if node.get() >= whole.nodes() || whole.step(node, event).is_err() {
-        return Err(Fail::new("the event is not in turn"));
+        return None;
     }
-    Ok(())
+    Some(())
 }
 
 // A node has found this head, enters the list in front of it, and has memory's bytes.
-fn enter(whole: &mut Whole<AnyWords>, node: NodeId, head: Option<NodeId>) -> Result<(), Fail> {
+fn enter(whole: &mut Whole<AnyWords>, node: NodeId, head: Option<NodeId>) -> Option<()> {
     take(whole, node, Event::Queue(head))?;
     take(whole, node, Event::PrependValid)?;
     take(whole, node, Event::ReturnMemory)
@@ -302,21 +288,21 @@ fn load(
     node: NodeId,
     head: NodeId,
     behind: Option<NodeId>,
-) -> Result<(), Fail> {
+) -> Option<()> {
     enter(whole, node, Some(head))?;
     take(whole, node, Event::AttachFresh(fresh(behind)))?;
     take(whole, node, Event::Settle)
 }
 
-// The line that nodes 0, 1 and 2 have loaded, in this order.
-fn shared(alloc: Global) -> Result<Closed, Fail> {
+// The line that nodes 0, 1 and 2 have loaded, in this order. None: an event is not in turn, or there was no memory.
+fn shared(alloc: Global) -> Option<Closed> {
     let (zero, one, two) = (node(0), node(1), node(2));
-    let mut whole = Whole::open(alloc, 3, 0, Line::ZERO, AnyWords)?;
+    let mut whole = Whole::open(alloc, 3, 0, Line::ZERO, AnyWords).ok()?;
     enter(&mut whole, zero, None)?;
     take(&mut whole, zero, Event::Settle)?;
     load(&mut whole, one, zero, None)?;
     load(&mut whole, two, one, Some(zero))?;
-    Ok(closed_of(alloc, &whole).ok_or("a node is at work")?)
+    closed_of(alloc, &whole)
 }
 
 // The same line again.
@@ -327,7 +313,7 @@ fn same_line(rt: &impl Abort, line: &Closed, back: &Closed) {
     same(rt, &line.lines.as_slice(), &back.lines.as_slice());
 }
 
-// The dump of this one line of three nodes.
+// A dump of this one line of three nodes.
 fn is_read(rt: &impl Abort, lines: &[Closed], read: &Dump) {
     same(rt, &read.nodes, &3);
     let ([line], [back]) = (lines, read.lines.as_slice()) else {
@@ -338,7 +324,7 @@ fn is_read(rt: &impl Abort, lines: &[Closed], read: &Dump) {
 
 #[test]
 fn a_closed_line_is_dumped_and_read_back(rt: HostRuntime) -> Result<(), Fail> {
-    let closed = shared(rt.alloc())?;
+    let closed = shared(rt.alloc()).ok_or("no line at rest")?;
     // (told to the prover too: `dump` asks for lines of one number of nodes)
     assert!(rt; closed.tags.len() == 3);
     let lines = vec![in rt.alloc(); closed]?;
@@ -360,17 +346,23 @@ fn word_of(node: u64) -> u64
     }
 }
 
+// A word, and zeros as a content.
+fn write_word(text: &mut String, word: u64) -> Result<(), AllocError> {
+    write!(text, "{word:016x} 0 0 0 0 0 0 0 0 0\n")
+}
+
 // A node's tag on a line that 64 nodes share.
 fn write_tag(text: &mut String, line: u64, node: u64) -> Result<(), AllocError>
     requires { node < 64 }
 {
-    let word = word_of(node);
-    write!(text, "tag {line} {node} {word:016x} 0 0 0 0 0 0 0 0 0\n")
+    write!(text, "tag {line} {node} ")?;
+    write_word(text, word_of(node))
 }
 
 // A line that 64 nodes share.
 fn write_line(text: &mut String, line: u64) -> Result<(), AllocError> {
-    write!(text, "line {line} 0000000000003f01 0 0 0 0 0 0 0 0 0\n")?;
+    write!(text, "line {line} ")?;
+    write_word(text, 0x3F01)?;
     for node in 0..64 {
         write_tag(text, line, node)?;
     }
@@ -378,7 +370,7 @@ fn write_line(text: &mut String, line: u64) -> Result<(), AllocError> {
 }
 
 // The dump of so many lines that 64 nodes share.
-fn shared_by_all(alloc: Global, lines: u64) -> Result<String, Fail> {
+fn shared_by_all(alloc: Global, lines: u64) -> Result<String, AllocError> {
     let mut text = format!(in alloc; "scidump 1 64 {lines}\n")?;
     for line in 0..lines {
         write_line(&mut text, line)?;
@@ -387,20 +379,12 @@ fn shared_by_all(alloc: Global, lines: u64) -> Result<String, Fail> {
     Ok(text)
 }
 
-// The dump of so many lines that 64 nodes share is lawful, and is written as it was read.
-fn dumps_lines_of_64_nodes(rt: &impl Abort, alloc: Global, lines: u64) -> Result<(), Fail> {
-    let text = shared_by_all(alloc, lines)?;
-    let read = read_dump(alloc, text.as_bytes())?;
-    same(rt, &check(&read), &Verdict::Lawful);
-    let again = text_of(alloc, &read)?;
-    is_so_at(rt, &lines, again.as_str() == text.as_str());
-    Ok(())
-}
-
 #[test]
 fn dumps_of_64_nodes(rt: HostRuntime) -> Result<(), Fail> {
     for lines in [1, 340, 1024] {
-        dumps_lines_of_64_nodes(&rt, rt.alloc(), lines)?;
+        let text = shared_by_all(rt.alloc(), lines)?;
+        let judged = judged(rt.alloc(), text.as_str());
+        same_at(&rt, &lines, &judged, &Some((64, Verdict::Lawful)));
     }
     Ok(())
 }

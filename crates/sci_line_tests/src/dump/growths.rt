@@ -1,7 +1,7 @@
 //! Each growth may be refused: its call then answers 7 or an `AllocError`, and a second try has the memory. With ample memory
 //! this test passes. tools/allocations runs it once for each growth of its table, with that one refused, and the test ends by
 //! saying which call answered it.
-use super::{SHARED, text_of};
+use super::{SHARED, is_written_as, text_of};
 use crate::checks::same;
 use sci_dump::{Dump, DumpRefusal, Verdict, check, read_dump};
 use std::alloc::Global;
@@ -21,12 +21,16 @@ fn reads(rt: &impl Abort, alloc: Global) -> Result<Dump, Fail> {
 }
 
 fn writes(rt: &impl Abort, alloc: Global, read: &Dump) -> Result<(), Fail> {
-    if let Ok(text) = text_of(alloc, read) {
-        assert!(rt; text.as_str() == SHARED);
-        return Ok(());
+    match text_of(alloc, read) {
+        Ok(text) => {
+            assert!(rt; text.as_str() == SHARED);
+            Ok(())
+        }
+        Err(_) => {
+            assert!(rt; is_written_as(alloc, read, SHARED.as_bytes()));
+            Err(Fail::new("dump answered 7"))
+        }
     }
-    assert!(rt; text_of(alloc, read)?.as_str() == SHARED);
-    Err(Fail::new("dump answered 7"))
 }
 
 /// Growths: 3 of read_dump, 6 of dump.

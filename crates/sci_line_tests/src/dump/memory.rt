@@ -1,7 +1,7 @@
 //! `check` takes no memory. tools/allocations runs this test with the allocation of its last line refused, and wants it to
 //! fail there, and there alone.
 use super::SHARED;
-use crate::checks::same;
+use crate::checks::{allocates, same};
 use sci_dump::{Verdict, check, read_dump};
 
 #[test]
@@ -12,6 +12,5 @@ fn checks_take_no_memory(rt: HostRuntime) {
     };
     // A lawful dump is looked at by every rule.
     same(&rt, &check(&read), &Verdict::Lawful);
-    let last = Vec::<u8>::with_capacity(rt.alloc(), 1);
-    assert!(rt; last.is_ok(), "allocation 4 is refused");
+    allocates(&rt, rt.alloc(), "allocation 4 is refused");
 }

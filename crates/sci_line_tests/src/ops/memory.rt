@@ -2,6 +2,7 @@
 //! its last line refused, and wants it to fail there, and there alone.
 use super::replays::turn;
 use super::{answers_of, opened};
+use crate::checks::allocates;
 use sci_core::{AnyWords, Whole};
 use sci_ops::{Answer, Op, Turn};
 use sci_port::recording::Trace;
@@ -72,12 +73,6 @@ fn trace(rt: &impl Abort, alloc: Global) -> Trace {
         panic!(rt; "no room")
     };
     Trace::new(room)
-}
-
-/// Makes one allocation. Where that is refused, this is said.
-fn allocates(rt: &impl Abort, alloc: Global, said: &str) {
-    let last = Vec::<u8>::with_capacity(alloc, 1);
-    assert!(rt; last.is_ok(), "{said}");
 }
 
 #[test]

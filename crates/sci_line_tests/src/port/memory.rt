@@ -5,7 +5,7 @@ ghost use Rattle.sci_core.specs.declared.keeps.AnyWords.{AnyWords};
 ghost use Rattle.sci_port.specs.Banks.{AreLinesOf};
 
 use super::{LINE, fresh, step_of};
-use crate::checks::same;
+use crate::checks::{allocates, same};
 use sci_core::{Event, Outcome, Whole};
 use sci_port::recording::{Recorder, Trace};
 use sci_port::{AnyWords, At, Bank, Port, SoloBank};
@@ -163,7 +163,6 @@ fn ports_and_banks_take_no_memory(rt: HostRuntime) -> Result<(), Fail> {
     same(&rt, &rounds(&mut bank, &mut trace), &Some(ROUNDS));
     same(&rt, &trace.events(), &None);
     same(&rt, &lines_left(bank), &2);
-    let last = Vec::<u8>::with_capacity(rt.alloc(), 1);
-    assert!(rt; last.is_ok(), "allocation 9 is refused");
+    allocates(&rt, rt.alloc(), "allocation 9 is refused");
     Ok(())
 }

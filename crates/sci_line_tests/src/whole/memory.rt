@@ -6,7 +6,7 @@ ghost use Rattle.sci_core.specs.declared.pending.Pending.TheVariants.{Idle};
 ghost use Rattle.sci_core.specs.Whole.{nodes_of, state_of};
 
 use super::{ALONE, LINE, node, opened, run, step};
-use crate::checks::{same, same_at};
+use crate::checks::{allocates, same, same_at};
 use sci_core::{AnyWords, Closed, Event, Line, Outcome, Whole};
 use sci_words::{NodeId, Tag};
 use std::alloc::Global;
@@ -108,12 +108,6 @@ fn line_of(rt: &impl Abort, alloc: Global, nodes: u16) -> Whole<AnyWords>
         panic!(rt; "`open` takes more than three allocations")
     };
     whole
-}
-
-/// Makes one allocation. Where that is refused, this is said.
-fn allocates(rt: &impl Abort, alloc: Global, said: &str) {
-    let last = Vec::<u8>::with_capacity(alloc, 1);
-    assert!(rt; last.is_ok(), "{said}");
 }
 
 #[test]
