@@ -173,14 +173,21 @@ fn answers_of(alloc: Global, store: Op) -> Result<[Option<Answer>; 7], OpenRefus
 }
 
 // The answers where the write stores 5, and then zeros.
-fn wanted_alone() -> [Answer; 7] {
-    let before = [0; 8];
-    let words = [5, 0, 0, 0, 0, 0, 0, 0];
-    let read = Answer::Seen { words, stamp: 1 };
-    let wrote = Answer::Wrote { before, stamp: 1 };
-    let out = Answer::Out;
-    [SEEN, SEEN, SEEN, wrote, read, out, out]
-}
+const WANTED_ALONE: [Answer; 7] = [
+    SEEN,
+    SEEN,
+    SEEN,
+    Answer::Wrote {
+        before: [0; 8],
+        stamp: 1,
+    },
+    Answer::Seen {
+        words: [5, 0, 0, 0, 0, 0, 0, 0],
+        stamp: 1,
+    },
+    Answer::Out,
+    Answer::Out,
+];
 
 fn are_answers(rt: &impl Abort, answers: &[Option<Answer>], wanted: &[Answer]) {
     for (answer, wanted) in answers.iter().zip(wanted.iter()) {
@@ -192,7 +199,7 @@ fn are_answers(rt: &impl Abort, answers: &[Option<Answer>], wanted: &[Answer]) {
 fn ends_alone(rt: HostRuntime) -> Result<(), Fail> {
     let store = Op::write_line([5, 0, 0, 0, 0, 0, 0, 0]);
     let answers = answers_of(rt.alloc(), store)?;
-    are_answers(&rt, &answers, &wanted_alone());
+    are_answers(&rt, &answers, &WANTED_ALONE);
     Ok(())
 }
 

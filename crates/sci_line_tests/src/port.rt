@@ -98,12 +98,23 @@ fn behind_the_miss() -> [(u16, Event, Option<Outcome>); 3] {
     ]
 }
 
+// At this place among those that passed stands this event of the node.
+fn stands_at(
+    rt: &impl Abort,
+    events: &[(NodeId, Event)],
+    place: usize,
+    node: NodeId,
+    event: Event,
+) {
+    same(rt, &events.get(place), &Some(&(node, event)));
+}
+
 // What passed at the miss and behind it stands in the trace.
 fn shows_the_miss(rt: &impl Abort, trace: &Trace) -> Result<(), Fail> {
     let events = trace.events().ok_or("no room")?;
     same(rt, &events.len(), &10);
-    same(rt, &events.get(7), &Some(&(node(0), Event::FreshToGone)));
-    same(rt, &events.get(8), &Some(&(node(0), Event::Unconverted)));
+    stands_at(rt, events, 7, node(0), Event::FreshToGone);
+    stands_at(rt, events, 8, node(0), Event::Unconverted);
     Ok(())
 }
 
@@ -153,22 +164,27 @@ fn recorded_tags_stand<P: Port>(rt: &impl Abort, port: &mut P, trace: &mut Trace
 // The only event that passed is the node's look.
 fn shows_a_look(rt: &impl Abort, trace: &Trace, node: NodeId) -> Result<(), Fail> {
     let events = trace.events().ok_or("no room")?;
-    same(rt, &events.get(0), &Some(&(node, Event::Look)));
+    stands_at(rt, events, 0, node, Event::Look);
     same(rt, &events.len(), &1);
     Ok(())
+}
+
+// The words of such a line stand, as node 2 loads them by its port.
+fn loads(rt: &impl Abort, whole: &mut Whole<AnyWords>, trace: &mut Trace) {
+    let first = node(2);
+    if first.get() < whole.nodes() {
+        let mut port = Solo::new(whole, first);
+        stands(rt, &mut port);
+        recorded_tags_stand(rt, &mut port, trace);
+    }
 }
 
 #[test]
 fn loads_the_words_that_stand(rt: HostRuntime) -> Result<(), Fail> {
     let mut whole = Whole::open(rt.alloc(), 3, 7, LINE, AnyWords)?;
     let mut trace = Trace::new(Vec::with_capacity(rt.alloc(), 16)?);
-    let first = node(2);
-    if first.get() < whole.nodes() {
-        let mut port = Solo::new(&mut whole, first);
-        stands(&rt, &mut port);
-        recorded_tags_stand(&rt, &mut port, &mut trace);
-    }
-    shows_a_look(&rt, &trace, first)
+    loads(&rt, &mut whole, &mut trace);
+    shows_a_look(&rt, &trace, node(2))
 }
 
 #[test]

@@ -72,14 +72,12 @@ pub(crate) fn closed_of(alloc: Global, whole: &Whole<AnyWords>) -> Option<Closed
     whole.closed(alloc).ok()
 }
 
-/// The numbers of the nodes on the line's list, from its head.
-fn numbers(alloc: Global, whole: &Whole<AnyWords>) -> Result<Vec<u16>, Fail> {
-    let numbers = whole
-        .chain(alloc)?
-        .iter()
-        .map(|node| node.get())
-        .collect(alloc)?;
-    Ok(numbers)
+/// A line's list has the nodes of these numbers, from its head.
+fn is_chain(rt: &impl Abort, chain: &[NodeId], want: &[u16]) {
+    same(rt, &chain.len(), &want.len());
+    for (node, number) in chain.iter().zip(want.iter()) {
+        same(rt, &node.get(), number);
+    }
 }
 
 /// One event of a node, if there is that node.
@@ -108,24 +106,29 @@ fn run(whole: &mut Whole<AnyWords>, events: &[(NodeId, Event)]) -> Option<Result
     }
 }
 
-#[test]
-fn opens_with_1_to_64_nodes(rt: HostRuntime) -> Result<(), Fail> {
-    for (nodes, refused) in [(0, true), (1, false), (64, false), (65, true)] {
-        let opened = Whole::open(rt.alloc(), nodes, 7, LINE, AnyWords);
-        match opened {
-            Ok(whole) => {
-                same_at(&rt, &nodes, &refused, &false);
-                same(&rt, &whole.nodes(), &nodes);
-                same(&rt, &whole.number(), &7);
-                same(&rt, &whole.mem().state, &MemState::Home);
-            }
-            Err(refusal) => {
-                same_at(&rt, &nodes, &refused, &true);
-                same(&rt, &refusal.number(), &6);
-            }
-        }
+/// How many nodes a line has, its number and memory's state; or the number of the refusal to open it.
+type Opened = Result<(u16, LineNo, MemState), u8>;
+
+fn opened_with(alloc: Global, nodes: u16) -> Opened {
+    match Whole::open(alloc, nodes, 7, LINE, AnyWords) {
+        Ok(whole) => Ok((whole.nodes(), whole.number(), whole.mem().state)),
+        Err(refusal) => Err(refusal.number()),
     }
-    Ok(())
+}
+
+/// What so many nodes open line 7 to.
+const OPENED: [(u16, Opened); 4] = [
+    (0, Err(6)),
+    (1, Ok((1, 7, MemState::Home))),
+    (64, Ok((64, 7, MemState::Home))),
+    (65, Err(6)),
+];
+
+#[test]
+fn opens_with_1_to_64_nodes(rt: HostRuntime) {
+    for (nodes, opened) in &OPENED {
+        same_at(&rt, nodes, &opened_with(rt.alloc(), *nodes), opened);
+    }
 }
 
 /// One node after the other reads the line, and is its list's new head.
@@ -148,9 +151,8 @@ fn lists_all(
     whole: &Whole<AnyWords>,
     nodes: u16,
 ) -> Result<(), Fail> {
-    let chain = numbers(alloc, whole)?;
     let want: Vec<u16> = (0..nodes).rev().collect(alloc)?;
-    same_at(rt, &nodes, &chain.as_slice(), &want.as_slice());
+    is_chain(rt, &whole.chain(alloc)?, &want);
     Ok(())
 }
 
@@ -192,13 +194,9 @@ fn then() -> [(u16, Event, Result<Outcome, NotInTurn>); 4] {
 #[test]
 fn runs_two_readers(rt: HostRuntime) -> Result<(), Fail> {
     let mut whole = Whole::open(rt.alloc(), 2, 0, LINE, AnyWords)?;
-    same(
-        &rt,
-        &run(&mut whole, &two_read(node(0), node(1), ALONE)),
-        &Some(Ok(7)),
-    );
-    let chain = numbers(rt.alloc(), &whole)?;
-    same(&rt, &chain.as_slice(), &[1, 0].as_slice());
+    let readers = two_read(node(0), node(1), ALONE);
+    same(&rt, &run(&mut whole, &readers), &Some(Ok(7)));
+    is_chain(&rt, &whole.chain(rt.alloc())?, &[1, 0]);
     for (number, event, outcome) in then() {
         same(&rt, &step(&mut whole, number, event), &Some(outcome));
     }

@@ -5,6 +5,7 @@ use sci_ops::{Answer, BadWord, Op, Turn};
 use sci_port::Solo;
 use sci_port::recording::{Recorder, Trace};
 use sci_words::NodeId;
+use std::alloc::Global;
 use std::process::Abort;
 use std::test::Fail;
 
@@ -80,7 +81,7 @@ fn take_turn(
     Ok(())
 }
 
-// Forty turns of each node, each node with an operation.
+// Forty turns of each node, each node with one of these operations.
 fn take_turns(
     rt: &impl Abort,
     whole: &mut Whole<AnyWords>,
@@ -106,14 +107,24 @@ fn sees(rt: &impl Abort, whole: &mut Whole<AnyWords>, trace: &mut Trace, words: 
     same(rt, &turn(whole, trace, 2, &mut op), &Some(seen));
 }
 
+// Each node carries out its operations on a line, and what passed is done once more on another.
+fn replays(
+    rt: &impl Abort,
+    alloc: Global,
+    whole: &mut Whole<AnyWords>,
+    again: &mut Whole<AnyWords>,
+) -> Result<(), Fail> {
+    let mut trace = Trace::new(Vec::with_capacity(alloc, 1_000)?);
+    for ops in operations()?.iter_mut() {
+        take_turns(rt, whole, &mut trace, again, ops)?;
+    }
+    sees(rt, again, &mut trace, [3, 11, 3, 3, 3, 3, 3, 3]);
+    Ok(())
+}
+
 #[test]
 fn replays_what_a_recorder_kept(rt: HostRuntime) -> Result<(), Fail> {
     let mut whole = Whole::open(rt.alloc(), 3, 0, Line::ZERO, AnyWords)?;
     let mut again = Whole::open(rt.alloc(), 3, 0, Line::ZERO, AnyWords)?;
-    let mut trace = Trace::new(Vec::with_capacity(rt.alloc(), 1_000)?);
-    for mut ops in operations()? {
-        take_turns(&rt, &mut whole, &mut trace, &mut again, &mut ops)?;
-    }
-    sees(&rt, &mut again, &mut trace, [3, 11, 3, 3, 3, 3, 3, 3]);
-    Ok(())
+    replays(&rt, rt.alloc(), &mut whole, &mut again)
 }

@@ -5,7 +5,7 @@ ghost use Rattle.std.specs.Prelude.{◌≡◌, ℕ, ◌<◌};
 ghost use Rattle.sci_core.specs.declared.pending.Pending.TheVariants.{Idle};
 ghost use Rattle.sci_core.specs.Whole.{nodes_of, state_of};
 
-use super::{ALONE, LINE, node, opened, run};
+use super::{ALONE, LINE, is_chain, node, opened, run};
 use crate::checks::same;
 use sci_core::{AnyWords, Closed, Event, OpenRefusal, Whole};
 use sci_words::{MemState, NodeId, Tag};
@@ -25,13 +25,6 @@ fn shown(whole: &Whole<AnyWords>) -> Option<(MemState, Tag, Tag, u64)> {
         whole.tag(one),
         whole.memory_line().stamp,
     ))
-}
-
-fn is_chain(rt: &impl Abort, chain: &[NodeId], want: &[u16]) {
-    same(rt, &chain.len(), &want.len());
-    for (node, number) in chain.iter().zip(want.iter()) {
-        same(rt, &node.get(), number);
-    }
 }
 
 fn lists(
