@@ -1,4 +1,5 @@
 //! What the tests here check, each proved once: an `assert_eq!` costs as much as a test of its own.
+use std::alloc::Global;
 use std::fmt::Debug;
 use std::process::Abort;
 
@@ -15,4 +16,10 @@ pub(crate) fn same_at<Row: Debug, T: Debug + PartialEq>(
     right: &T,
 ) {
     assert_eq!(rt; left, right, "at {row:?}");
+}
+
+/// Makes one allocation. Where that is refused, this is said.
+pub(crate) fn allocates(rt: &impl Abort, alloc: Global, said: &str) {
+    let last = Vec::<u8>::with_capacity(alloc, 1);
+    assert!(rt; last.is_ok(), "{said}");
 }

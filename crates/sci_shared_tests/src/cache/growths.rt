@@ -21,7 +21,7 @@ fn made(rt: &impl Abort, alloc: Global, zero: NodeId) -> Result<Node, Fail>
         Err(refusal) => {
             same(rt, &refusal, &NodeRefusal::OutOfMemory);
             let again = Node::new(alloc, zero, 3, 2)?;
-            same(rt, &again.resident(alloc)?.len(), &0);
+            super::lists(rt, alloc, &again, &[])?;
             Err(Fail::new("new answered 7"))
         }
     }
@@ -54,7 +54,7 @@ fn begins(
     same(rt, &refusal, &NodeRefusal::OutOfMemory);
     same(rt, &refusal.number(), &7);
     assert!(rt; !node.open());
-    same(rt, &node.resident(alloc)?.as_slice(), &named);
+    super::lists(rt, alloc, node, named)?;
     same(rt, &node.begin(load), &Ok(()));
     Err(Fail::new("begin answered 7"))
 }
@@ -65,7 +65,7 @@ fn lists(rt: &impl Abort, alloc: Global, node: &Node, named: &[u16]) -> Result<(
         same(rt, &lines.as_slice(), &named);
         return Ok(());
     }
-    same(rt, &node.resident(alloc)?.as_slice(), &named);
+    super::lists(rt, alloc, node, named)?;
     Err(Fail::new("resident answered 7"))
 }
 

@@ -3,7 +3,7 @@
 ghost use Rattle.std.specs.Prelude.{◌≡◌};
 
 use super::{done, made, opened};
-use crate::checks::same;
+use crate::checks::{allocates, same};
 use sci_cache::{Node, Request};
 use sci_core::{AnyWords, Line, Whole};
 use sci_words::LineNo;
@@ -73,19 +73,24 @@ fn filled(
     Some((turns, wholes))
 }
 
+/// Both nodes name lines and work, and then the first puts line 1 out: how many turns its second load took, and how many lines
+/// there are.
+fn worked(first: &mut Node, second: &mut Node, wholes: Vec<Whole<AnyWords>>) -> Option<(u32, usize)>
+    requires { (first.old.lines ≡ 3) × (second.old.lines ≡ 3) }
+{
+    let (turns, wholes) = filled(first, second, wholes)?;
+    let wholes = rounds(first, second, wholes)?;
+    let (_, _, wholes) = done(first, wholes, Request::Evict { line: 1 })?;
+    Some((turns, wholes.len()))
+}
+
 #[test]
 fn turns_take_no_memory(rt: HostRuntime) -> Result<(), Fail> {
     // The lines take ten, a node six, and the first line that it names one.
     let wholes = opened(rt.alloc(), 2, 3, Line::ZERO)?;
     let mut first = made(rt.alloc(), 0, 1)?;
     let mut second = made(rt.alloc(), 1, 1)?;
-    let (turns, wholes) = filled(&mut first, &mut second, wholes).ok_or("no end")?;
-    same(&rt, &turns, &8);
-    let wholes = rounds(&mut first, &mut second, wholes).ok_or("no end")?;
-    let evict = Request::Evict { line: 1 };
-    let (_, _, wholes) = done(&mut first, wholes, evict).ok_or("no end")?;
-    same(&rt, &wholes.len(), &3);
-    let last = Vec::<u8>::with_capacity(rt.alloc(), 1);
-    assert!(rt; last.is_ok(), "allocation 25 is refused");
+    same(&rt, &worked(&mut first, &mut second, wholes), &Some((8, 3)));
+    allocates(&rt, rt.alloc(), "allocation 25 is refused");
     Ok(())
 }

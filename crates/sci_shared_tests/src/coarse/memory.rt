@@ -4,7 +4,7 @@ ghost use Rattle.std.specs.Prelude.{◌≡◌, IfSome};
 ghost use Rattle.sci_coarse.specs.Seats.{IsSeatOf};
 
 use super::banks::two_lines;
-use crate::checks::same;
+use crate::checks::{allocates, same};
 use crate::lines::SharedLine;
 use crate::lines::turning::{turns, turns_in};
 use sci_coarse::parts::take_for_good;
@@ -21,8 +21,7 @@ fn seats_and_ports_take_no_memory(rt: HostRuntime) -> Result<(), Fail> {
     let (line, mut seats) = CoarseLine::opened(rt.alloc(), 3, 0, Line::ZERO)?;
     let ended = turns(&line, seats.as_mut_slice());
     assert!(rt; matches!(ended, Some(1_000..)));
-    let last = Vec::<u8>::with_capacity(rt.alloc(), 1);
-    assert!(rt; last.is_ok(), "allocation 8 is refused");
+    allocates(&rt, rt.alloc(), "allocation 8 is refused");
     Ok(())
 }
 
@@ -68,8 +67,7 @@ fn calls_on_a_taken_line_take_no_memory(rt: HostRuntime) {
         &calls_of_a_taken(&line, &mut one),
         &(true, Outcome::Busy),
     );
-    let last = Vec::<u8>::with_capacity(rt.alloc(), 1);
-    assert!(rt; last.is_ok(), "allocation 8 is refused");
+    allocates(&rt, rt.alloc(), "allocation 8 is refused");
 }
 
 /// Turns on two lines of a bank, which gives its seats back.
@@ -87,7 +85,6 @@ fn banks_take_no_memory(rt: HostRuntime) -> Result<(), Fail> {
         panic!(rt; "it was refused")
     };
     takes_turns(&rt, bank);
-    let last = Vec::<u8>::with_capacity(rt.alloc(), 1);
-    assert!(rt; last.is_ok(), "allocation 16 is refused");
+    allocates(&rt, rt.alloc(), "allocation 16 is refused");
     Ok(())
 }

@@ -1,7 +1,7 @@
 //! Seats, their ports and banks of them take no memory, as turns by chance show. tools/allocations runs each of these tests
 //! with the allocation of its last line refused, and wants it to fail there, and there alone.
 use super::banks::two_lines;
-use crate::checks::same;
+use crate::checks::{allocates, same};
 use crate::lines::SharedLine;
 use crate::lines::turning::{turns, turns_in};
 use sci_core::{AnyWords, Line};
@@ -15,8 +15,7 @@ fn seats_and_ports_take_no_memory(rt: HostRuntime) -> Result<(), Fail> {
     let (line, mut seats) = FineLine::opened(rt.alloc(), 3, 0, Line::ZERO)?;
     let ended = turns(&line, seats.as_mut_slice());
     assert!(rt; matches!(ended, Some(1_000..)));
-    let last = Vec::<u8>::with_capacity(rt.alloc(), 1);
-    assert!(rt; last.is_ok(), "allocation 6 is refused");
+    allocates(&rt, rt.alloc(), "allocation 6 is refused");
     Ok(())
 }
 
@@ -35,7 +34,6 @@ fn banks_take_no_memory(rt: HostRuntime) -> Result<(), Fail> {
         panic!(rt; "it was refused")
     };
     takes_turns(&rt, bank);
-    let last = Vec::<u8>::with_capacity(rt.alloc(), 1);
-    assert!(rt; last.is_ok(), "allocation 12 is refused");
+    allocates(&rt, rt.alloc(), "allocation 12 is refused");
     Ok(())
 }
