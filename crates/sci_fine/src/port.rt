@@ -81,7 +81,6 @@ impl<K: Keeps> Port for FinePort<'_, K> {
     }
 
     #[inline(always)]
-    #[tactic(none)]
     fn step(&mut self, event: Event) -> Outcome {
         self.seat.step(self.line, &event)
     }

@@ -68,7 +68,6 @@ impl<K: Keeps> Seat<K> {
 
     // The exchange that the event asks for.
     #[inline(always)]
-    #[tactic(none)]
     fn exchange(&mut self, line: &FineLine<K>, event: &Event) -> Outcome
         requires of { IsSeatOf line.now self.old }
         requires allowed { has_row self.old.standing.terms.nodes self.old.standing.node self.old.standing.pending event.now ≡ true }
