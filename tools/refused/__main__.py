@@ -18,7 +18,7 @@ sys.path.insert(0, str(pathlib.Path(__file__).resolve().parent))
 sys.dont_write_bytecode = True
 
 from edits import edits_of
-from kit import RT
+from kit import RT, linked
 from trying import Trial
 
 ROOT = pathlib.Path(__file__).resolve().parents[2]
@@ -36,7 +36,7 @@ def copy_of(root, room, kept):
     shutil.copytree(f"{root}/crates", f"{room}/crates", ignore=shutil.ignore_patterns("out"))
     for name, folder in kept.items():
         if os.path.isdir(folder):
-            RT.linked(folder, f"{room}/kept/{name}")
+            linked(folder, f"{room}/kept/{name}")
 
 
 def take_libraries(root, crates):

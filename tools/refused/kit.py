@@ -22,5 +22,17 @@ def load():
     return made
 
 
+def linked(folder, to):
+    """Copies a folder of kept work, by links where it can: the prover replaces such a file, and writes into none."""
+    shutil.copytree(folder, to, copy_function=link_or_copy)
+
+
+def link_or_copy(file, to):
+    try:
+        os.link(file, to)
+    except OSError:
+        shutil.copy2(file, to)
+
+
 RT = load()
 RATTLE = RT.rtlib.RATTLE

@@ -1,15 +1,16 @@
-"""Runs `rt ci` and keeps what it proved before it tried the edits of must-fail/, for tools/refused to begin with.
+"""Runs `rt ci` and keeps what it proves of each library with edits in refused/, for tools/refused to begin with.
 
     python3 tools/refused/seeds.py FOLDER COMMAND ..
 
-`rt ci` tries a crate's edits over a seed: a folder of what it proved of the crate as it stands, from nothing. It removes the seed once
-they are tried. Until then this program links what stands in it into FOLDER/NAME. COMMAND is `rt ci`, and its status is this program's.
+Rattle writes each module that it has checked into a folder of its own, which it removes as it ends; a folder of kept work has such
+files too. While COMMAND, which is `rt ci`, proves a library from nothing, this program links them into FOLDER/NAME, under the name
+that this prover gives its kept work. The status is COMMAND's. What is lacking is proved by tools/refused: the prover takes no module
+that isn't up to date.
 """
 
 import glob
 import os
 import re
-import shutil
 import subprocess
 import sys
 import tempfile
@@ -17,38 +18,71 @@ import time
 
 sys.dont_write_bytecode = True
 
-from kit import RT
+from kit import RATTLE, RT
 
-# in seconds; an edit's check takes far longer, and its copy of the seed stays as long
+# in seconds; a library takes far longer, and what comes after the last look is proved anew
 BETWEEN_LOOKS = 0.5
 
 
-def crate_of(seed):
-    """Returns the name of the crate that a seed is of, by the names of its modules."""
-    names = (re.match(r"Rattle-(\w+)-", it) for _, _, files in os.walk(seed) for it in files)
-    return next((it[1] for it in names if it), None)
+def name_of_kept():
+    """Returns the name of the folder in which this prover keeps work, or None: it checks a crate without items."""
+    with tempfile.TemporaryDirectory(prefix="seeds-") as room:
+        with open(f"{room}/lib.rt", "w", encoding="utf-8") as it:
+            it.write("//! Nothing.\n")
+        logic = ["--antt-project", f"{RT.KIT}/rattle/logic/antt-project.json", "--logic-built", f"{RT.KIT}/logic_built"]
+        words = ["check", "--crate-name", "nothing", "lib.rt", *logic, "--incremental", f"{room}/kept"]
+        subprocess.run([RATTLE, *words], cwd=room, stdin=subprocess.DEVNULL, stdout=subprocess.DEVNULL, stderr=subprocess.DEVNULL)
+        names = os.listdir(f"{room}/kept") if os.path.isdir(f"{room}/kept") else []
+        return names[0] if len(names) == 1 else None
 
 
-def keep(room, folder):
-    """Links a seed into the folder, once it is whole: edits are tried beside it."""
-    if not os.path.isdir(f"{room}/seed") or os.listdir(room) == ["seed"]:
-        return False
-    kept = f"{folder}/{crate_of(f'{room}/seed')}"
+def library_of(folder, crates):
+    """Returns the crate of this repository that the process of a folder of checked modules proves as a library, or None."""
+    process = re.search(r"-(\d+)-\d+\Z", folder)
     try:
-        RT.linked(f"{room}/seed", kept)
-    except (OSError, shutil.Error):
-        # (it was removed meanwhile: the crate begins from nothing)
-        shutil.rmtree(kept, ignore_errors=True)
-    return True
+        at = os.readlink(f"/proc/{process[1]}/cwd")
+        with open(f"/proc/{process[1]}/cmdline", "rb") as it:
+            words = it.read().split(b"\0")
+    except (OSError, TypeError):
+        return None
+    is_library = os.path.dirname(at) == crates and b"build" in words and b"--test" not in words
+    return os.path.basename(at) if is_library and os.path.isdir(f"{at}/refused") else None
+
+
+def follow(folder, kept, seen):
+    """Links what has come to a folder of checked modules since the last look; seen has the number of each file that was linked."""
+    os.makedirs(kept, exist_ok=True)
+    for it in os.scandir(folder):
+        if not it.name.endswith(".oantt") or seen.get(it.name) == it.inode():
+            continue
+        if it.name in seen:
+            os.remove(f"{kept}/{it.name}")
+        os.link(it.path, f"{kept}/{it.name}")
+        seen[it.name] = it.inode()
+
+
+def look(to, name, crates, known):
+    """Looks once at each folder of checked modules; known has, by folder, its crate and the files that were linked."""
+    for folder in glob.glob(f"{tempfile.gettempdir()}/rattle-*-[0-9]*-[0-9]*"):
+        if folder not in known:
+            known[folder] = library_of(folder, crates), {}
+        crate, seen = known[folder]
+        if crate:
+            try:
+                follow(folder, f"{to}/{crate}/{name}", seen)
+            except OSError:
+                # (it was removed meanwhile)
+                continue
 
 
 def main():
-    folder, words = sys.argv[1], sys.argv[2:]
-    os.makedirs(folder, exist_ok=True)
-    started, done = subprocess.Popen(words), set()
+    to, words = os.path.realpath(sys.argv[1]), sys.argv[2:]
+    os.makedirs(to, exist_ok=True)
+    name, known, crates = name_of_kept(), {}, os.path.realpath("crates")
+    started = subprocess.Popen(words)
     while started.poll() is None:
-        rooms = glob.glob(f"{tempfile.gettempdir()}/rt-edits-{started.pid}-*")
-        done |= {it for it in rooms if it not in done and keep(it, folder)}
+        if name:
+            look(to, name, crates, known)
         time.sleep(BETWEEN_LOOKS)
     return started.returncode
 

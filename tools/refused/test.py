@@ -102,15 +102,23 @@ def make(root):
         (crate / "refused" / f"{name}.edit").write_text(text, encoding="utf-8")
 
 
-# makes two seeds, of which one is whole, since an edit is tried beside it; removes both, and ends with 3
+# makes two seeds: one in a folder of its own, one that a second edit's check goes on with; removes both, and ends with 3
 SEEDS = """
 import os, shutil, tempfile, time
-rooms = [f"{tempfile.gettempdir()}/rt-edits-{os.getpid()}-{it}" for it in ("whole", "begun")]
-for room, crate in zip(rooms, ("lib_of_halves", "lib_of_thirds")):
-    os.makedirs(f"{room}/seed/of_this_prover")
-    open(f"{room}/seed/of_this_prover/Rattle-{crate}-proofs.next.Met.oantt", "w").close()
+rooms = [f"{tempfile.gettempdir()}/rt-edits-{os.getpid()}-{it}" for it in ("apart", "shared")]
+seeds = [f"{rooms[0]}/seed/of_this_prover", f"{rooms[1]}/of_this_prover"]
+def write(seed, crate, text):
+    with open(f"{seed}/new", "w") as it:
+        it.write(text)
+    os.replace(f"{seed}/new", f"{seed}/Rattle-{crate}-proofs.next.Met.oantt")
+for seed, crate in zip(seeds, ("lib_of_halves", "lib_of_thirds")):
+    os.makedirs(seed)
+    write(seed, crate, "as it stands")
 os.mkdir(f"{rooms[0]}/0")
-time.sleep(3)
+write(f"{rooms[0]}/0", "lib_of_halves", "under an edit")
+time.sleep(2)
+write(seeds[1], "lib_of_thirds", "as the next check leaves it")
+time.sleep(2)
 for room in rooms:
     shutil.rmtree(room)
 os._exit(3)
@@ -121,8 +129,11 @@ def faults_of_seeds():
     """Returns what isn't as it must be of the seeds that are kept."""
     with tempfile.TemporaryDirectory(prefix="refused-test-") as folder:
         ran = subprocess.run([sys.executable, str(TOOL / "seeds.py"), folder, sys.executable, "-c", SEEDS], stdin=subprocess.DEVNULL)
-        kept = [str(it.relative_to(folder)) for it in pathlib.Path(folder).rglob("*.oantt")]
-    wanted = ["lib_of_halves/of_this_prover/Rattle-lib_of_halves-proofs.next.Met.oantt"]
+        kept = {str(it.relative_to(folder)): it.read_text() for it in pathlib.Path(folder).rglob("*.oantt")}
+    wanted = {
+        "lib_of_halves/of_this_prover/Rattle-lib_of_halves-proofs.next.Met.oantt": "as it stands",
+        "lib_of_thirds/of_this_prover/Rattle-lib_of_thirds-proofs.next.Met.oantt": "as the next check leaves it",
+    }
     return [] if (kept, ran.returncode) == (wanted, 3) else [f"seeds.py kept {kept} and ended with {ran.returncode}"]
 
 

@@ -10,7 +10,7 @@ import time
 
 from edits import in_batches, name_of_copy, put, with_numbers
 from functions import modules_of, named, names_of
-from kit import RATTLE, RT
+from kit import RATTLE, RT, linked
 
 LINE = re.compile(r"^fn (\S+): (.*)$", re.M)
 # the last line of a check of some functions: how many were asked for, and how many of them are proved
@@ -150,7 +150,7 @@ class Trial:
             changed, why = self.edit(room, edits)
             if why:
                 return None, changed, why, 0
-            RT.linked(self.kept, f"{kept}/{self.crate.name}")
+            linked(self.kept, f"{kept}/{self.crate.name}")
             asked = only(told_as(*it) for it in with_numbers(edits))
             words = ["check", *self.words(1, f"{kept}/{self.crate.name}"), "--progress", *asked]
             status, said, used, _ = run(words, room, costs)
