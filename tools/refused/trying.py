@@ -25,6 +25,9 @@ ANSWER = re.compile(r": error: `[^`]+`: ")
 NAMES = re.compile(r"has no field|\(nearest: |is not in scope|has no `|was not admitted")
 
 
+# what the prover offers where a failing goal has no answer, for which it runs once more
+OFFER = re.compile(r"^help: (?:write|add these lines to) \./proofs/(\S+?)(?:_edit_\d+)?/Answers\.antt", re.M)
+
 # from how many CPU seconds on a function is named under an edit: its answers are worth a look
 DEAR = 10
 
@@ -250,5 +253,7 @@ class Trial:
         dear = [f"{name} {cost:.0f}" for name, cost in costs.items() if cost >= DEAR]
         if dear:
             self.say(f"{self.crate.name}: {label}: dear, by CPU s: {', '.join(dear)}")
+        if not why and OFFER.search(said):
+            self.say(f"{self.crate.name}: {label}: goals without an answer: {' '.join(sorted({*OFFER.findall(said)}))}")
         for edit in again:
             self.try_batch([edit], f"{label}: {edit.name} alone")
