@@ -1,12 +1,17 @@
 """Tests tools/refused on a small crate: edits that are refused, and each way in which an edit fails. Tests that seeds.py keeps what
-`rt ci` is about to remove, on a command that only makes such folders."""
+`rt ci` proves of it."""
 
 import pathlib
+import re
 import subprocess
 import sys
 import tempfile
 
 TOOL = pathlib.Path(__file__).resolve().parent
+sys.path.insert(0, str(TOOL))
+sys.dont_write_bytecode = True
+
+from kit import RATTLE, RT
 
 CODE = """//! Halves and their sums.
 #![tactic(auto)]
@@ -102,39 +107,23 @@ def make(root):
         (crate / "refused" / f"{name}.edit").write_text(text, encoding="utf-8")
 
 
-# makes two seeds: one in a folder of its own, one that a second edit's check goes on with; removes both, and ends with 3
-SEEDS = """
-import os, shutil, tempfile, time
-rooms = [f"{tempfile.gettempdir()}/rt-edits-{os.getpid()}-{it}" for it in ("apart", "shared")]
-seeds = [f"{rooms[0]}/seed/of_this_prover", f"{rooms[1]}/of_this_prover"]
-def write(seed, crate, text):
-    with open(f"{seed}/new", "w") as it:
-        it.write(text)
-    os.replace(f"{seed}/new", f"{seed}/Rattle-{crate}-proofs.next.Met.oantt")
-for seed, crate in zip(seeds, ("lib_of_halves", "lib_of_thirds")):
-    os.makedirs(seed)
-    write(seed, crate, "as it stands")
-os.mkdir(f"{rooms[0]}/0")
-write(f"{rooms[0]}/0", "lib_of_halves", "under an edit")
-time.sleep(2)
-write(seeds[1], "lib_of_thirds", "as the next check leaves it")
-time.sleep(2)
-for room in rooms:
-    shutil.rmtree(room)
-os._exit(3)
-"""
-
-
 def faults_of_seeds():
-    """Returns what isn't as it must be of the seeds that are kept."""
+    """Returns what isn't as it must be of what seeds.py keeps of `rt ci`, on the same crate, and of its status."""
     with tempfile.TemporaryDirectory(prefix="refused-test-") as folder:
-        ran = subprocess.run([sys.executable, str(TOOL / "seeds.py"), folder, sys.executable, "-c", SEEDS], stdin=subprocess.DEVNULL)
-        kept = {str(it.relative_to(folder)): it.read_text() for it in pathlib.Path(folder).rglob("*.oantt")}
-    wanted = {
-        "lib_of_halves/of_this_prover/Rattle-lib_of_halves-proofs.next.Met.oantt": "as it stands",
-        "lib_of_thirds/of_this_prover/Rattle-lib_of_thirds-proofs.next.Met.oantt": "as the next check leaves it",
-    }
-    return [] if (kept, ran.returncode) == (wanted, 3) else [f"seeds.py kept {kept} and ended with {ran.returncode}"]
+        root = pathlib.Path(folder) / "repository"
+        make(root)
+        words = [sys.executable, str(TOOL / "seeds.py"), f"{folder}/seeds"]
+        how = {"cwd": root, "stdin": subprocess.DEVNULL, "stdout": subprocess.PIPE, "stderr": subprocess.STDOUT, "text": True}
+        ran = subprocess.run([*words, "rt", "ci"], **how)
+        crate = RT.rtlib.crates_below(str(root))[0]
+        check = [RATTLE, "check", *crate.words(["--jobs", "1"], keeps=False), "--incremental", f"{folder}/seeds/{crate.name}"]
+        said = subprocess.run(check, **{**how, "cwd": crate.folder}).stdout
+        status = subprocess.run([*words, "sh", "-c", "exit 3"], **how).returncode
+    found = re.search(r"modules loaded=(\d+) checked=(\d+)$", said, re.M)
+    faults = [] if ran.returncode == 0 else [f"rt ci ended with {ran.returncode} and said {ran.stdout[-1000:]}"]
+    if not found or int(found[1]) <= int(found[2]):
+        faults.append(f"seeds.py kept less than half of what was proved: {found[0] if found else said[-1000:]}")
+    return faults if status == 3 else [*faults, f"seeds.py ended with {status}, and its command with 3"]
 
 
 def main():
