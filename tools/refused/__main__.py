@@ -127,7 +127,7 @@ def report(trials):
 def main():
     parser = argparse.ArgumentParser(prog="refused", description=__doc__.split("\n")[0])
     parser.add_argument("--size", type=int, default=100, help="how many edits at most in one check")
-    parser.add_argument("--warm", action="store_true", help="begin over what rt check kept in out/, and not from nothing")
+    parser.add_argument("--warm", action="store_true", help="begin over what rt check kept in out/, and over the libraries that it built")
     parser.add_argument("--built", action="store_true", help="take the libraries below as rt ci has just built them")
     parser.add_argument("--seeds", metavar="FOLDER", help="begin over what rt ci proved, where seeds.py kept it there")
     parser.add_argument("--root", default=str(ROOT), help="the repository, if another than this one")
@@ -148,7 +148,7 @@ def main():
             for it in crates:
                 if it.name not in given.names:
                     shutil.rmtree(f"{it.folder}/refused", ignore_errors=True)
-        trials, tasks = tasks_of(crates, root, room, max(given.size, 1), given.built)
+        trials, tasks = tasks_of(crates, root, room, max(given.size, 1), given.built or given.warm)
         RT.in_lanes(tasks)
         return 1 if report(trials) else 0
 
