@@ -21,7 +21,7 @@ sys.dont_write_bytecode = True
 from kit import RATTLE, RT
 
 # in seconds; a library takes far longer, and what comes after the last look is proved anew
-BETWEEN_LOOKS = 0.5
+BETWEEN_LOOKS = 1
 
 
 def name_of_kept():
@@ -50,22 +50,19 @@ def library_of(folder, crates):
 
 
 def follow(folder, kept, seen):
-    """Links what has come to a folder of checked modules since the last look; seen has the number of each file that was linked."""
+    """Links what has come to a folder of checked modules since the last look; seen has the names that were there then."""
     os.makedirs(kept, exist_ok=True)
-    for it in os.scandir(folder):
-        if not it.name.endswith(".oantt") or seen.get(it.name) == it.inode():
-            continue
-        if it.name in seen:
-            os.remove(f"{kept}/{it.name}")
-        os.link(it.path, f"{kept}/{it.name}")
-        seen[it.name] = it.inode()
+    for name in {*os.listdir(folder)} - seen:
+        if name.endswith(".oantt"):
+            os.link(f"{folder}/{name}", f"{kept}/{name}")
+        seen.add(name)
 
 
 def look(to, name, crates, known):
-    """Looks once at each folder of checked modules; known has, by folder, its crate and the files that were linked."""
+    """Looks once at each folder of checked modules; known has, by folder, its crate and the names that were there before."""
     for folder in glob.glob(f"{tempfile.gettempdir()}/rattle-*-[0-9]*-[0-9]*"):
         if folder not in known:
-            known[folder] = library_of(folder, crates), {}
+            known[folder] = library_of(folder, crates), set()
         crate, seen = known[folder]
         if crate:
             try:
