@@ -53,7 +53,7 @@ def follow(folder, kept, seen):
     """Links what has come to a folder of checked modules since the last look; seen has the names that were there then."""
     os.makedirs(kept, exist_ok=True)
     for name in {*os.listdir(folder)} - seen:
-        if name.endswith(".oantt"):
+        if name.endswith(".oantt") and not os.path.exists(f"{kept}/{name}"):
             os.link(f"{folder}/{name}", f"{kept}/{name}")
         seen.add(name)
 
