@@ -98,6 +98,13 @@ numbered_at number text = do
   found ← number_at text
   if found.0 == number then Some found.1 else None
 
+-- what stands behind a label, this number and a space
+abbrev pub labelled_at : List ℕ → ℕ → List ℕ → Option (List ℕ)
+labelled_at label number text = do
+  text ← behind label text
+  text ← numbered_at number text
+  behind (codes " ") text
+
 -- `line L`, the memory word, and memory's line
 unfoldable pub memory_at : ℕ → List ℕ → Option (Mem × Line × List ℕ)
 memory_at number text = do
