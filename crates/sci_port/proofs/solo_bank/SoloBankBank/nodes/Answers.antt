@@ -1,4 +1,4 @@
-use Rattle.std.proofs.Common.{◌≡◌, refl, sym}
+use Rattle.std.proofs.Common.{◌≡◌}
 use Rattle.sci_core.specs.Whole.{nodes_of}
 use Rattle.sci_port.specs.Banks.{LentLines, lent_lines, nodes_at}
 use Rattle.sci_port.proofs.Banked.{holds_of_read}
