@@ -3,7 +3,7 @@ use Rattle.std.proofs.Common.{◌≡◌, ◌∙◌, ℕ, List, Option, Some, Non
 use Rattle.std.specs.Prelude.{codes}
 use Rattle.sci_words.specs.declared.memory.Mem.{Mem}
 use Rattle.sci_core.specs.declared.lines.Line.{Line}
-use Rattle.sci_dump.specs.Reading.{◌>>=◌, behind, numbered_at, labelled_at, word_at, mem_of, content_at, memory_at, node_at, count_at, head_at}
+use Rattle.sci_dump.specs.Reading.{◌>>=◌, behind, numbered_at, labelled_at, word_at, mem_of, content_at, memory_at, node_at, count_at, counted_at, head_at}
 
 -- parts one after another, in either grouping
 grouped : {A B C : Type 0} (o : Option A) (f : A → Option B) (g : B → Option C) → (o >>= λ x. f x >>= g) ≡ (o >>= f >>= g)
@@ -58,23 +58,31 @@ node_no_number number node text rest e n = node_from number node text (Some rest
 pub node_all : (number node : ℕ) (text rest more : List ℕ) → labelled_at (codes "tag ") number text ≡ Some rest → numbered_at node rest ≡ Some more → node_at number node text ≡ behind (codes " ") more
 node_all number node text rest more e n = node_from number node text (Some rest) e ∙ rw n refl
 
--- the first line of text
-pub head_no_name : (text : List ℕ) → behind (codes "scidump 1 ") text ≡ None → head_at text ≡ None
-unfolding head_at
-head_no_name text e = rw e refl
+-- the first line of text behind the number of nodes
+abbrev head_ended : ℕ → ℕ × List ℕ → Option (ℕ × ℕ × List ℕ)
+head_ended nodes lines = behind (codes "\n") lines.1 >>= λ t. Some (nodes, lines.0, t)
 
-pub head_no_nodes : (text t : List ℕ) → behind (codes "scidump 1 ") text ≡ Some t → count_at 64 t ≡ None → head_at text ≡ None
-unfolding head_at
-head_no_nodes text t e n = rw (e, n) refl
+abbrev head_spaced : ℕ × List ℕ → Option (ℕ × ℕ × List ℕ)
+head_spaced nodes = behind (codes " ") nodes.1 >>= λ t. count_at 1024 t >>= λ lines. behind (codes "\n") lines.1 >>= λ u. Some (nodes.0, lines.0, u)
 
-pub head_no_space : (text t u : List ℕ) (nodes : ℕ) → behind (codes "scidump 1 ") text ≡ Some t → count_at 64 t ≡ Some (nodes, u) → behind (codes " ") u ≡ None → head_at text ≡ None
+head_from : (text : List ℕ) (nodes : Option (ℕ × List ℕ)) → counted_at (codes "scidump 1 ") 64 text ≡ nodes → head_at text ≡ (nodes >>= head_spaced)
 unfolding head_at
-head_no_space text t u nodes e n s = rw (e, n, s) refl
+head_from text nodes e = grouped (behind (codes "scidump 1 ") text) (λ t. count_at 64 t) head_spaced ∙ ap (λ (o : Option (ℕ × List ℕ)). o >>= head_spaced) e
 
-pub head_no_lines : (text t u v : List ℕ) (nodes : ℕ) → behind (codes "scidump 1 ") text ≡ Some t → count_at 64 t ≡ Some (nodes, u) → behind (codes " ") u ≡ Some v → count_at 1024 v ≡ None → head_at text ≡ None
-unfolding head_at
-head_no_lines text t u v nodes e n s l = rw (e, n, s, l) refl
+head_lines : (text u : List ℕ) (nodes : ℕ) (lines : Option (ℕ × List ℕ)) → counted_at (codes "scidump 1 ") 64 text ≡ Some (nodes, u) → counted_at (codes " ") 1024 u ≡ lines → head_at text ≡ (lines >>= head_ended nodes)
+head_lines text u nodes lines e l =
+    head_from text (Some (nodes, u)) e
+    ∙ grouped (behind (codes " ") u) (λ t. count_at 1024 t) (head_ended nodes)
+    ∙ ap (λ (o : Option (ℕ × List ℕ)). o >>= head_ended nodes) l
 
-pub head_no_end : (text t u v w : List ℕ) (nodes lines : ℕ) → behind (codes "scidump 1 ") text ≡ Some t → count_at 64 t ≡ Some (nodes, u) → behind (codes " ") u ≡ Some v → count_at 1024 v ≡ Some (lines, w) → behind (codes "\n") w ≡ None → head_at text ≡ None
-unfolding head_at
-head_no_end text t u v w nodes lines e n s l b = rw (e, n, s, l, b) refl
+pub head_no_nodes : (text : List ℕ) → counted_at (codes "scidump 1 ") 64 text ≡ None → head_at text ≡ None
+head_no_nodes text e = head_from text None e
+
+pub head_no_lines : (text u : List ℕ) (nodes : ℕ) → counted_at (codes "scidump 1 ") 64 text ≡ Some (nodes, u) → counted_at (codes " ") 1024 u ≡ None → head_at text ≡ None
+head_no_lines text u nodes e l = head_lines text u nodes None e l
+
+pub head_no_end : (text u v : List ℕ) (nodes lines : ℕ) → counted_at (codes "scidump 1 ") 64 text ≡ Some (nodes, u) → counted_at (codes " ") 1024 u ≡ Some (lines, v) → behind (codes "\n") v ≡ None → head_at text ≡ None
+head_no_end text u v nodes lines e l b = head_lines text u nodes (Some (lines, v)) e l ∙ rw b refl
+
+pub head_all : (text u v rest : List ℕ) (nodes lines : ℕ) → counted_at (codes "scidump 1 ") 64 text ≡ Some (nodes, u) → counted_at (codes " ") 1024 u ≡ Some (lines, v) → behind (codes "\n") v ≡ Some rest → head_at text ≡ Some (nodes, lines, rest)
+head_all text u v rest nodes lines e l b = head_lines text u nodes (Some (lines, v)) e l ∙ rw b refl

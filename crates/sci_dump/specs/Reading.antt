@@ -139,6 +139,12 @@ count_at most text = do
   found ← number_at text
   if nat_le 1 found.0 && nat_le found.0 most then Some found else None
 
+-- a label, and a number from 1 to this one
+abbrev pub counted_at : List ℕ → ℕ → List ℕ → Option (ℕ × List ℕ)
+counted_at label most text = do
+  text ← behind label text
+  count_at most text
+
 -- `scidump 1 NODES LINES`
 unfoldable pub head_at : List ℕ → Option (ℕ × ℕ × List ℕ)
 head_at text = do

@@ -3,7 +3,7 @@
 ghost use Rattle.std.specs.Prelude.{◌≡◌, ◌≤◌, true, IfSome};
 ghost use Rattle.sci_words.specs.Mem.{mem_well_formed};
 ghost use Rattle.sci_words.specs.Tag.{is_invalid, tag_well_formed};
-ghost use Rattle.sci_dump.specs.Reading.{Reads, mem_of, tag_of, labelled_at, memory_at, node_at, tag_at, head_at};
+ghost use Rattle.sci_dump.specs.Reading.{Reads, mem_of, tag_of, labelled_at, memory_at, node_at, tag_at, counted_at, head_at};
 
 use crate::fields::{behind, content, count, numbered, word};
 use sci_core::Line;
@@ -87,16 +87,22 @@ pub fn tag_row(text: &[u8]) -> Option<(Tag, Line, &[u8])>
     Some((tag, line, rest))
 }
 
+/// A label, and a number from 1 to this one.
+fn counted<'a>(label: &[u8], most: u64, text: &'a [u8]) -> Option<(u64, &'a [u8])>
+    ensures exact { Reads (λ x. (x.0, x.1.now)) result (counted_at label.now most text.now) }
+    ensures range { IfSome result (λ x. (1 ≤ x.0) × (x.0 ≤ most)) }
+{
+    let text = behind(label, text)?;
+    count(most, text)
+}
+
 /// `scidump 1 NODES LINES`.
-#[tactic(auto, unfolding(crate::specs::Reading::head_at))]
 pub fn head_row(text: &[u8]) -> Option<(u16, u16, &[u8])>
     ensures exact { Reads (λ x. (x.0, x.1, x.2.now)) result (head_at text.now) }
     ensures range { IfSome result (λ x. (1 ≤ x.0) × (x.0 ≤ 64) × (1 ≤ x.1) × (x.1 ≤ 1024)) }
 {
-    let text = behind(b"scidump 1 ", text)?;
-    let (nodes, text) = count(64, text)?;
-    let text = behind(b" ", text)?;
-    let (lines, text) = count(1024, text)?;
+    let (nodes, text) = counted(b"scidump 1 ", 64, text)?;
+    let (lines, text) = counted(b" ", 1024, text)?;
     let rest = behind(b"\n", text)?;
     Some((nodes as u16, lines as u16, rest))
 }
