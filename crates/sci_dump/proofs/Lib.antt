@@ -2,6 +2,7 @@ pub mod Digits
 pub mod Parts
 pub mod Hexadecimal
 pub mod Tags
+pub mod Labelled
 pub mod Writing
 pub mod Looping
 pub mod Walks

@@ -98,6 +98,13 @@ numbered_at number text = do
   found ← number_at text
   if found.0 == number then Some found.1 else None
 
+-- what stands behind a label, this number and a space
+abbrev pub labelled_at : List ℕ → ℕ → List ℕ → Option (List ℕ)
+labelled_at label number text = do
+  text ← behind label text
+  text ← numbered_at number text
+  behind (codes " ") text
+
 -- `line L`, the memory word, and memory's line
 unfoldable pub memory_at : ℕ → List ℕ → Option (Mem × Line × List ℕ)
 memory_at number text = do
@@ -131,6 +138,12 @@ unfoldable pub count_at : ℕ → List ℕ → Option (ℕ × List ℕ)
 count_at most text = do
   found ← number_at text
   if nat_le 1 found.0 && nat_le found.0 most then Some found else None
+
+-- a label, and a number from 1 to this one
+abbrev pub counted_at : List ℕ → ℕ → List ℕ → Option (ℕ × List ℕ)
+counted_at label most text = do
+  text ← behind label text
+  count_at most text
 
 -- `scidump 1 NODES LINES`
 unfoldable pub head_at : List ℕ → Option (ℕ × ℕ × List ℕ)

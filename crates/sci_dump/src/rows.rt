@@ -3,7 +3,7 @@
 ghost use Rattle.std.specs.Prelude.{◌≡◌, ◌≤◌, true, IfSome};
 ghost use Rattle.sci_words.specs.Mem.{mem_well_formed};
 ghost use Rattle.sci_words.specs.Tag.{is_invalid, tag_well_formed};
-ghost use Rattle.sci_dump.specs.Reading.{Reads, mem_of, tag_of, memory_at, node_at, tag_at, head_at};
+ghost use Rattle.sci_dump.specs.Reading.{Reads, mem_of, tag_of, labelled_at, memory_at, node_at, tag_at, counted_at, head_at};
 
 use crate::fields::{behind, content, count, numbered, word};
 use sci_core::Line;
@@ -45,15 +45,21 @@ fn tag(word: u64) -> Option<Tag>
     }
 }
 
+/// What stands behind a label, this number and a space.
+fn labelled<'a>(label: &[u8], number: u64, text: &'a [u8]) -> Option<&'a [u8]>
+    ensures { Reads (λ t. t.now) result (labelled_at label.now number text.now) }
+{
+    let text = behind(label, text)?;
+    let text = numbered(number, text)?;
+    behind(b" ", text)
+}
+
 /// `line L`, the memory word, and memory's line.
-#[tactic(auto, unfolding(crate::specs::Reading::memory_at))]
 pub fn memory_row(number: u64, text: &[u8]) -> Option<(Mem, Line, &[u8])>
     ensures exact { Reads (λ x. (x.0, x.1, x.2.now)) result (memory_at number text.now) }
     ensures well_formed { IfSome result (λ x. mem_well_formed x.0 ≡ true) }
 {
-    let text = behind(b"line ", text)?;
-    let text = numbered(number, text)?;
-    let text = behind(b" ", text)?;
+    let text = labelled(b"line ", number, text)?;
     let (word, text) = word(text)?;
     let mem = mem(word)?;
     let (line, rest) = content(text)?;
@@ -61,13 +67,10 @@ pub fn memory_row(number: u64, text: &[u8]) -> Option<(Mem, Line, &[u8])>
 }
 
 /// What stands behind `tag L N `.
-#[tactic(auto, unfolding(crate::specs::Reading::node_at))]
 pub fn behind_node(number: u64, node: u64, text: &[u8]) -> Option<&[u8]>
     ensures { Reads (λ t. t.now) result (node_at number node text.now) }
 {
-    let text = behind(b"tag ", text)?;
-    let text = numbered(number, text)?;
-    let text = behind(b" ", text)?;
+    let text = labelled(b"tag ", number, text)?;
     let text = numbered(node, text)?;
     behind(b" ", text)
 }
@@ -84,16 +87,22 @@ pub fn tag_row(text: &[u8]) -> Option<(Tag, Line, &[u8])>
     Some((tag, line, rest))
 }
 
+/// A label, and a number from 1 to this one.
+fn counted<'a>(label: &[u8], most: u64, text: &'a [u8]) -> Option<(u64, &'a [u8])>
+    ensures exact { Reads (λ x. (x.0, x.1.now)) result (counted_at label.now most text.now) }
+    ensures range { IfSome result (λ x. (1 ≤ x.0) × (x.0 ≤ most)) }
+{
+    let text = behind(label, text)?;
+    count(most, text)
+}
+
 /// `scidump 1 NODES LINES`.
-#[tactic(auto, unfolding(crate::specs::Reading::head_at))]
 pub fn head_row(text: &[u8]) -> Option<(u16, u16, &[u8])>
     ensures exact { Reads (λ x. (x.0, x.1, x.2.now)) result (head_at text.now) }
     ensures range { IfSome result (λ x. (1 ≤ x.0) × (x.0 ≤ 64) × (1 ≤ x.1) × (x.1 ≤ 1024)) }
 {
-    let text = behind(b"scidump 1 ", text)?;
-    let (nodes, text) = count(64, text)?;
-    let text = behind(b" ", text)?;
-    let (lines, text) = count(1024, text)?;
+    let (nodes, text) = counted(b"scidump 1 ", 64, text)?;
+    let (lines, text) = counted(b" ", 1024, text)?;
     let rest = behind(b"\n", text)?;
     Some((nodes as u16, lines as u16, rest))
 }

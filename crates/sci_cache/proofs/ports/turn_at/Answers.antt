@@ -1,5 +1,7 @@
 use Rattle.std.proofs.Common.{rules, refl, sym, subst, ℕ}
 use Rattle.sci_ops.specs.Change.{StoresFitting}
+use Rattle.sci_ops.specs.Plan.{LoadsAtMost}
+use Rattle.sci_ops.specs.Table.{turn_of}
 use Rattle.sci_cache.proofs.Leaving.{ends_idle}
 use Rattle.sci_cache.proofs.Through.{turn_through, answer_through, chain_keeps, shows_answer, owes_fit}
 use Rattle.sci_cache.proofs.ports.turn_at.Goals as goal
@@ -45,3 +47,8 @@ returns-clause-idle g c = λ ends.
     (λ u call v k. g.met.B.Bank.owes u c.args.line call v k) c.args.op.now (g.B.Bank.way c.args.bank.now).node c.args.bank.now c.turn.result _
     (answer_through _ g.B.Bank.gives (λ x. x.bank.now) (λ x. x.line) (λ s call t h. (h.0, h.2)) (λ u. (g.B.Bank.way u).node) g.B.Bank.at_step c.args.op.now c.turn.result c.args.line c.new.result c.turn.new.port c.args.bank.now _ c.new.ensures.line c.new.ensures.same_bank (search rules) c.turn.ensures.answers)
     ends
+
+pub returns-clause-loads : goal.returns-clause-loads
+returns-clause-loads g c =
+    subst (λ u. LoadsAtMost 3 (turn_of c.args.op.now (g.B.Bank.way u).node (g.B.Bank.at_step u c.args.line))) c.new.ensures.same_bank
+    (subst (λ (l : ℕ). LoadsAtMost 3 (turn_of c.args.op.now (g.B.Bank.way c.new.result.bank.now).node (g.B.Bank.at_step c.new.result.bank.now l))) c.new.ensures.line c.turn.ensures.loads)

@@ -35,9 +35,9 @@ turns-preserved g c =
       same_op = c.in-Moved.ensures.op ∙ i.same_op;
       same_way = c.in-Moved.ensures.same_way ∙ i.same_way;
       same_fact = c.in-Moved.ensures.same_fact ∙ i.same_fact;
-      turns = (suc i.turns.0, omega (arith, c.count.ensures, i.turns.1), turn i.turns.2 h.0);
+      turns = (suc i.turns.0, omega (arith, i.turns.1), turn i.turns.2 h.0);
       alone = h.1.0;
-      cost = omega (arith, h.1.1, i.cost, c.count.ensures);
+      cost = omega (arith, h.1.1, i.cost);
     }
 
 pub turns-smaller : goal.turns-smaller
@@ -56,8 +56,8 @@ returns-in-Done g c =
     let h = turns (Solo g.row.K.Denot g.K.Keeps) g.K.Keeps.fits (λ s. s.whole.ghost_name) (λ s. s.whole.now) (λ s. s.node) c.args.solo.now c.turns.solo c.turn.new.port c.args.self.now c.turns.self (Turn.Done c.in-Done.answer) c.requires.begins i.same_op i.same_way i.same_fact i.alone c.in-Done.ensures.calls in
     let bound = bound_at_rest (nodes_of c.args.solo.now.whole.now) c.args.self.now.goal c.args.solo.now.node (state_of c.args.solo.now.whole.now) c.requires.rest in
     record {
-      turns = (suc i.turns.0, omega (arith, c.count.ensures, i.turns.1), record { before = i.turns.0; mid = state_of c.turns.solo.whole.now; moves = i.turns.2; last = h.0; count = refl });
-      bound = omega (arith, h.1.0, i.cost, c.count.ensures, bound);
+      turns = (suc i.turns.0, omega (arith, i.turns.1), record { before = i.turns.0; mid = state_of c.turns.solo.whole.now; moves = i.turns.2; last = h.0; count = refl });
+      bound = omega (arith, h.1.0, i.cost, bound);
       op = c.in-Done.ensures.op ∙ ap (λ (x : Operation). after_turn x (Turn.Done c.in-Done.answer)) i.same_op;
       rest = h.1.1;
       same_way = c.in-Done.ensures.same_way ∙ i.same_way;

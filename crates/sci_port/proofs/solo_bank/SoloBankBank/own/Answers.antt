@@ -1,8 +1,11 @@
-use Rattle.std.proofs.Common.{◌<◌, Some, subst, sym}
+use Rattle.std.proofs.Common.{◌<◌, Some, refl, subst, sym}
 use Rattle.sci_port.specs.Banks.{BankWay, lent_lines}
 use Rattle.sci_port.proofs.Banked.{look_given, node_below}
 use Rattle.sci_port.proofs.Seated.{own_form, own_word}
 use Rattle.sci_port.proofs.solo_bank.SoloBankBank.own.Goals as goal
+
+pub step-requires-clause-allowed : goal.step-requires-clause-allowed
+step-requires-clause-allowed g c = refl
 
 pub tag-requires : goal.tag-requires
 tag-requires g c = node_below g.K.Keeps.fits (lent_lines c.step.new.self.keep c.step.new.self.node c.step.new.self.wholes.items) c.args.line (subst (λ (w : BankWay). c.args.line < w.lines) (sym c.step.ensures.same_way) c.requires) c.step.new.self.of c.from.result c.index-whole.result.now c.index-whole.result.now c.from.ensures c.index-whole.ensures

@@ -1,0 +1,7 @@
+use Rattle.sci_port.proofs.at.AtPort.pending.Goals as goal
+
+pub returns-clause-value : goal.returns-clause-value
+returns-clause-value g c = c.pending.ensures.value
+
+pub returns-clause-sound : goal.returns-clause-sound
+returns-clause-sound g c = c.pending.ensures.sound

@@ -1,0 +1,5 @@
+use Rattle.std.proofs.Common.{refl}
+use Rattle.sci_port.proofs.solo.Solo.new.Goals as goal
+
+pub returns-clause-node : goal.returns-clause-node
+returns-clause-node g c = refl
