@@ -84,7 +84,7 @@ pub struct Step {
 }
 
 /// The content that a line opens with.
-#[derive(Clone, Copy, Debug, PartialEq, Eq)]
+#[derive(Clone, Copy, Debug)]
 pub struct Opening {
     pub line: LineNo,
     pub content: Line,

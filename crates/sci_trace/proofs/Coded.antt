@@ -20,6 +20,11 @@ pub coded_append : (coding : Coding) (xs ys : List ℕ) → coded coding (xs ++ 
 coded_append Coding.Plain xs ys = refl
 coded_append Coding.Escaped xs ys = flat_map-append entity xs ys
 
+-- what stands for one byte more
+pub escaped_more : (bytes : List ℕ) (i d : ℕ) → i < length bytes → escaped (take (i + 1) bytes) ≡ escaped (take i bytes) ++ entity (get_or bytes i d)
+escaped_more bytes i d lt =
+    ap escaped (take_more bytes i d lt) ∙ flat_map-append entity (take i bytes) (get_or bytes i d ∷ []) ∙ ap (λ (x : List ℕ). escaped (take i bytes) ++ x) (append-nil (entity (get_or bytes i d)))
+
 -- a front of what stands for a byte, behind what stands for the bytes before it
 pub escaped_cut : (bytes : List ℕ) (i d n : ℕ) → i < length bytes → n < length (entity (get_or bytes i d))
     → IsFront (escaped bytes) (escaped (take i bytes) ++ take n (entity (get_or bytes i d)))
@@ -27,7 +32,7 @@ escaped_cut bytes i d n lt less =
     let so_far : List ℕ = escaped (take i bytes) in
     let one : List ℕ = entity (get_or bytes i d) in
     let rest : List ℕ = escaped (drop (i + 1) bytes) in
-    let step : escaped (take (i + 1) bytes) ≡ so_far ++ one = ap escaped (take_more bytes i d lt) ∙ flat_map-append entity (take i bytes) (get_or bytes i d ∷ []) ∙ ap (λ (x : List ℕ). so_far ++ x) (append-nil one) in
+    let step : escaped (take (i + 1) bytes) ≡ so_far ++ one = escaped_more bytes i d lt in
     let whole : escaped bytes ≡ (so_far ++ one) ++ rest =
     ap escaped (sym (take-append-drop (i + 1) bytes)) ∙ flat_map-append entity (take (i + 1) bytes) (drop (i + 1) bytes) ∙ ap (λ (x : List ℕ). x ++ rest) step in
     let (m, short, is) = front_behind so_far one n less in

@@ -8,7 +8,7 @@ use sci_script::{WriteFailed, put};
 use std::io::Write;
 
 /// How a text is written.
-#[derive(Clone, Copy, Debug, PartialEq, Eq)]
+#[derive(Clone, Copy)]
 pub enum Coding {
     /// As it is.
     Plain,
