@@ -89,13 +89,23 @@ fn two_readers() -> [(u16, Event, Outcome); 8] {
     ]
 }
 
-// The second reader isn't allowed to settle, and the first turns back.
-fn behind_the_miss() -> [(u16, Event, Option<Outcome>); 3] {
-    [
-        (1, Event::Settle, None),
-        (0, Event::Unconverted, Some(Outcome::Done(None))),
-        (0, Event::Look, Some(Outcome::Done(None))),
-    ]
+/// The second reader isn't allowed to settle, and the first turns back.
+const BEHIND_THE_MISS: [(u16, Event, Option<Outcome>); 3] = [
+    (1, Event::Settle, None),
+    (0, Event::Unconverted, Some(Outcome::Done(None))),
+    (0, Event::Look, Some(Outcome::Done(None))),
+];
+
+// An event of a node through a port that records it comes to this.
+fn answers(
+    rt: &impl Abort,
+    whole: &mut Whole<AnyWords>,
+    trace: &mut Trace,
+    number: u16,
+    event: Event,
+    outcome: Option<Outcome>,
+) {
+    same(rt, &step(whole, trace, number, event), &outcome);
 }
 
 // At this place among those that passed stands this event of the node.
@@ -121,12 +131,11 @@ fn shows_the_miss(rt: &impl Abort, trace: &Trace) -> Result<(), Fail> {
 #[test]
 fn steps_two_readers(rt: HostRuntime) -> Result<(), Fail> {
     let (mut whole, mut trace) = opened(rt.alloc(), 16)?;
-    for (number, event, outcome) in two_readers() {
-        let answer = step(&mut whole, &mut trace, number, event);
-        same(&rt, &answer, &Some(outcome));
+    for (number, event, outcome) in &two_readers() {
+        answers(&rt, &mut whole, &mut trace, *number, *event, Some(*outcome));
     }
-    for (number, event, outcome) in behind_the_miss() {
-        same(&rt, &step(&mut whole, &mut trace, number, event), &outcome);
+    for (number, event, outcome) in &BEHIND_THE_MISS {
+        answers(&rt, &mut whole, &mut trace, *number, *event, *outcome);
     }
     shows_the_miss(&rt, &trace)
 }
@@ -154,10 +163,11 @@ fn tags_stand<P: Port>(rt: &impl Abort, port: &mut P)
     );
 }
 
-// The same through a recorder of the port.
-fn recorded_tags_stand<P: Port>(rt: &impl Abort, port: &mut P, trace: &mut Trace)
+// All that, the tags through a recorder of the port.
+fn words_stand<P: Port>(rt: &impl Abort, port: &mut P, trace: &mut Trace)
     requires { 1 < (P.way port.old).nodes }
 {
+    stands(rt, port);
     tags_stand(rt, &mut Recorder::new(port, trace));
 }
 
@@ -173,9 +183,7 @@ fn shows_a_look(rt: &impl Abort, trace: &Trace, node: NodeId) -> Result<(), Fail
 fn loads(rt: &impl Abort, whole: &mut Whole<AnyWords>, trace: &mut Trace) {
     let first = node(2);
     if first.get() < whole.nodes() {
-        let mut port = Solo::new(whole, first);
-        stands(rt, &mut port);
-        recorded_tags_stand(rt, &mut port, trace);
+        words_stand(rt, &mut Solo::new(whole, first), trace);
     }
 }
 
@@ -191,8 +199,7 @@ fn loads_the_words_that_stand(rt: HostRuntime) -> Result<(), Fail> {
 fn a_trace_without_room_is_cut(rt: HostRuntime) -> Result<(), Fail> {
     let (mut whole, mut trace) = opened(rt.alloc(), 3)?;
     for (place, (number, event, outcome)) in two_readers().iter().enumerate() {
-        let answer = step(&mut whole, &mut trace, *number, *event);
-        same(&rt, &answer, &Some(*outcome));
+        answers(&rt, &mut whole, &mut trace, *number, *event, Some(*outcome));
         same(&rt, &trace.events().is_some(), &(place < 3));
     }
     Ok(())

@@ -97,7 +97,10 @@ fn step(
 
 /// Events of nodes, if there are those nodes.
 #[tactic(auto, using(sci_core::proofs::Fitting::any_events_fit))]
-fn run(whole: &mut Whole<AnyWords>, events: &[(NodeId, Event)]) -> Option<Result<usize, usize>> {
+pub(crate) fn run(
+    whole: &mut Whole<AnyWords>,
+    events: &[(NodeId, Event)],
+) -> Option<Result<usize, usize>> {
     let nodes = whole.nodes();
     if events.iter().all(|event| event.0.get() < nodes) {
         Some(whole.run(events))
@@ -181,24 +184,27 @@ fn two_read(zero: NodeId, one: NodeId, alone: Tag) -> [(NodeId, Event); 7] {
     ]
 }
 
-// What further events come to, after those.
-fn then() -> [(u16, Event, Result<Outcome, NotInTurn>); 4] {
-    [
-        (0, Event::FreshToGone, Ok(Outcome::Missed(0x111))),
-        (1, Event::Settle, Err(NotInTurn)),
-        (0, Event::Unconverted, Ok(Outcome::Done(None))),
-        (0, Event::Look, Ok(Outcome::Done(None))),
-    ]
+/// What further events come to, after those.
+const THEN: [(u16, Event, Result<Outcome, NotInTurn>); 4] = [
+    (0, Event::FreshToGone, Ok(Outcome::Missed(0x111))),
+    (1, Event::Settle, Err(NotInTurn)),
+    (0, Event::Unconverted, Ok(Outcome::Done(None))),
+    (0, Event::Look, Ok(Outcome::Done(None))),
+];
+
+// Two readers, the second of whom prepends itself. None: there are no such nodes.
+fn two_have_read(whole: &mut Whole<AnyWords>) -> Option<Result<usize, usize>> {
+    run(whole, &two_read(node(0), node(1), ALONE))
 }
 
 #[test]
 fn runs_two_readers(rt: HostRuntime) -> Result<(), Fail> {
     let mut whole = Whole::open(rt.alloc(), 2, 0, LINE, AnyWords)?;
-    let readers = two_read(node(0), node(1), ALONE);
-    same(&rt, &run(&mut whole, &readers), &Some(Ok(7)));
+    same(&rt, &two_have_read(&mut whole), &Some(Ok(7)));
     is_chain(&rt, &whole.chain(rt.alloc())?, &[1, 0]);
-    for (number, event, outcome) in then() {
-        same(&rt, &step(&mut whole, number, event), &Some(outcome));
+    for (number, event, outcome) in &THEN {
+        let came = step(&mut whole, *number, *event);
+        same(&rt, &came, &Some(*outcome));
     }
     Ok(())
 }
