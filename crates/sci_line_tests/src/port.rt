@@ -75,36 +75,33 @@ fn opened(alloc: Global, room: usize) -> Result<(Whole<AnyWords>, Trace), Fail> 
     Ok((whole, Trace::new(events)))
 }
 
+/// A node's event, and what it comes to. None: it isn't allowed.
+type Row = (u16, Event, Option<Outcome>);
+
 // A reader who turns to a writer, until a second reader comes in before it.
-fn two_readers() -> [(u16, Event, Outcome); 8] {
+fn two_readers() -> [Row; 8] {
     [
-        (0, Event::Queue(None), Outcome::Done(None)),
-        (0, Event::PrependValid, Outcome::Done(None)),
-        (0, Event::ReturnMemory, Outcome::Done(None)),
-        (0, Event::Settle, Outcome::Done(Some(LINE))),
-        (0, Event::Convert(fresh(None)), Outcome::Done(None)),
-        (1, Event::Queue(Some(node(0))), Outcome::Done(None)),
-        (1, Event::PrependValid, Outcome::Done(None)),
-        (0, Event::FreshToGone, Outcome::Missed(0x111)),
+        (0, Event::Queue(None), Some(Outcome::Done(None))),
+        (0, Event::PrependValid, Some(Outcome::Done(None))),
+        (0, Event::ReturnMemory, Some(Outcome::Done(None))),
+        (0, Event::Settle, Some(Outcome::Done(Some(LINE)))),
+        (0, Event::Convert(fresh(None)), Some(Outcome::Done(None))),
+        (1, Event::Queue(Some(node(0))), Some(Outcome::Done(None))),
+        (1, Event::PrependValid, Some(Outcome::Done(None))),
+        (0, Event::FreshToGone, Some(Outcome::Missed(0x111))),
     ]
 }
 
 /// The second reader isn't allowed to settle, and the first turns back.
-const BEHIND_THE_MISS: [(u16, Event, Option<Outcome>); 3] = [
+const BEHIND_THE_MISS: [Row; 3] = [
     (1, Event::Settle, None),
     (0, Event::Unconverted, Some(Outcome::Done(None))),
     (0, Event::Look, Some(Outcome::Done(None))),
 ];
 
 // An event of a node through a port that records it comes to this.
-fn answers(
-    rt: &impl Abort,
-    whole: &mut Whole<AnyWords>,
-    trace: &mut Trace,
-    number: u16,
-    event: Event,
-    outcome: Option<Outcome>,
-) {
+fn comes_to(rt: &impl Abort, whole: &mut Whole<AnyWords>, trace: &mut Trace, row: &Row) {
+    let (number, event, outcome) = *row;
     same(rt, &step(whole, trace, number, event), &outcome);
 }
 
@@ -131,11 +128,11 @@ fn shows_the_miss(rt: &impl Abort, trace: &Trace) -> Result<(), Fail> {
 #[test]
 fn steps_two_readers(rt: HostRuntime) -> Result<(), Fail> {
     let (mut whole, mut trace) = opened(rt.alloc(), 16)?;
-    for (number, event, outcome) in &two_readers() {
-        answers(&rt, &mut whole, &mut trace, *number, *event, Some(*outcome));
+    for row in &two_readers() {
+        comes_to(&rt, &mut whole, &mut trace, row);
     }
-    for (number, event, outcome) in &BEHIND_THE_MISS {
-        answers(&rt, &mut whole, &mut trace, *number, *event, *outcome);
+    for row in &BEHIND_THE_MISS {
+        comes_to(&rt, &mut whole, &mut trace, row);
     }
     shows_the_miss(&rt, &trace)
 }
@@ -198,8 +195,8 @@ fn loads_the_words_that_stand(rt: HostRuntime) -> Result<(), Fail> {
 #[test]
 fn a_trace_without_room_is_cut(rt: HostRuntime) -> Result<(), Fail> {
     let (mut whole, mut trace) = opened(rt.alloc(), 3)?;
-    for (place, (number, event, outcome)) in two_readers().iter().enumerate() {
-        answers(&rt, &mut whole, &mut trace, *number, *event, Some(*outcome));
+    for (place, row) in two_readers().iter().enumerate() {
+        comes_to(&rt, &mut whole, &mut trace, row);
         same(&rt, &trace.events().is_some(), &(place < 3));
     }
     Ok(())

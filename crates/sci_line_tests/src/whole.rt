@@ -184,8 +184,17 @@ fn two_read(zero: NodeId, one: NodeId, alone: Tag) -> [(NodeId, Event); 7] {
     ]
 }
 
+/// A node's event, and what it comes to.
+type Row = (u16, Event, Result<Outcome, NotInTurn>);
+
+// A node's event comes to this.
+fn comes_to(rt: &impl Abort, whole: &mut Whole<AnyWords>, row: &Row) {
+    let (number, event, outcome) = *row;
+    same(rt, &step(whole, number, event), &Some(outcome));
+}
+
 /// What further events come to, after those.
-const THEN: [(u16, Event, Result<Outcome, NotInTurn>); 4] = [
+const THEN: [Row; 4] = [
     (0, Event::FreshToGone, Ok(Outcome::Missed(0x111))),
     (1, Event::Settle, Err(NotInTurn)),
     (0, Event::Unconverted, Ok(Outcome::Done(None))),
@@ -202,9 +211,8 @@ fn runs_two_readers(rt: HostRuntime) -> Result<(), Fail> {
     let mut whole = Whole::open(rt.alloc(), 2, 0, LINE, AnyWords)?;
     same(&rt, &two_have_read(&mut whole), &Some(Ok(7)));
     is_chain(&rt, &whole.chain(rt.alloc())?, &[1, 0]);
-    for (number, event, outcome) in &THEN {
-        let came = step(&mut whole, *number, *event);
-        same(&rt, &came, &Some(*outcome));
+    for row in &THEN {
+        comes_to(&rt, &mut whole, row);
     }
     Ok(())
 }

@@ -3,6 +3,7 @@ use super::{ALONE, LINE, node, run, step, two_have_read};
 use crate::checks::same;
 use sci_core::{AnyWords, Event, Line, Outcome, Whole};
 use sci_words::{Kind, NodeId, Tag};
+use std::process::Abort;
 use std::test::Fail;
 
 const WORDS: [u64; 8] = [9; 8];
@@ -36,12 +37,18 @@ const READS_AND_WRITES: [(Event, Option<Line>); 12] = [
     (Event::BeginPurge(DIRTY), Some(WRITTEN)),
 ];
 
+// An event of node 0 answers this line, or none.
+fn answers(rt: &impl Abort, whole: &mut Whole<AnyWords>, row: &(Event, Option<Line>)) {
+    let (event, answer) = *row;
+    let outcome = step(whole, 0, event);
+    same(rt, &outcome, &Some(Ok(Outcome::Done(answer))));
+}
+
 #[test]
 fn four_rows_answer_the_line(rt: HostRuntime) -> Result<(), Fail> {
     let mut whole = Whole::open(rt.alloc(), 1, 0, LINE, AnyWords)?;
-    for (event, answer) in &READS_AND_WRITES {
-        let outcome = step(&mut whole, 0, *event);
-        same(&rt, &outcome, &Some(Ok(Outcome::Done(*answer))));
+    for row in &READS_AND_WRITES {
+        answers(&rt, &mut whole, row);
     }
     Ok(())
 }
