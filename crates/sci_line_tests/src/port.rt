@@ -92,12 +92,14 @@ fn two_readers() -> [Row; 8] {
     ]
 }
 
-/// The second reader isn't allowed to settle, and the first turns back.
-const BEHIND_THE_MISS: [Row; 3] = [
-    (1, Event::Settle, None),
-    (0, Event::Unconverted, Some(Outcome::Done(None))),
-    (0, Event::Look, Some(Outcome::Done(None))),
-];
+// The second reader isn't allowed to settle, and the first turns back.
+fn behind_the_miss() -> [Row; 3] {
+    [
+        (1, Event::Settle, None),
+        (0, Event::Unconverted, Some(Outcome::Done(None))),
+        (0, Event::Look, Some(Outcome::Done(None))),
+    ]
+}
 
 // An event of a node through a port that records it comes to this.
 fn comes_to(rt: &impl Abort, whole: &mut Whole<AnyWords>, trace: &mut Trace, row: &Row) {
@@ -131,7 +133,7 @@ fn steps_two_readers(rt: HostRuntime) -> Result<(), Fail> {
     for row in &two_readers() {
         comes_to(&rt, &mut whole, &mut trace, row);
     }
-    for row in &BEHIND_THE_MISS {
+    for row in &behind_the_miss() {
         comes_to(&rt, &mut whole, &mut trace, row);
     }
     shows_the_miss(&rt, &trace)

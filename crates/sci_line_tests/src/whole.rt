@@ -193,13 +193,15 @@ fn comes_to(rt: &impl Abort, whole: &mut Whole<AnyWords>, row: &Row) {
     same(rt, &step(whole, number, event), &Some(outcome));
 }
 
-/// What further events come to, after those.
-const THEN: [Row; 4] = [
-    (0, Event::FreshToGone, Ok(Outcome::Missed(0x111))),
-    (1, Event::Settle, Err(NotInTurn)),
-    (0, Event::Unconverted, Ok(Outcome::Done(None))),
-    (0, Event::Look, Ok(Outcome::Done(None))),
-];
+// What further events come to, after those.
+fn then() -> [Row; 4] {
+    [
+        (0, Event::FreshToGone, Ok(Outcome::Missed(0x111))),
+        (1, Event::Settle, Err(NotInTurn)),
+        (0, Event::Unconverted, Ok(Outcome::Done(None))),
+        (0, Event::Look, Ok(Outcome::Done(None))),
+    ]
+}
 
 // Two readers, the second of whom prepends itself. None: there are no such nodes.
 fn two_have_read(whole: &mut Whole<AnyWords>) -> Option<Result<usize, usize>> {
@@ -211,7 +213,7 @@ fn runs_two_readers(rt: HostRuntime) -> Result<(), Fail> {
     let mut whole = Whole::open(rt.alloc(), 2, 0, LINE, AnyWords)?;
     same(&rt, &two_have_read(&mut whole), &Some(Ok(7)));
     is_chain(&rt, &whole.chain(rt.alloc())?, &[1, 0]);
-    for row in &THEN {
+    for row in &then() {
         comes_to(&rt, &mut whole, row);
     }
     Ok(())

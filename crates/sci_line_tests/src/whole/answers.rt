@@ -21,21 +21,23 @@ const WRITTEN: Line = Line {
     stamp: 41,
 };
 
-/// A node alone reads, reads again, turns to a writer, writes, and begins another write, with the line that each event answers.
-const READS_AND_WRITES: [(Event, Option<Line>); 12] = [
-    (Event::Queue(None), None),
-    (Event::PrependValid, None),
-    (Event::ReturnMemory, None),
-    (Event::Settle, Some(LINE)),
-    (Event::Hold(ALONE), None),
-    (Event::Unhold, Some(LINE)),
-    (Event::Convert(ALONE), None),
-    (Event::FreshToGone, None),
-    (Event::Converted, Some(LINE)),
-    (Event::Look, None),
-    (Event::Written(Some(WORDS)), None),
-    (Event::BeginPurge(DIRTY), Some(WRITTEN)),
-];
+// A node alone reads, reads again, turns to a writer, writes, and begins another write, with the line that each event answers.
+fn reads_and_writes() -> [(Event, Option<Line>); 12] {
+    [
+        (Event::Queue(None), None),
+        (Event::PrependValid, None),
+        (Event::ReturnMemory, None),
+        (Event::Settle, Some(LINE)),
+        (Event::Hold(ALONE), None),
+        (Event::Unhold, Some(LINE)),
+        (Event::Convert(ALONE), None),
+        (Event::FreshToGone, None),
+        (Event::Converted, Some(LINE)),
+        (Event::Look, None),
+        (Event::Written(Some(WORDS)), None),
+        (Event::BeginPurge(DIRTY), Some(WRITTEN)),
+    ]
+}
 
 // An event of node 0 answers this line, or none.
 fn answers(rt: &impl Abort, whole: &mut Whole<AnyWords>, row: &(Event, Option<Line>)) {
@@ -47,7 +49,7 @@ fn answers(rt: &impl Abort, whole: &mut Whole<AnyWords>, row: &(Event, Option<Li
 #[test]
 fn four_rows_answer_the_line(rt: HostRuntime) -> Result<(), Fail> {
     let mut whole = Whole::open(rt.alloc(), 1, 0, LINE, AnyWords)?;
-    for row in &READS_AND_WRITES {
+    for row in &reads_and_writes() {
         answers(&rt, &mut whole, row);
     }
     Ok(())

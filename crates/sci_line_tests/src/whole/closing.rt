@@ -61,18 +61,20 @@ const WRITER: Tag = Tag {
     back: None,
 };
 
-/// A node's events that store on its own, and the bytes that it shows after each. None: they are open.
-const STORES: [(Event, Option<Line>); 9] = [
-    (Event::Queue(None), None),
-    (Event::PrependValid, Some(OPENING)),
-    (Event::ReturnMemory, Some(OPENING)),
-    (Event::Settle, Some(OPENING)),
-    (Event::Convert(ALONE), Some(OPENING)),
-    (Event::FreshToGone, Some(OPENING)),
-    (Event::Converted, Some(OPENING)),
-    (Event::Look, Some(OPENING)),
-    (Event::Written(Some(WORDS)), Some(WRITTEN)),
-];
+// A node's events that store on its own, and the bytes that it shows after each. None: they are open.
+fn stores() -> [(Event, Option<Line>); 9] {
+    [
+        (Event::Queue(None), None),
+        (Event::PrependValid, Some(OPENING)),
+        (Event::ReturnMemory, Some(OPENING)),
+        (Event::Settle, Some(OPENING)),
+        (Event::Convert(ALONE), Some(OPENING)),
+        (Event::FreshToGone, Some(OPENING)),
+        (Event::Converted, Some(OPENING)),
+        (Event::Look, Some(OPENING)),
+        (Event::Written(Some(WORDS)), Some(WRITTEN)),
+    ]
+}
 
 // Another copies from that writer.
 fn copies(writer: NodeId) -> [(Event, Option<Line>); 5] {
@@ -146,7 +148,7 @@ fn all_show(
 fn shows_lines_in_hands(rt: HostRuntime) -> Result<(), Fail> {
     let (writer, reader) = (node(0), node(1));
     let mut whole = Whole::open(rt.alloc(), 2, 0, OPENING, AnyWords)?;
-    all_show(&rt, &mut whole, writer, reader, OPENING, &STORES);
+    all_show(&rt, &mut whole, writer, reader, OPENING, &stores());
     all_show(&rt, &mut whole, reader, writer, WRITTEN, &copies(writer));
     let closed = closed_of(rt.alloc(), &whole).ok_or("a node is in a step")?;
     let gone = mem(MemState::Gone, Some(reader));
