@@ -5,7 +5,7 @@ mod growths;
 mod memory;
 
 use crate::checks::{same, same_at};
-use crate::whole::{closed_of, node};
+use crate::whole::{closed_of, node, run};
 use sci_core::{AnyWords, Closed, Event, Line, Whole};
 use sci_dump::*;
 use sci_words::{Kind, NodeId, Tag};
@@ -266,42 +266,33 @@ fn fresh(forw: Option<NodeId>) -> Tag {
     }
 }
 
-// Makes a step of a node. None: its event is not in turn.
-#[tactic(auto, using(sci_core::proofs::Fitting::any_event_fits))]
-fn take(whole: &mut Whole<AnyWords>, node: NodeId, event: Event) -> Option<()> {
-    if node.get() >= whole.nodes() || whole.step(node, event).is_err() {
+// Nodes 0, 1 and 2 load, in this order.
+fn three_readers(zero: NodeId, one: NodeId, two: NodeId) -> [(NodeId, Event); 14] {
+    [
+        (zero, Event::Queue(None)),
+        (zero, Event::PrependValid),
+        (zero, Event::ReturnMemory),
+        (zero, Event::Settle),
+        (one, Event::Queue(Some(zero))),
+        (one, Event::PrependValid),
+        (one, Event::ReturnMemory),
+        (one, Event::AttachFresh(fresh(None))),
+        (one, Event::Settle),
+        (two, Event::Queue(Some(one))),
+        (two, Event::PrependValid),
+        (two, Event::ReturnMemory),
+        (two, Event::AttachFresh(fresh(Some(zero)))),
+        (two, Event::Settle),
+    ]
+}
+
+// The line that they have loaded. None: an event is not in turn, or there was no memory.
+fn shared(alloc: Global) -> Option<Closed> {
+    let mut whole = Whole::open(alloc, 3, 0, Line::ZERO, AnyWords).ok()?;
+    let readers = three_readers(node(0), node(1), node(2));
+    if run(&mut whole, &readers) != Some(Ok(14)) {
         return None;
     }
-    Some(())
-}
-
-// A node has found this head, enters the list in front of it, and has memory's bytes.
-fn enter(whole: &mut Whole<AnyWords>, node: NodeId, head: Option<NodeId>) -> Option<()> {
-    take(whole, node, Event::Queue(head))?;
-    take(whole, node, Event::PrependValid)?;
-    take(whole, node, Event::ReturnMemory)
-}
-
-// A node loads, in front of this head, whose entry names that node behind it.
-fn load(
-    whole: &mut Whole<AnyWords>,
-    node: NodeId,
-    head: NodeId,
-    behind: Option<NodeId>,
-) -> Option<()> {
-    enter(whole, node, Some(head))?;
-    take(whole, node, Event::AttachFresh(fresh(behind)))?;
-    take(whole, node, Event::Settle)
-}
-
-// The line that nodes 0, 1 and 2 have loaded, in this order. None: an event is not in turn, or there was no memory.
-fn shared(alloc: Global) -> Option<Closed> {
-    let (zero, one, two) = (node(0), node(1), node(2));
-    let mut whole = Whole::open(alloc, 3, 0, Line::ZERO, AnyWords).ok()?;
-    enter(&mut whole, zero, None)?;
-    take(&mut whole, zero, Event::Settle)?;
-    load(&mut whole, one, zero, None)?;
-    load(&mut whole, two, one, Some(zero))?;
     closed_of(alloc, &whole)
 }
 
@@ -322,6 +313,14 @@ fn is_read(rt: &impl Abort, lines: &[Closed], read: &Dump) {
     same_line(rt, line, back);
 }
 
+// The text is SHARED, and is read as this one line of three nodes.
+fn is_read_back(rt: &impl Abort, alloc: Global, lines: &[Closed], text: &str) -> Result<(), Fail> {
+    assert!(rt; text == SHARED);
+    let read = read_dump(alloc, text.as_bytes())?;
+    is_read(rt, lines, &read);
+    Ok(())
+}
+
 #[test]
 fn a_closed_line_is_dumped_and_read_back(rt: HostRuntime) -> Result<(), Fail> {
     let closed = shared(rt.alloc()).ok_or("no line at rest")?;
@@ -329,10 +328,7 @@ fn a_closed_line_is_dumped_and_read_back(rt: HostRuntime) -> Result<(), Fail> {
     assert!(rt; closed.tags.len() == 3);
     let lines = vec![in rt.alloc(); closed]?;
     let text = dump(rt.alloc(), &lines)?;
-    assert!(rt; text.as_str() == SHARED);
-    let read = read_dump(rt.alloc(), text.as_bytes())?;
-    is_read(&rt, &lines, &read);
-    Ok(())
+    is_read_back(&rt, rt.alloc(), &lines, text.as_str())
 }
 
 // The word of a node's tag, where 63 is the head, in front of 62, and so on to 0.

@@ -75,27 +75,36 @@ fn opened(alloc: Global, room: usize) -> Result<(Whole<AnyWords>, Trace), Fail> 
     Ok((whole, Trace::new(events)))
 }
 
+/// A node's event, and what it comes to. None: it isn't allowed.
+type Row = (u16, Event, Option<Outcome>);
+
 // A reader who turns to a writer, until a second reader comes in before it.
-fn two_readers() -> [(u16, Event, Outcome); 8] {
+fn two_readers() -> [Row; 8] {
     [
-        (0, Event::Queue(None), Outcome::Done(None)),
-        (0, Event::PrependValid, Outcome::Done(None)),
-        (0, Event::ReturnMemory, Outcome::Done(None)),
-        (0, Event::Settle, Outcome::Done(Some(LINE))),
-        (0, Event::Convert(fresh(None)), Outcome::Done(None)),
-        (1, Event::Queue(Some(node(0))), Outcome::Done(None)),
-        (1, Event::PrependValid, Outcome::Done(None)),
-        (0, Event::FreshToGone, Outcome::Missed(0x111)),
+        (0, Event::Queue(None), Some(Outcome::Done(None))),
+        (0, Event::PrependValid, Some(Outcome::Done(None))),
+        (0, Event::ReturnMemory, Some(Outcome::Done(None))),
+        (0, Event::Settle, Some(Outcome::Done(Some(LINE)))),
+        (0, Event::Convert(fresh(None)), Some(Outcome::Done(None))),
+        (1, Event::Queue(Some(node(0))), Some(Outcome::Done(None))),
+        (1, Event::PrependValid, Some(Outcome::Done(None))),
+        (0, Event::FreshToGone, Some(Outcome::Missed(0x111))),
     ]
 }
 
 // The second reader isn't allowed to settle, and the first turns back.
-fn behind_the_miss() -> [(u16, Event, Option<Outcome>); 3] {
+fn behind_the_miss() -> [Row; 3] {
     [
         (1, Event::Settle, None),
         (0, Event::Unconverted, Some(Outcome::Done(None))),
         (0, Event::Look, Some(Outcome::Done(None))),
     ]
+}
+
+// An event of a node through a port that records it comes to this.
+fn comes_to(rt: &impl Abort, whole: &mut Whole<AnyWords>, trace: &mut Trace, row: &Row) {
+    let (number, event, outcome) = *row;
+    same(rt, &step(whole, trace, number, event), &outcome);
 }
 
 // At this place among those that passed stands this event of the node.
@@ -121,12 +130,11 @@ fn shows_the_miss(rt: &impl Abort, trace: &Trace) -> Result<(), Fail> {
 #[test]
 fn steps_two_readers(rt: HostRuntime) -> Result<(), Fail> {
     let (mut whole, mut trace) = opened(rt.alloc(), 16)?;
-    for (number, event, outcome) in two_readers() {
-        let answer = step(&mut whole, &mut trace, number, event);
-        same(&rt, &answer, &Some(outcome));
+    for row in &two_readers() {
+        comes_to(&rt, &mut whole, &mut trace, row);
     }
-    for (number, event, outcome) in behind_the_miss() {
-        same(&rt, &step(&mut whole, &mut trace, number, event), &outcome);
+    for row in &behind_the_miss() {
+        comes_to(&rt, &mut whole, &mut trace, row);
     }
     shows_the_miss(&rt, &trace)
 }
@@ -154,10 +162,11 @@ fn tags_stand<P: Port>(rt: &impl Abort, port: &mut P)
     );
 }
 
-// The same through a recorder of the port.
-fn recorded_tags_stand<P: Port>(rt: &impl Abort, port: &mut P, trace: &mut Trace)
+// All that, the tags through a recorder of the port.
+fn words_stand<P: Port>(rt: &impl Abort, port: &mut P, trace: &mut Trace)
     requires { 1 < (P.way port.old).nodes }
 {
+    stands(rt, port);
     tags_stand(rt, &mut Recorder::new(port, trace));
 }
 
@@ -173,9 +182,7 @@ fn shows_a_look(rt: &impl Abort, trace: &Trace, node: NodeId) -> Result<(), Fail
 fn loads(rt: &impl Abort, whole: &mut Whole<AnyWords>, trace: &mut Trace) {
     let first = node(2);
     if first.get() < whole.nodes() {
-        let mut port = Solo::new(whole, first);
-        stands(rt, &mut port);
-        recorded_tags_stand(rt, &mut port, trace);
+        words_stand(rt, &mut Solo::new(whole, first), trace);
     }
 }
 
@@ -190,9 +197,8 @@ fn loads_the_words_that_stand(rt: HostRuntime) -> Result<(), Fail> {
 #[test]
 fn a_trace_without_room_is_cut(rt: HostRuntime) -> Result<(), Fail> {
     let (mut whole, mut trace) = opened(rt.alloc(), 3)?;
-    for (place, (number, event, outcome)) in two_readers().iter().enumerate() {
-        let answer = step(&mut whole, &mut trace, *number, *event);
-        same(&rt, &answer, &Some(*outcome));
+    for (place, row) in two_readers().iter().enumerate() {
+        comes_to(&rt, &mut whole, &mut trace, row);
         same(&rt, &trace.events().is_some(), &(place < 3));
     }
     Ok(())

@@ -97,7 +97,10 @@ fn step(
 
 /// Events of nodes, if there are those nodes.
 #[tactic(auto, using(sci_core::proofs::Fitting::any_events_fit))]
-fn run(whole: &mut Whole<AnyWords>, events: &[(NodeId, Event)]) -> Option<Result<usize, usize>> {
+pub(crate) fn run(
+    whole: &mut Whole<AnyWords>,
+    events: &[(NodeId, Event)],
+) -> Option<Result<usize, usize>> {
     let nodes = whole.nodes();
     if events.iter().all(|event| event.0.get() < nodes) {
         Some(whole.run(events))
@@ -181,8 +184,17 @@ fn two_read(zero: NodeId, one: NodeId, alone: Tag) -> [(NodeId, Event); 7] {
     ]
 }
 
+/// A node's event, and what it comes to.
+type Row = (u16, Event, Result<Outcome, NotInTurn>);
+
+// A node's event comes to this.
+fn comes_to(rt: &impl Abort, whole: &mut Whole<AnyWords>, row: &Row) {
+    let (number, event, outcome) = *row;
+    same(rt, &step(whole, number, event), &Some(outcome));
+}
+
 // What further events come to, after those.
-fn then() -> [(u16, Event, Result<Outcome, NotInTurn>); 4] {
+fn then() -> [Row; 4] {
     [
         (0, Event::FreshToGone, Ok(Outcome::Missed(0x111))),
         (1, Event::Settle, Err(NotInTurn)),
@@ -191,14 +203,18 @@ fn then() -> [(u16, Event, Result<Outcome, NotInTurn>); 4] {
     ]
 }
 
+// Two readers, the second of whom prepends itself. None: there are no such nodes.
+fn two_have_read(whole: &mut Whole<AnyWords>) -> Option<Result<usize, usize>> {
+    run(whole, &two_read(node(0), node(1), ALONE))
+}
+
 #[test]
 fn runs_two_readers(rt: HostRuntime) -> Result<(), Fail> {
     let mut whole = Whole::open(rt.alloc(), 2, 0, LINE, AnyWords)?;
-    let readers = two_read(node(0), node(1), ALONE);
-    same(&rt, &run(&mut whole, &readers), &Some(Ok(7)));
+    same(&rt, &two_have_read(&mut whole), &Some(Ok(7)));
     is_chain(&rt, &whole.chain(rt.alloc())?, &[1, 0]);
-    for (number, event, outcome) in then() {
-        same(&rt, &step(&mut whole, number, event), &Some(outcome));
+    for row in &then() {
+        comes_to(&rt, &mut whole, row);
     }
     Ok(())
 }

@@ -38,6 +38,12 @@ fn has_words(whole: &Whole<AnyWords>, number: u16) -> Option<bool> {
     Some(is_named && read_mem(write_mem(mem)) == Ok(mem) && read_tag(write_tag(tag)) == Ok(tag))
 }
 
+/// One turn of a node. Some(true): its operation has ended. None too: a word is read or named as another.
+fn ends(whole: &mut Whole<AnyWords>, trace: &mut Trace, number: u16, op: &mut Op) -> Option<bool> {
+    let taken = turn(whole, trace, number, op)?;
+    has_words(whole, number)?.then_some(matches!(taken, Turn::Done(_)))
+}
+
 /// Turns by chance of three nodes, each with one operation after the other: how many of them ended.
 fn turns(whole: &mut Whole<AnyWords>, trace: &mut Trace) -> Option<u32> {
     let mut ops = [Op::load(); 3];
@@ -46,14 +52,10 @@ fn turns(whole: &mut Whole<AnyWords>, trace: &mut Trace) -> Option<u32> {
     for _ in 0..TURNS {
         chance = next(chance);
         let number = (chance >> 16) as u16 % 3;
-        let mut at_work = ops[usize::from(number)];
-        if let Turn::Done(_) = turn(whole, trace, number, &mut at_work)? {
-            at_work = op(chance >> 20);
+        let at_work = &mut ops[usize::from(number)];
+        if ends(whole, trace, number, at_work)? {
+            *at_work = op(chance >> 20);
             ended = ended.saturating_add(1);
-        }
-        ops[usize::from(number)] = at_work;
-        if !has_words(whole, number)? {
-            return None;
         }
     }
     Some(ended)

@@ -1,13 +1,18 @@
 //! A run of several nodes, whose recorded events are done once more on another line.
 use crate::checks::{same, same_at};
-use sci_core::{AnyWords, Event, Line, Whole};
+use sci_core::{Event, Line, Whole};
 use sci_ops::{Answer, BadWord, Op, Turn};
-use sci_port::Solo;
 use sci_port::recording::{Recorder, Trace};
+use sci_port::{AnyWords, Port, Solo};
 use sci_words::NodeId;
 use std::alloc::Global;
 use std::process::Abort;
 use std::test::Fail;
+
+// One turn of an operation over a port, through a recorder of it.
+fn turn_on<P: Port<Keep = AnyWords>>(port: &mut P, trace: &mut Trace, op: &mut Op) -> Turn {
+    op.turn(&mut Recorder::new(port, trace))
+}
 
 // One turn of a node's operation, through a port that records it.
 pub(crate) fn turn(
@@ -20,9 +25,7 @@ pub(crate) fn turn(
     if node.get() >= whole.nodes() {
         return None;
     }
-    let mut solo = Solo::new(whole, node);
-    let mut port = Recorder::new(&mut solo, trace);
-    Some(op.turn(&mut port))
+    Some(turn_on(&mut Solo::new(whole, node), trace, op))
 }
 
 // Does the events from this place on; whether each was in turn.
@@ -64,21 +67,17 @@ fn operations() -> Result<[[Op; 3]; 4], BadWord> {
     ])
 }
 
-// One turn of a node, recorded. Its events are done once more on the other line, which then is the same.
-fn take_turn(
-    rt: &impl Abort,
+// One turn of a node, recorded, whose events are done once more on the other line. Some(true): then it is the same.
+fn turn_alike(
     whole: &mut Whole<AnyWords>,
     trace: &mut Trace,
     again: &mut Whole<AnyWords>,
     number: u16,
     op: &mut Op,
-) -> Result<(), Fail> {
-    let replayed = trace.events().ok_or("no room")?.len();
-    assert!(rt; turn(whole, trace, number, op).is_some());
-    let events = trace.events().ok_or("no room")?;
-    assert!(rt; replay(again, events, replayed));
-    same_at(rt, &events.len(), &is_same(whole, again), &true);
-    Ok(())
+) -> Option<bool> {
+    let replayed = trace.events()?.len();
+    turn(whole, trace, number, op)?;
+    Some(replay(again, trace.events()?, replayed) && is_same(whole, again))
 }
 
 // Forty turns of each node, each node with one of these operations.
@@ -88,13 +87,14 @@ fn take_turns(
     trace: &mut Trace,
     again: &mut Whole<AnyWords>,
     ops: &mut [Op; 3],
-) -> Result<(), Fail> {
+) {
     for _ in 0..40 {
-        for (number, op) in (0..3).zip(ops.iter_mut()) {
-            take_turn(rt, whole, trace, again, number, op)?;
+        for number in 0..3 {
+            let op = &mut ops[usize::from(number)];
+            let alike = turn_alike(whole, trace, again, number, op);
+            same_at(rt, &number, &alike, &Some(true));
         }
     }
-    Ok(())
 }
 
 // Node 2 reads these words in its sixth turn, after four writes.
@@ -116,7 +116,7 @@ fn replays(
 ) -> Result<(), Fail> {
     let mut trace = Trace::new(Vec::with_capacity(alloc, 1_000)?);
     for ops in operations()?.iter_mut() {
-        take_turns(rt, whole, &mut trace, again, ops)?;
+        take_turns(rt, whole, &mut trace, again, ops);
     }
     sees(rt, again, &mut trace, [3, 11, 3, 3, 3, 3, 3, 3]);
     Ok(())

@@ -1,6 +1,7 @@
 //! Words worked out by hand from the table of layout 1.
 use crate::checks::{same, same_at};
 use sci_words::*;
+use std::process::Abort;
 
 fn tag(kind: Kind, held: bool, forw: Option<NodeId>, back: Option<NodeId>) -> Tag {
     Tag {
@@ -15,26 +16,47 @@ fn mem(state: MemState, lent: bool, forw: Option<NodeId>) -> Mem {
     Mem { state, lent, forw }
 }
 
+// This is the word of a tag, and its name.
+fn is_tag(rt: &impl Abort, word: u64, want: Tag, text: &str) {
+    same_at(rt, &word, &read_tag(word), &Ok(want));
+    assert!(rt; want.well_formed());
+    same(rt, &write_tag(want), &word);
+    same(rt, &name(want), &text);
+}
+
 #[test]
 fn reads_and_writes_tags(rt: HostRuntime) {
     let node = NodeId::new;
-    let invalid = tag(Kind::Invalid, false, None, None);
-    let head = tag(Kind::Fresh, false, node(1), None);
-    let mid = tag(Kind::Valid, false, node(0), node(2));
-    let held = tag(Kind::Valid, true, node(0), node(2));
-    let tail = tag(Kind::Valid, false, None, node(1));
-    for (word, want, text) in [
-        (0xffff00, invalid, "INVALID"),
-        (0xff0102, head, "HEAD_FRESH"),
-        (0x20007, mid, "MID_VALID"),
-        (0x20017, held, "MID_VALID"),
-        (0x1ff07, tail, "TAIL_VALID"),
-    ] {
-        same(&rt, &read_tag(word), &Ok(want));
-        assert!(rt; want.well_formed());
-        same(&rt, &write_tag(want), &word);
-        same(&rt, &name(want), &text);
-    }
+    is_tag(
+        &rt,
+        0xffff00,
+        tag(Kind::Invalid, false, None, None),
+        "INVALID",
+    );
+    is_tag(
+        &rt,
+        0xff0102,
+        tag(Kind::Fresh, false, node(1), None),
+        "HEAD_FRESH",
+    );
+    is_tag(
+        &rt,
+        0x20007,
+        tag(Kind::Valid, false, node(0), node(2)),
+        "MID_VALID",
+    );
+    is_tag(
+        &rt,
+        0x20017,
+        tag(Kind::Valid, true, node(0), node(2)),
+        "MID_VALID",
+    );
+    is_tag(
+        &rt,
+        0x1ff07,
+        tag(Kind::Valid, false, None, node(1)),
+        "TAIL_VALID",
+    );
 }
 
 #[test]
@@ -51,20 +73,21 @@ fn refuses_tags(rt: HostRuntime) {
     }
 }
 
+// This is the memory word's code, and its name.
+fn is_mem(rt: &impl Abort, word: u64, want: Mem, text: &str) {
+    same_at(rt, &word, &read_mem(word), &Ok(want));
+    assert!(rt; want.well_formed());
+    same(rt, &write_mem(want), &word);
+    same(rt, &mem_name(want), &text);
+}
+
 #[test]
 fn reads_and_writes_memory_words(rt: HostRuntime) {
     let node = NodeId::new;
-    for (word, want, text) in [
-        (0xff00, mem(MemState::Home, false, None), "HOME"),
-        (0x201, mem(MemState::Fresh, false, node(2)), "FRESH"),
-        (0x211, mem(MemState::Fresh, true, node(2)), "FRESH"),
-        (0x102, mem(MemState::Gone, false, node(1)), "GONE"),
-    ] {
-        same_at(&rt, &word, &read_mem(word), &Ok(want));
-        assert!(rt; want.well_formed());
-        same(&rt, &write_mem(want), &word);
-        same(&rt, &mem_name(want), &text);
-    }
+    is_mem(&rt, 0xff00, mem(MemState::Home, false, None), "HOME");
+    is_mem(&rt, 0x201, mem(MemState::Fresh, false, node(2)), "FRESH");
+    is_mem(&rt, 0x211, mem(MemState::Fresh, true, node(2)), "FRESH");
+    is_mem(&rt, 0x102, mem(MemState::Gone, false, node(1)), "GONE");
 }
 
 #[test]
