@@ -4,6 +4,7 @@ use Rattle.sci_core.specs.Whole.{state_of}
 use Rattle.sci_port.proofs.Lent.{step_gives}
 use Rattle.sci_port.specs.Owes.{TakesRow}
 use Rattle.sci_coarse.proofs.Calling.{answer_kept, fits_in, still_on}
+use Rattle.sci_coarse.proofs.Listed.{clash}
 use Rattle.sci_coarse.proofs.calls.step_whole.Goals as goal
 
 pub step-requires-clause-node : goal.step-requires-clause-node
@@ -17,6 +18,9 @@ follow-requires-clause-on g c = still_on c.args.standing.now.terms c.args.whole.
 
 pub follow-requires-clause-node : goal.follow-requires-clause-node
 follow-requires-clause-node g c = subst (λ (n : ℕ). c.args.node < n) (sym c.in-Ok.ensures.same.nodes) c.requires.node
+
+pub unreachable-requires : goal.unreachable-requires
+unreachable-requires g c = clash _ c.requires.allowed c.in-Err.ensures.answers.0
 
 pub returns-clause-terms : goal.returns-clause-terms
 returns-clause-terms g c = c.follow.ensures.terms

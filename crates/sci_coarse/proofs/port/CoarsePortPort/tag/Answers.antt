@@ -1,6 +1,12 @@
-use Rattle.std.proofs.Common.{refl}
+use Rattle.std.proofs.Common.{refl, ◌∙◌}
 use Rattle.sci_coarse.specs.Ports.{way_of}
 use Rattle.sci_coarse.proofs.port.CoarsePortPort.tag.Goals as goal
+
+pub tag-requires : goal.tag-requires
+tag-requires g c = record { of = c.args.self.now.of; other = c.requires }
+
+pub invariant_of-self : goal.invariant_of-self
+invariant_of-self g c = let same = c.tag.ensures.made.same in let of = c.args.self.now.of in record { of = (same.0 ∙ of.0, same.3 ∙ of.1) }
 
 pub returns : goal.returns
 returns g c = let made = c.tag.ensures.made in record {

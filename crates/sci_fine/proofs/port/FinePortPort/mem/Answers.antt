@@ -1,6 +1,12 @@
-use Rattle.std.proofs.Common.{refl}
+use Rattle.std.proofs.Common.{refl, ◌∙◌}
 use Rattle.sci_fine.specs.Ports.{way_of}
 use Rattle.sci_fine.proofs.port.FinePortPort.mem.Goals as goal
+
+pub mem-requires : goal.mem-requires
+mem-requires g c = record { of = c.args.self.now.of }
+
+pub invariant_of-self : goal.invariant_of-self
+invariant_of-self g c = let same = c.mem.ensures.made.same in let of = c.args.self.now.of in record { of = (same.0 ∙ of.0, same.3 ∙ of.1) }
 
 pub returns : goal.returns
 returns g c = let made = c.mem.ensures.made in record {

@@ -1,6 +1,12 @@
-use Rattle.std.proofs.Common.{refl}
+use Rattle.std.proofs.Common.{refl, ◌∙◌}
 use Rattle.sci_fine.specs.Ports.{way_of}
 use Rattle.sci_fine.proofs.port.FinePortPort.own.Goals as goal
+
+pub own-requires : goal.own-requires
+own-requires g c = record { of = c.args.self.now.of }
+
+pub invariant_of-self : goal.invariant_of-self
+invariant_of-self g c = let same = c.own.ensures.made.same in let of = c.args.self.now.of in record { of = (same.0 ∙ of.0, same.3 ∙ of.1) }
 
 pub returns : goal.returns
 returns g c = let made = c.own.ensures.made in record {
