@@ -4,7 +4,7 @@ use Rattle.std.proofs.Math.Seq.{take-append-add}
 use Rattle.std.proofs.lemmas.List.{length-append}
 use Rattle.std.specs.Io.KnownBytes.{Appends, append_known}
 use Rattle.sci_serve.specs.declared.faults.SimFault.{SimFault}
-use Rattle.sci_serve.specs.declared.faults.SimFault.TheVariants.{CannotWrite}
+use Rattle.sci_serve.specs.declared.faults.SimFault.TheVariants.{CannotRead, CannotWrite, InputTooLong, Refused, NoDump, Unlawful, NoRun}
 use Rattle.sci_serve.specs.declared.scripts.Form.{Form}
 use Rattle.sci_serve.specs.Serve.{Serves, Stops, LosesNothing, LeavesBehind}
 use Rattle.sci_serve.proofs.Fronts.{front_of_text, front_of_stop}
@@ -52,3 +52,17 @@ pub put_behind : (form : Form) (r : Result (Unit {0}) SimFault) (remaining old m
 put_behind form (Err e) remaining old mid new held rest is put served = tt
 put_behind form (Ok x) None old mid new held rest is put served = tt
 put_behind form (Ok x) (Some input) old mid new held rest is put (text, serves, appended) = (text, serves, put_through old mid new held rest text is put appended)
+
+-- and of a script that fails what was written before
+pub left_behind : (form : Form) (r : Result (Unit {0}) SimFault) (remaining old mid new held : Option (List ℕ)) (rest : List ℕ) → held ≡ append_known mid rest → Appends mid new rest
+    → IfErr r (λ e. IfSome remaining (λ input. (written : List ℕ) × Stops form e input written × Appends old held written))
+    → IfErr r (λ e. IfSome remaining (λ input. LeavesBehind form e input old new))
+left_behind form (Ok x) remaining old mid new held rest is put stopped = tt
+left_behind form (Err e) None old mid new held rest is put stopped = tt
+left_behind form (Err CannotRead) (Some input) old mid new held rest is put (written, stops, appended) = (written, stops, put_through old mid new held rest written is put appended)
+left_behind form (Err CannotWrite) (Some input) old mid new held rest is put (written, stops, appended) = λ h. (written, stops, put_through old mid new held rest written is put appended)
+left_behind form (Err InputTooLong) (Some input) old mid new held rest is put (written, stops, appended) = (written, stops, put_through old mid new held rest written is put appended)
+left_behind form (Err (Refused e)) (Some input) old mid new held rest is put (written, stops, appended) = (written, stops, put_through old mid new held rest written is put appended)
+left_behind form (Err (NoDump n)) (Some input) old mid new held rest is put (written, stops, appended) = absurd stops
+left_behind form (Err Unlawful) (Some input) old mid new held rest is put (written, stops, appended) = absurd stops
+left_behind form (Err (NoRun e)) (Some input) old mid new held rest is put (written, stops, appended) = absurd stops

@@ -26,6 +26,39 @@ pub enum Form {
     Draw,
 }
 
+/// Runs a script, and writes its text.
+fn run_script<W: Write>(alloc: Global, script: &Script, writer: &mut W) -> Result<(), ScriptRefusal>
+    ensures ok { OnOk result ((text : List ℕ) × IsWritten forms.Script script.now.size script.now.capacity script.now.openings.items script.now.steps.items text
+        × Appends (W.contents writer.old) (W.contents writer.new) text) }
+    ensures err { IfErr result (λ e. (written : List ℕ) × FailsWith forms.Script script.now.size script.now.capacity script.now.openings.items script.now.steps.items e written
+        × Appends (W.contents writer.old) (W.contents writer.new) written) }
+{
+    let mut desk = WholeDesk::open(alloc, script)?;
+    script.run(alloc, &mut desk, writer)
+}
+
+/// Runs a script, and writes its text with a line for each turn.
+fn run_trace<W: Write>(alloc: Global, script: &Script, writer: &mut W) -> Result<(), ScriptRefusal>
+    ensures ok { OnOk result ((text : List ℕ) × IsWritten forms.Trace script.now.size script.now.capacity script.now.openings.items script.now.steps.items text
+        × Appends (W.contents writer.old) (W.contents writer.new) text) }
+    ensures err { IfErr result (λ e. (written : List ℕ) × FailsWith forms.Trace script.now.size script.now.capacity script.now.openings.items script.now.steps.items e written
+        × Appends (W.contents writer.old) (W.contents writer.new) written) }
+{
+    let mut desk = TraceDesk::open(alloc, script)?;
+    trace(alloc, script, &mut desk, writer)
+}
+
+/// Runs a script, and writes the page of its trace.
+fn run_draw<W: Write>(alloc: Global, script: &Script, writer: &mut W) -> Result<(), ScriptRefusal>
+    ensures ok { OnOk result ((text : List ℕ) × IsWritten forms.Draw script.now.size script.now.capacity script.now.openings.items script.now.steps.items text
+        × Appends (W.contents writer.old) (W.contents writer.new) text) }
+    ensures err { IfErr result (λ e. (written : List ℕ) × FailsWith forms.Draw script.now.size script.now.capacity script.now.openings.items script.now.steps.items e written
+        × Appends (W.contents writer.old) (W.contents writer.new) written) }
+{
+    let mut desk = TraceDesk::open(alloc, script)?;
+    draw(alloc, script, &mut desk, writer)
+}
+
 /// Runs a script, and writes its run in this form.
 fn run<W: Write>(
     alloc: Global,
@@ -39,18 +72,9 @@ fn run<W: Write>(
         × Appends (W.contents writer.old) (W.contents writer.new) written) }
 {
     match form {
-        Form::Script => {
-            let mut desk = WholeDesk::open(alloc, script)?;
-            script.run(alloc, &mut desk, writer)
-        }
-        Form::Trace => {
-            let mut desk = TraceDesk::open(alloc, script)?;
-            trace(alloc, script, &mut desk, writer)
-        }
-        Form::Draw => {
-            let mut desk = TraceDesk::open(alloc, script)?;
-            draw(alloc, script, &mut desk, writer)
-        }
+        Form::Script => run_script(alloc, script, writer),
+        Form::Trace => run_trace(alloc, script, writer),
+        Form::Draw => run_draw(alloc, script, writer),
     }
 }
 

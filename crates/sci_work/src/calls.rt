@@ -1,5 +1,5 @@
 //! A node's calls, each through its door. They are told one after another.
-ghost use Rattle.std.specs.Prelude.{◌≡◌, ◌<◌, [], ◌∷◌, IfOk, IfErr, OnOk, OnErr};
+ghost use Rattle.std.specs.Prelude.{◌≡◌, ◌<◌, ◌≤◌, [], ◌∷◌, slice_index, IfOk, IfErr, OnOk, OnErr};
 ghost use Rattle.sci_ops.specs.declared.goals.Goal as goal;
 ghost use Rattle.sci_ops.specs.declared.goals.Write as write;
 ghost use Rattle.sci_ops.specs.Change.{StoresFitting};
@@ -10,6 +10,7 @@ ghost use Rattle.sci_work.specs.Workers.{IsReady, Led};
 use crate::doors::Door;
 use crate::gates::Gate;
 use crate::refusals::WorkRefusal;
+use crossbeam_utils::Backoff;
 use sci_cache::{Node, NodeRefusal};
 use sci_ops::Answer;
 use sci_port::Bank;
@@ -59,6 +60,36 @@ pub(crate) fn loaded<R: Wait, G: Gate, B: Bank>(
         Ok(_) => unreachable!(),
         Err(refusal) => Err(refused(refusal)),
     }
+}
+
+/// The words of a line, once its word 0 is at least this number.
+pub(crate) fn reached<R: Wait, G: Gate, B: Bank>(
+    rt: &R,
+    door: &mut Door<'_, G>,
+    node: &mut Node,
+    bank: &mut B,
+    line: LineNo,
+    number: u64,
+) -> Result<[u64; 8], WorkRefusal>
+    requires ready { IsBankOf (B.way bank.old) node.old }
+    requires line { line < (B.way bank.old).lines }
+    ensures fits { IfOk result (λ words. B.Keep.fits (B.keep bank.old) line words) }
+    ensures number { IfOk result (λ words. number ≤ slice_index words 0) }
+    ensures err { IfErr result ComesInCall }
+    ensures made { Made B.gives B.at_step [] node.old bank.old node.new bank.new }
+    ensures ready { IsBankOf (B.way bank.new) node.new }
+    ensures same_way { B.way bank.new ≡ B.way bank.old }
+    ensures same_fact { B.keep bank.new ≡ B.keep bank.old }
+{
+    let backoff = Backoff::new();
+    for _ in rt.forever() {
+        let words = loaded(rt, door, node, bank, line)?;
+        if words[0] >= number {
+            return Ok(words);
+        }
+        backoff.snooze();
+    }
+    unreachable!()
 }
 
 /// Replaces a line's words. The refusals: 25 and 20 before the call, then 7 and 11.

@@ -76,7 +76,8 @@ pub fn count<R: Threads + Wait + Sync, G: Gate>(
     }
     let closed = counted(rt, alloc, nodes, adds, capacity, gate)?;
     let word = value_of(&closed).words[0];
-    let Ok(lines) = vec![in alloc; closed] else {
+    let mut lines = Vec::new(alloc);
+    let Ok(()) = lines.push(closed) else {
         return Err(WorkRefusal::OutOfMemory);
     };
     Ok((word, lines))

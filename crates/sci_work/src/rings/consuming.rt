@@ -3,12 +3,11 @@ ghost use Rattle.std.specs.Prelude.{◌≡◌, ◌≢◌, ◌+◌, ◌^◌, ◌<
 ghost use Rattle.sci_work.specs.Made.{ComesInWork, IsBankOf, Made, MadeSome};
 ghost use Rattle.sci_work.specs.Ring.{IsRing, IsRingSize, IsRingOf, count_words, count_writes};
 
-use crate::calls::{loaded, written};
+use crate::calls::{reached, written};
 use crate::doors::Door;
 use crate::gates::Gate;
 use crate::refusals::WorkRefusal;
 use crate::rings::limits::{is_ring_size, line_of};
-use crossbeam_utils::Backoff;
 use sci_cache::Node;
 use sci_port::{Bank, Keeps};
 use std::alloc::Global;
@@ -42,18 +41,11 @@ fn item<R: Wait, G: Gate, B: Bank>(
 {
     let line = line_of(i, lines);
     let number = i + 1;
-    let backoff = Backoff::new();
-    for _ in rt.forever() {
-        let words = loaded(rt, door, node, bank, line)?;
-        if words[0] == number {
-            return Ok(words[1]);
-        }
-        if words[0] > number {
-            return Err(WorkRefusal::Overrun);
-        }
-        backoff.snooze();
+    let words = reached(rt, door, node, bank, line, number)?;
+    if words[0] == number {
+        return Ok(words[1]);
     }
-    unreachable!()
+    Err(WorkRefusal::Overrun)
 }
 
 /// The first n items, in order. Each is counted as consumed once it was read.

@@ -3,12 +3,11 @@ ghost use Rattle.std.specs.Prelude.{◌≡◌, ◌≢◌, ◌+◌, ◌^◌, ◌<
 ghost use Rattle.sci_work.specs.Made.{ComesInCall, IsBankOf, Made, MadeSome};
 ghost use Rattle.sci_work.specs.Ring.{IsRing, IsRingSize, item_words, item_writes};
 
-use crate::calls::{loaded, written};
+use crate::calls::{reached, written};
 use crate::doors::Door;
 use crate::gates::Gate;
 use crate::refusals::WorkRefusal;
 use crate::rings::limits::{is_ring_size, line_of};
-use crossbeam_utils::Backoff;
 use sci_cache::Node;
 use sci_port::{Bank, Keeps};
 use std::sync::Wait;
@@ -18,33 +17,6 @@ fn words_of(number: u64, value: u64) -> [u64; 8]
     ensures { result ≡ number ∷ value ∷ replicate 6 0 }
 {
     [number, value, 0, 0, 0, 0, 0, 0]
-}
-
-// Waits until at least so many items were consumed.
-fn consumed_up_to<R: Wait, G: Gate, B: Bank>(
-    rt: &R,
-    door: &mut Door<'_, G>,
-    node: &mut Node,
-    bank: &mut B,
-    lines: u16,
-    least: u64,
-) -> Result<(), WorkRefusal>
-    requires ready { IsBankOf (B.way bank.old) node.old }
-    requires room { lines < (B.way bank.old).lines }
-    ensures err { IfErr result ComesInCall }
-    ensures ready { IsBankOf (B.way bank.new) node.new }
-    ensures made { Made B.gives B.at_step [] node.old bank.old node.new bank.new }
-    ensures same_way { B.way bank.new ≡ B.way bank.old }
-    ensures same_fact { B.keep bank.new ≡ B.keep bank.old }
-{
-    let backoff = Backoff::new();
-    for _ in rt.forever() {
-        if loaded(rt, door, node, bank, lines)?[0] >= least {
-            return Ok(());
-        }
-        backoff.snooze();
-    }
-    unreachable!()
 }
 
 // Waits until so many items were consumed that item i's line is free.
@@ -69,7 +41,10 @@ fn free<R: Wait, G: Gate, B: Bank>(
     if least == 0 {
         return Ok(());
     }
-    consumed_up_to(rt, door, node, bank, lines, least)
+    match reached(rt, door, node, bank, lines, least) {
+        Ok(_) => Ok(()),
+        Err(refusal) => Err(refusal),
+    }
 }
 
 /// Writes all items.

@@ -6,12 +6,11 @@ ghost use Rattle.sci_work.specs.Shares.{IsShare, IsWork};
 ghost use Rattle.sci_work.specs.Stencil.{HoldsTile};
 ghost use Rattle.sci_work.specs.Workers.{IsReady, Led};
 
-use crate::calls::{loaded, written};
+use crate::calls::{reached, written};
 use crate::doors::Door;
 use crate::gates::Gate;
 use crate::refusals::WorkRefusal;
 use crate::stencils::tiles::{advanced, line_at, opening};
-use crossbeam_utils::Backoff;
 use sci_cache::Node;
 use sci_port::Bank;
 use std::alloc::Global;
@@ -50,18 +49,11 @@ fn awaited<R: Wait, G: Gate, B: Bank>(
 {
     let line = line_at(tile, phase);
     let number = phase + 1;
-    let backoff = Backoff::new();
-    for _ in rt.forever() {
-        let words = loaded(rt, door, node, bank, line)?;
-        if words[0] == number {
-            return Ok(words);
-        }
-        if words[0] > number {
-            return Err(WorkRefusal::Overrun);
-        }
-        backoff.snooze();
+    let words = reached(rt, door, node, bank, line, number)?;
+    if words[0] == number {
+        return Ok(words);
     }
-    unreachable!()
+    Err(WorkRefusal::Overrun)
 }
 
 /// The cell before a tile after a phase: that of the tile before it, or 0.

@@ -1,8 +1,11 @@
-use Rattle.std.proofs.Common.{List, ℕ, [], ◌∙◌, subst}
+use Rattle.std.proofs.Common.{List, ℕ, [], ◌<◌, length, take, string_bytes, ◌∙◌, refl, subst}
 use Rattle.std.proofs.KnownBytes.{Appends-nil}
 use Rattle.std.proofs.lemmas.Option.{IfSome_then}
 use Rattle.std.proofs.lemmas.Result.{err_from_is_err_and}
-use Rattle.sci_serve.specs.Verdicts.{StopsChecking}
+use Rattle.std.specs.Io.KnownBytes.{Appends}
+use Rattle.sci_dump.specs.declared.checking.Verdict.{Verdict}
+use Rattle.sci_dump.specs.declared.checking.Verdict.TheVariants.{Lawful}
+use Rattle.sci_serve.specs.Verdicts.{Checks, StopsChecking}
 use Rattle.sci_serve.proofs.Stopping.{stops_checking_input}
 use Rattle.sci_serve.proofs.checking.serve_check.Goals as goal
 
@@ -18,3 +21,25 @@ returns-in_err-verdict-clause-err g c =
     rw (p.1, p.2)
     (IfSome_then (g.R.Read.remaining c.args.reader.now) c.in_ok-input.ensures.read
     (λ input e. ([], subst (λ (i : List ℕ). StopsChecking c.in_err-verdict.field-0.0 i []) (c.deref.ensures.value ∙ e) c.in_err-verdict.ensures.err, Appends-nil _)))
+
+pub returns-in-Err-clause-err : goal.returns-in-Err-clause-err
+returns-in-Err-clause-err g c =
+    let contents = g.W.Write.contents in
+    let verdict = c.in_ok-verdict.verdict in
+    let text = string_bytes c.in_ok-verdict.text in
+    let Front = λ (t : List ℕ). (n : ℕ) × (n < length t) × Appends (contents c.args.writer.now) (contents c.put.new.out) (take n t) in
+    let (n, less, appended) = subst Front c.as_bytes.ensures.value c.in-Err.ensures.err in
+    IfSome_then (g.R.Read.remaining c.args.reader.now) c.in_ok-input.ensures.read
+    (λ input e. (take n text, (verdict, text, n, subst (λ (i : List ℕ). Checks i verdict text) (c.deref.ensures.value ∙ e) c.in_ok-verdict.ensures.ok, less, refl), appended))
+
+pub returns-in-Lawful-clause-ok : goal.returns-in-Lawful-clause-ok
+returns-in-Lawful-clause-ok g c =
+    let contents = g.W.Write.contents in
+    let text = string_bytes c.in_ok-verdict.text in
+    let appended = subst (λ (t : List ℕ). Appends (contents c.args.writer.now) (contents c.put.new.out) t) c.as_bytes.ensures.value c.in-Ok.ensures.ok in
+    let checks = subst (λ (v : Verdict). Checks c.deref.result.now v text) c.in-Lawful.is c.in_ok-verdict.ensures.ok in
+    IfSome_then (g.R.Read.remaining c.args.reader.now) c.in_ok-input.ensures.read
+    (λ input e. (text, subst (λ (i : List ℕ). Checks i Lawful text) (c.deref.ensures.value ∙ e) checks, appended))
+
+pub returns-clause-ok : goal.returns-clause-ok
+returns-clause-ok g c = tt

@@ -1,4 +1,4 @@
-use Rattle.std.proofs.Common.{◌≡◌, ◌∷◌, [], ℕ, List, length, refl, ap, sym, subst, IfErr}
+use Rattle.std.proofs.Common.{◌≡◌, ◌∷◌, ◌++◌, ◌∙◌, [], ℕ, List, length, refl, ap, sym, subst, IfErr}
 use Rattle.std.proofs.lemmas.List.Elements.{All-cons, All-nil}
 use Rattle.std.proofs.lemmas.Result.{IfOk-from_err}
 use Rattle.std.specs.Prelude.{slice_index}
@@ -41,9 +41,10 @@ pub returns : goal.returns
 returns g c =
     let size : IsCountSize c.args.nodes c.args.adds c.args.capacity = c.if-not-is_count_size.ensures.0 refl in
     let closed = c.in_ok-closed.closed in let told = c.in_ok-closed.ensures in
+    let one = c.in-Ok.ensures.items ∙ ap (λ (l : List ClosedLine). l ++ closed ∷ []) c.new-lines.ensures.items in
     record {
       limits = ((λ e _. cc), λ no. absurd (no size));
-      ok = (closed, c.in-Ok.ensures.items, told.ok, ap (λ l. slice_index l.words 0) c.value_of.ensures);
-      nodes = subst (λ (z : List _). HaveNodes c.args.nodes z) (sym c.in-Ok.ensures.items) (All-cons (λ (x : ClosedLine). length x.tags ≡ c.args.nodes) closed [] told.nodes (All-nil _));
+      ok = (closed, one, told.ok, ap (λ l. slice_index l.words 0) c.value_of.ensures);
+      nodes = subst (λ (z : List _). HaveNodes c.args.nodes z) (sym one) (All-cons (λ (x : ClosedLine). length x.tags ≡ c.args.nodes) closed [] told.nodes (All-nil _));
       err = tt;
     }

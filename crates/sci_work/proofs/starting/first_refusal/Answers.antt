@@ -1,4 +1,5 @@
 use Rattle.std.proofs.Common.{◌≡◌, ℕ, zero, suc, ◌<◌, true, false, List, [], ◌∷◌, IfErr, get_or, length, arith, ap, refl, sym, subst, ◌∙◌}
+use Rattle.std.proofs.lemmas.Grind.{common_steps}
 use Rattle.sci_work.specs.Programs.{ComesInPart}
 use Rattle.sci_work.specs.declared.refusals.WorkRefusal.{WorkRefusal}
 use Rattle.sci_work.proofs.Refusing.{of_part}
@@ -12,6 +13,9 @@ any_default (x ∷ xs) (suc k) d e low = any_default xs k d e (omega (arith, low
 
 pub loop-one-init : goal.loop-one-init
 loop-one-init g c = λ k d low. absurd (omega (arith, low))
+
+pub loop-one-preserved : goal.loop-one-preserved
+loop-one-preserved g c = grind (arith, common_steps)
 
 pub returns-then-ne : goal.returns-then-ne
 returns-then-ne g c =

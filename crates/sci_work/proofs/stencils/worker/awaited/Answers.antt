@@ -1,70 +1,57 @@
-use Rattle.std.proofs.Common.{ℕ, ◌<◌, ◌%◌, refl, sym, subst, ◌∙◌, arith}
+use Rattle.std.proofs.Common.{ℕ, ◌%◌, subst, arith}
 use Rattle.std.proofs.lemmas.Result.{IfOk-from_err}
 use Rattle.sci_work.specs.Made.{ComesInWork}
 use Rattle.sci_work.specs.Stencil.{FitsStencil}
 use Rattle.sci_work.proofs.Exits.{passed_on}
 use Rattle.sci_work.proofs.Refusing.{of_call}
 use Rattle.sci_work.proofs.Showing.{shown}
-use Rattle.sci_work.proofs.Rests.{led_not, led_then}
 use Rattle.sci_work.proofs.Resting.{ready_made}
 use Rattle.sci_work.proofs.stencils.worker.awaited.Goals as goal
 
-pub loop-init : goal.loop-init
-loop-init g c = (tt, tt, refl, refl, c.requires.ready, led_not _)
-
-pub loaded-requires-clause-ready : goal.loaded-requires-clause-ready
-loaded-requires-clause-ready g c κs within = let r = c.loop.invariant.4 in record { node = r.node; lines = r.lines; closed = r.free }
+pub reached-requires-clause-ready : goal.reached-requires-clause-ready
+reached-requires-clause-ready g c κs within = let r = c.requires.ready in record { node = r.node; lines = r.lines; closed = r.free }
 
 pub line_at-line-requires : goal.line_at-line-requires
 line_at-line-requires g c = let low = c.requires.tile in let few = c.requires.work.few in omega (arith, low, few)
 
-pub loaded-requires-clause-line : goal.loaded-requires-clause-line
-loaded-requires-clause-line g c κs within =
-    let low = c.requires.tile in let lines = c.requires.work.lines_are in
-    subst (λ w. c.line_at-line.result < w.lines) (sym c.loop.invariant.3) (omega (arith, low, lines, c.line_at-line.ensures))
+pub reached-requires-clause-line : goal.reached-requires-clause-line
+reached-requires-clause-line g c κs within = let low = c.requires.tile in let lines = c.requires.work.lines_are in omega (arith, low, lines, c.line_at-line.ensures)
 
 pub returns-in_err-words : goal.returns-in_err-words
 returns-in_err-words g c =
-    let was = c.loop.invariant in let e = c.loaded.ensures in let r = c.from_residual in
+    let e = c.reached.ensures in let r = c.from_residual in
     let b = ready_made g.B.Bank.gives g.B.Bank.at_step g.B.Bank.nodes_on (λ u line. g.B.Keep.Keeps.fits (g.B.Bank.keep u) line) (λ u. (g.B.Bank.way u).node) (λ u line call v h. g.met.B.Bank.owes u line call v h) (λ u line call v h. g.met.B.Bank.others u line call v h)
-    (g.B.Bank.way c.loop.bank) _ was.4 e.ready e.made in
+    (g.B.Bank.way c.args.bank.now) _ c.requires.ready e.ready e.made in
     record {
       number = IfOk-from_err r.result _ r.ensures.0;
       cells = IfOk-from_err r.result _ r.ensures.0;
       err = passed_on r.result _ ComesInWork r.ensures.1 (of_call _ c.in_err-words.ensures.err);
       ready = b.0;
-      led = led_then was.5 b.1;
-      same_way = e.same_way ∙ was.3;
-      same_fact = e.same_fact ∙ was.2;
+      led = b.1;
+      same_way = e.same_way;
+      same_fact = e.same_fact;
     }
 
 pub returns-then-words-number : goal.returns-then-words-number
 returns-then-words-number g c =
-    let was = c.loop.invariant in let e = c.loaded.ensures in let work = c.requires.work in
+    let e = c.reached.ensures in let work = c.requires.work in
     let cells = c.args.work.cells.now in let phases = c.args.work.phases in let line = c.line_at-line.result in let words = c.in_ok-words.words in
     let b = ready_made g.B.Bank.gives g.B.Bank.at_step g.B.Bank.nodes_on (λ u line. g.B.Keep.Keeps.fits (g.B.Bank.keep u) line) (λ u. (g.B.Bank.way u).node) (λ u line call v h. g.met.B.Bank.owes u line call v h) (λ u line call v h. g.met.B.Bank.others u line call v h)
-    (g.B.Bank.way c.loop.bank) _ c.loop.invariant.4 c.loaded.ensures.ready c.loaded.ensures.made in
-    let fits = work.gives line words (subst (λ k. g.B.Keep.Keeps.fits k line words) was.2 c.in_ok-words.ensures.fits) in
-    let there = subst (λ (l : ℕ). FitsStencil cells phases l words) c.line_at-line.ensures fits in
+    (g.B.Bank.way c.args.bank.now) _ c.requires.ready e.ready e.made in
+    let there = subst (λ (l : ℕ). FitsStencil cells phases l words) c.line_at-line.ensures (work.gives line words c.in_ok-words.ensures.fits) in
     record {
       number = c.if-words-number.true;
       cells = shown cells phases c.args.tile (c.args.phase % 2) words c.args.phase (omega arith) there c.if-words-number.true;
       err = tt;
       ready = b.0;
-      led = led_then was.5 b.1;
-      same_way = e.same_way ∙ was.3;
-      same_fact = e.same_fact ∙ was.2;
+      led = b.1;
+      same_way = e.same_way;
+      same_fact = e.same_fact;
     }
 
-pub returns-then-words-number-2 : goal.returns-then-words-number-2
-returns-then-words-number-2 g c =
-    let was = c.loop.invariant in let e = c.loaded.ensures in
+pub returns : goal.returns
+returns g c =
+    let e = c.reached.ensures in
     let b = ready_made g.B.Bank.gives g.B.Bank.at_step g.B.Bank.nodes_on (λ u line. g.B.Keep.Keeps.fits (g.B.Bank.keep u) line) (λ u. (g.B.Bank.way u).node) (λ u line call v h. g.met.B.Bank.owes u line call v h) (λ u line call v h. g.met.B.Bank.others u line call v h)
-    (g.B.Bank.way c.loop.bank) _ c.loop.invariant.4 c.loaded.ensures.ready c.loaded.ensures.made in
-    record { number = tt; cells = tt; err = tt; ready = b.0; led = led_then was.5 b.1; same_way = e.same_way ∙ was.3; same_fact = e.same_fact ∙ was.2 }
-
-pub loop-preserved : goal.loop-preserved
-loop-preserved g c =
-    let b = ready_made g.B.Bank.gives g.B.Bank.at_step g.B.Bank.nodes_on (λ u line. g.B.Keep.Keeps.fits (g.B.Bank.keep u) line) (λ u. (g.B.Bank.way u).node) (λ u line call v h. g.met.B.Bank.owes u line call v h) (λ u line call v h. g.met.B.Bank.others u line call v h)
-    (g.B.Bank.way c.loop.bank) _ c.loop.invariant.4 c.loaded.ensures.ready c.loaded.ensures.made in
-    (tt, tt, c.loaded.ensures.same_fact ∙ c.loop.invariant.2, c.loaded.ensures.same_way ∙ c.loop.invariant.3, b.0, led_then c.loop.invariant.5 b.1)
+    (g.B.Bank.way c.args.bank.now) _ c.requires.ready e.ready e.made in
+    record { number = tt; cells = tt; err = tt; ready = b.0; led = b.1; same_way = e.same_way; same_fact = e.same_fact }

@@ -1,6 +1,6 @@
 use Rattle.std.proofs.Common.{◌≡◌, []}
 use Rattle.sci_work.specs.Made.{IsBankOf, Made}
-use Rattle.sci_work.proofs.rings.consuming.item.Given as goal
+use Rattle.sci_work.proofs.calls.reached.Given as goal
 
 abbrev pub invariant-loop : goal.invariant-loop
 invariant-loop g l =

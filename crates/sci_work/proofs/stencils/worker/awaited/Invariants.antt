@@ -1,8 +1,0 @@
-use Rattle.std.proofs.Common.{◌≡◌}
-use Rattle.sci_work.proofs.stencils.worker.awaited.Given as goal
-use Rattle.sci_work.specs.Workers.{IsReady, Led}
-
-abbrev pub invariant-loop : goal.invariant-loop
-invariant-loop g l =
-    (goal.iterator-loop g).can_next l.iterator' × (goal.iterator-loop g).is_finite l.iterator'
-    × (g.B.Bank.keep l.bank ≡ g.B.Bank.keep l.fn.bank) × (g.B.Bank.way l.bank ≡ g.B.Bank.way l.fn.bank) × (IsReady g.B.Bank.at_step (g.B.Bank.way l.bank) l.node l.bank) × (Led g.B.Bank.gives l.fn.bank l.bank)
