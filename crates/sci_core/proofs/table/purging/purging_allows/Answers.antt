@@ -6,3 +6,6 @@ returns-then-is_none c = search rules
 
 pub returns-else-is_none : goal.returns-else-is_none
 returns-else-is_none c = search rules
+
+pub returns-then-rolling : goal.returns-then-rolling
+returns-then-rolling c = search rules

@@ -1,0 +1,5 @@
+use Rattle.std.proofs.Common.{rules}
+use Rattle.sci_words.proofs.memory.Mem.well_formed.Goals as goal
+
+pub returns : goal.returns
+returns c = search rules
