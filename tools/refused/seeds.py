@@ -27,10 +27,11 @@ BETWEEN_LOOKS = 1
 def name_of_kept():
     """Returns the name of the folder in which this prover keeps work, or None: it checks a crate without items."""
     with tempfile.TemporaryDirectory(prefix="seeds-") as room:
-        with open(f"{room}/lib.rt", "w", encoding="utf-8") as it:
+        os.mkdir(f"{room}/src")
+        with open(f"{room}/src/lib.rt", "w", encoding="utf-8") as it:
             it.write("//! Nothing.\n")
         logic = ["--antt-project", f"{RT.KIT}/rattle/logic/antt-project.json", "--logic-built", f"{RT.KIT}/logic_built"]
-        words = ["check", "--crate-name", "nothing", "lib.rt", *logic, "--incremental", f"{room}/kept"]
+        words = ["check", "--crate-name", "nothing", "src/lib.rt", *logic, "--incremental", f"{room}/kept"]
         subprocess.run([RATTLE, *words], cwd=room, stdin=subprocess.DEVNULL, stdout=subprocess.DEVNULL, stderr=subprocess.DEVNULL)
         names = os.listdir(f"{room}/kept") if os.path.isdir(f"{room}/kept") else []
         return names[0] if len(names) == 1 else None

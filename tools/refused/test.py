@@ -119,7 +119,7 @@ def faults_of_seeds():
         check = [RATTLE, "check", *crate.words(["--jobs", "1"], keeps=False), "--incremental", f"{folder}/seeds/{crate.name}"]
         said = subprocess.run(check, **{**how, "cwd": crate.folder}).stdout
         status = subprocess.run([*words, "sh", "-c", "exit 3"], **how).returncode
-    found = re.search(r"modules loaded=(\d+) checked=(\d+)$", said, re.M)
+    found = re.search(rf"^crate {crate.name}: modules loaded=(\d+) checked=(\d+)$", said, re.M)
     faults = [] if ran.returncode == 0 else [f"rt ci ended with {ran.returncode} and said {ran.stdout[-1000:]}"]
     if not found or int(found[1]) <= int(found[2]):
         faults.append(f"seeds.py kept less than half of what was proved: {found[0] if found else said[-1000:]}")
