@@ -24,7 +24,7 @@ def load():
 
 def linked(folder, to):
     """Copies a folder of kept work, by links where it can: the prover replaces such a file, and writes into none."""
-    shutil.copytree(folder, to, copy_function=link_or_copy)
+    shutil.copytree(folder, to, copy_function=link_or_copy, dirs_exist_ok=True)
 
 
 def link_or_copy(file, to):

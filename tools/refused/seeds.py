@@ -1,11 +1,11 @@
-"""Runs `rt ci` and keeps what it proves of each library with edits in refused/, for tools/refused to begin with.
+"""Runs `rt ci` and keeps what it proves of each library with edits, for those edits to begin with.
 
-    python3 tools/refused/seeds.py FOLDER COMMAND ..
+    python3 tools/refused/seeds.py FOLDER
 
 Rattle writes each module that it has checked into a folder of its own, which it removes as it ends; a folder of kept work has such
-files too. While COMMAND, which is `rt ci`, proves a library from nothing, this program links them into FOLDER/NAME, under the name
-that this prover gives its kept work. The status is COMMAND's. What is lacking is proved by tools/refused: the prover takes no module
-that isn't up to date.
+files too. While `rt ci` proves a library from nothing, this program links them into FOLDER/NAME, under the name that this prover
+gives its kept work. The first edit of must-fail/ begins over them, as each other does over what the edits before it kept; so does
+tools/refused. What is lacking is proved anew: the prover takes no module that isn't up to date. The status is that of `rt ci`.
 """
 
 import glob
@@ -14,11 +14,12 @@ import re
 import subprocess
 import sys
 import tempfile
+import threading
 import time
 
 sys.dont_write_bytecode = True
 
-from kit import RATTLE, RT
+from kit import RATTLE, RT, linked
 
 # in seconds; a library takes far longer, and what comes after the last look is proved anew
 BETWEEN_LOOKS = 1
@@ -73,16 +74,35 @@ def look(to, name, crates, known):
                 continue
 
 
-def main():
-    to, words = os.path.realpath(sys.argv[1]), sys.argv[2:]
-    os.makedirs(to, exist_ok=True)
-    name, known, crates = name_of_kept(), {}, os.path.realpath("crates")
-    started = subprocess.Popen(words)
-    while started.poll() is None:
-        if name:
-            look(to, name, crates, known)
+def watch(to, name, crates):
+    """Looks for ever."""
+    known = {}
+    while True:
+        look(to, name, crates, known)
         time.sleep(BETWEEN_LOOKS)
-    return started.returncode
+
+
+def begun(to, check):
+    """Returns the kit's check of an edit, but for this: a folder of kept work that is still empty gets the crate's seed first."""
+
+    def check_over_seed(crate, texts, flags, kept=None, **more):
+        seed = f"{to}/{crate.name}"
+        if kept and os.path.isdir(kept) and not os.listdir(kept) and os.path.isdir(seed):
+            linked(seed, kept)
+            print(f"seeds: the edits of {crate.name} begin over {sum(len(names) for _, _, names in os.walk(kept))} modules", flush=True)
+        return check(crate, texts, flags, kept, **more)
+
+    return check_over_seed
+
+
+def main():
+    to = os.path.realpath(sys.argv[1])
+    os.makedirs(to, exist_ok=True)
+    name = name_of_kept()
+    if name:
+        RT.checked = begun(to, RT.checked)
+        threading.Thread(target=watch, args=(to, name, os.path.realpath("crates")), daemon=True).start()
+    return RT.main(["ci"])
 
 
 if __name__ == "__main__":

@@ -1,5 +1,5 @@
 """Tests tools/refused on a small crate: edits that are refused, and each way in which an edit fails. Tests that seeds.py keeps what
-`rt ci` proves of it."""
+`rt ci` proves of it, and that the edits of its must-fail/ begin with that."""
 
 import pathlib
 import re
@@ -107,23 +107,39 @@ def make(root):
         (crate / "refused" / f"{name}.edit").write_text(text, encoding="utf-8")
 
 
+def add_must_fail(root):
+    """Adds a must-fail/ of two edits."""
+    folder = root / "crates" / "lib_of_halves" / "must-fail"
+    folder.mkdir()
+    for name, text, _ in EDITS:
+        if name in ("refused_in_a_function", "refused_in_a_method"):
+            (folder / f"{name}.edit").write_text(text, encoding="utf-8")
+
+
 def faults_of_seeds():
-    """Returns what isn't as it must be of what seeds.py keeps of `rt ci`, on the same crate, and of its status."""
+    """Returns what isn't as it must be of what seeds.py keeps of `rt ci`, on the same crate, and of what it answers."""
     with tempfile.TemporaryDirectory(prefix="refused-test-") as folder:
         root = pathlib.Path(folder) / "repository"
         make(root)
-        words = [sys.executable, str(TOOL / "seeds.py"), f"{folder}/seeds"]
+        add_must_fail(root)
         how = {"cwd": root, "stdin": subprocess.DEVNULL, "stdout": subprocess.PIPE, "stderr": subprocess.STDOUT, "text": True}
-        ran = subprocess.run([*words, "rt", "ci"], **how)
+        words = [sys.executable, str(TOOL / "seeds.py"), f"{folder}/seeds"]
+        ran = subprocess.run(words, **how)
         crate = RT.rtlib.crates_below(str(root))[0]
+        kept = len(list(pathlib.Path(folder, "seeds").rglob("*.oantt")))
         check = [RATTLE, "check", *crate.words(["--jobs", "1"], keeps=False), "--incremental", f"{folder}/seeds/{crate.name}"]
         said = subprocess.run(check, **{**how, "cwd": crate.folder}).stdout
-        status = subprocess.run([*words, "sh", "-c", "exit 3"], **how).returncode
+        # (there is nothing to prove in a folder that has no crates.txt)
+        status = subprocess.run(words, **{**how, "cwd": folder}).returncode
+    faults = [] if status == 2 else [f"rt ci ends with 2 where there is no crates.txt, and seeds.py ended with {status}"]
+    if ran.returncode or ran.stdout.rstrip("\n").split("\n")[-1] != "3 passed, 0 failed":
+        faults.append(f"rt ci ended with {ran.returncode}, and not with 0 and 3 passed, 0 failed: {ran.stdout[-1000:]}")
+    if f"seeds: the edits of {crate.name} begin over {kept} modules\n" not in ran.stdout:
+        faults.append(f"the edits of must-fail/ didn't begin over the {kept} modules that seeds.py kept")
     found = re.search(rf"^crate {crate.name}: modules loaded=(\d+) checked=(\d+)$", said, re.M)
-    faults = [] if ran.returncode == 0 else [f"rt ci ended with {ran.returncode} and said {ran.stdout[-1000:]}"]
     if not found or int(found[1]) <= int(found[2]):
         faults.append(f"seeds.py kept less than half of what was proved: {found[0] if found else said[-1000:]}")
-    return faults if status == 3 else [*faults, f"seeds.py ended with {status}, and its command with 3"]
+    return faults
 
 
 def main():
