@@ -46,6 +46,15 @@ def library(room):
     return f"{room}/refuse.so"
 
 
+def crates_below(crate):
+    """Returns a crate's folder, and those of all crates of the repository that it stands on."""
+    uses = dict(it.split(":", 1) for it in (ROOT / "crates.txt").read_text(encoding="utf-8").splitlines() if ":" in it)
+    found = [crate.name]
+    for name in found:
+        found += [it for it in uses.get(name, "").split() if it in uses and it not in found]
+    return [crate.parent / it for it in found]
+
+
 class Program:
     """The program of a crate's tests."""
 
@@ -53,8 +62,8 @@ class Program:
         self.path, self.refusing = crate / "out" / f"{crate.name}_tests", refusing
 
     def is_built(self):
-        """Whether it is there, and no older than its crate's sources."""
-        parts = [self.path.parents[1] / it for it in ("src", "specs", "proofs")]
+        """Whether it is there, and no older than the sources of its crate and of those below."""
+        parts = [crate / it for crate in crates_below(self.path.parents[1]) for it in ("src", "specs", "proofs")]
         sources = [it.stat().st_mtime for part in parts for it in part.rglob("*") if it.is_file()]
         return self.path.is_file() and self.path.stat().st_mtime >= max(sources)
 
@@ -92,7 +101,10 @@ def module_of(crate, file):
 
 def faults_of_growths(program, file, module):
     """Runs the tests of a file of growths, and returns what isn't as it must be."""
-    tests, faults = GROWTHS.findall(file.read_text(encoding="utf-8")), []
+    text, faults = file.read_text(encoding="utf-8"), []
+    tests = GROWTHS.findall(text)
+    if not tests or len(tests) != len(re.findall(r"#\[test\]", text)):
+        return ["NOTHING WAS REFUSED: each test must have a table of growths above it"]
     for table, test in tests:
         wanted = growths_of(table)
         for number, answers in enumerate([*wanted, [""]], 1):
@@ -105,7 +117,7 @@ def faults_of_growths(program, file, module):
                 faults.append(f"{test}: with growth {number} refused it must say '{want}', and {ended} with '{said}'")
         if not wanted:
             faults.append(f"{test}: NOTHING WAS REFUSED: its table says none")
-    return faults or ([] if tests else ["NOTHING WAS REFUSED: no test has a table of growths"])
+    return faults
 
 
 def faults_of_memory(program, file, module):
@@ -135,24 +147,33 @@ def faults_of(crate, files, refusing, is_built):
 FAULTS = {"growths.rt": faults_of_growths, "memory.rt": faults_of_memory}
 
 
+def crates_of(names, reader):
+    """Returns the crates of tests that have such files, each with these; of these names, where any is given."""
+    found = {crate: sorted(it for name in FAULTS for it in crate.glob(f"src/**/{name}")) for crate in sorted(ROOT.glob("crates/*_tests"))}
+    unknown = {*names} - {crate.name for crate, files in found.items() if files}
+    if unknown:
+        reader.error(f"no growths.rt and no memory.rt in {' '.join(sorted(unknown))}")
+    return {crate: files for crate, files in found.items() if files and (not names or crate.name in names)}
+
+
 def main():
     reader = argparse.ArgumentParser()
     reader.add_argument("--built", action="store_true")
     reader.add_argument("names", nargs="*")
-    given, failed = reader.parse_args(), 0
+    given, faults = reader.parse_args(), {}
     # A failed assertion aborts, and would leave a core file.
     resource.setrlimit(resource.RLIMIT_CORE, (0, 0))
     with tempfile.TemporaryDirectory() as room:
         refusing = library(room)
-        for crate in sorted(ROOT.glob("crates/*_tests")):
-            files = sorted(it for name in FAULTS for it in crate.glob(f"src/**/{name}"))
-            if not files or given.names and crate.name not in given.names:
-                continue
-            for file, faults in faults_of(crate, files, refusing, given.built).items():
-                failed += bool(faults)
-                for it in faults or ["each growth was answered as it must be" if file.name == "growths.rt" else "no call took memory that takes none"]:
+        for crate, files in crates_of(given.names, reader).items():
+            of_crate = faults_of(crate, files, refusing, given.built)
+            faults |= of_crate
+            for file, of_file in of_crate.items():
+                for it in of_file or ["each growth was answered as it must be" if file.name == "growths.rt" else "no call took memory that takes none"]:
                     print(f"allocations: {file.relative_to(ROOT / 'crates')}: {it}", flush=True)
-    return 1 if failed else 0
+    if not faults:
+        print("allocations: NOTHING WAS REFUSED: there is no growths.rt and no memory.rt")
+    return 1 if any(faults.values()) or not faults else 0
 
 
 if __name__ == "__main__":

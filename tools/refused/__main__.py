@@ -1,6 +1,6 @@
 """Tries the edits of crates/NAME/refused/, many in one check: the prover must refuse each by a goal of its own function.
 
-    python3 tools/refused [--warm] [--built] [--seeds FOLDER] [--size N] [NAME ..]
+    python3 tools/refused [--warm] [--built] [--size N] [NAME ..]
 
 README.md beside this file says how. The last line is `N passed, M failed`; the status is 0 where none failed.
 """
@@ -8,26 +8,19 @@ README.md beside this file says how. The last line is `N passed, M failed`; the 
 import argparse
 import os
 import pathlib
-import resource
 import shutil
 import sys
 import tempfile
-import threading
 
 sys.path.insert(0, str(pathlib.Path(__file__).resolve().parent))
 sys.dont_write_bytecode = True
 
 from edits import edits_of
 from kit import RT, linked
+from tasks import report, say, tasks_of_edits
 from trying import Trial
 
 ROOT = pathlib.Path(__file__).resolve().parents[2]
-PRINTING = threading.Lock()
-
-
-def say(text):
-    with PRINTING:
-        print(f"refused: {text}", flush=True)
 
 
 def copy_of(root, room, kept):
@@ -39,15 +32,22 @@ def copy_of(root, room, kept):
             linked(folder, f"{room}/kept/{name}")
 
 
+def is_up_to_date(crate, made):
+    """Whether a crate's library in a folder is as its sources are. Its stamp tells, where `rt check` built it; `rt ci` leaves none, and
+    what it built is no older than the sources."""
+    library = f"{made}/{crate.name}.rlib"
+    if os.path.isfile(f"{made}/stamp"):
+        return os.path.isdir(library) and RT.rtlib.text_of(f"{made}/stamp") == crate.stamp()
+    sources = pathlib.Path(made).parents[1]
+    times = [it.stat().st_mtime for part in RT.rtlib.PARTS for it in (sources / part).rglob("*") if it.is_file()]
+    return os.path.isdir(library) and max(times, default=0) <= os.path.getmtime(library)
+
+
 def take_libraries(root, crates):
-    """Takes over the libraries below these crates, as they were built; returns whether all are there. The stamp of one tells whether
-    it is as its sources are; `rt ci` leaves none, and has built all just before."""
+    """Takes over the libraries below these crates, as they were built; returns whether all are there."""
     below = {it.name: it for crate in crates for it in crate.below()}
-    for name, it in below.items():
-        made = f"{root}/crates/{name}/out/rlib"
-        stamp = RT.rtlib.text_of(f"{made}/stamp") if os.path.isfile(f"{made}/stamp") else it.stamp()
-        if not os.path.isdir(f"{made}/{name}.rlib") or stamp != it.stamp():
-            return False
+    if not all(is_up_to_date(it, f"{root}/crates/{name}/out/rlib") for name, it in below.items()):
+        return False
     for name, it in below.items():
         shutil.copytree(f"{root}/crates/{name}/out/rlib/{name}.rlib", it.rlib)
     return True
@@ -59,31 +59,11 @@ def build(trial, given, jobs):
     if lacking:
         say(f"{trial.crate.name} NOT BUILT: its library {lacking[0]} failed")
         return False
-    is_well, said, used, seconds = trial.build(jobs)
+    is_well, said, used = trial.build(jobs)
     if not is_well:
         say(said[-3000:])
-    say(f"{trial.crate.name}: {'built' if is_well else 'NOT BUILT'} ({used:.0f} CPU s, {seconds:.0f} s)")
+    say(f"{trial.crate.name}: {'built' if is_well else 'NOT BUILT'} ({used:.0f} CPU s)")
     return is_well
-
-
-def begin(trial, given, jobs):
-    """Proves the functions that a crate's edits change."""
-    lacking = [it.name for it in trial.crate.below() if not given.get((it.name, "library"), True)]
-    if lacking:
-        say(f"{trial.crate.name} NOT PROVED: its library {lacking[0]} failed")
-    else:
-        trial.begin(jobs)
-
-
-def tasks_of_edits(trial, waits, size):
-    """Returns the tasks for a crate's edits: a first check, the batches side by side over what it kept, and a last check."""
-    lines, needs, name = trial.crate.count(rb"\n"), RT.need(trial.crate), trial.crate.name
-    tasks = {(name, "first"): (waits, lines, needs, lambda given, jobs: begin(trial, given, jobs))}
-    batches = trial.batches(size)
-    for batch, label in batches:
-        tasks[name, label] = [(name, "first")], lines, needs, lambda given, jobs, it=(batch, label): trial.try_these(*it)
-    tasks[name, "last"] = [(name, "first"), *((name, label) for _, label in batches)], lines, needs, lambda given, jobs: trial.end()
-    return tasks
 
 
 def tasks_of(crates, root, room, size, is_built):
@@ -106,30 +86,11 @@ def tasks_of(crates, root, room, size, is_built):
     return trials, tasks
 
 
-def report(trials):
-    """Prints what became of each edit and of each crate, and returns how many failed."""
-    passed, failed = 0, 0
-    for trial in trials:
-        for edit in trial.edits:
-            label = f"{trial.crate.name}/{edit.name}"
-            if edit in trial.refused:
-                say(f"{label}: refused, as it must be: {trial.refused[edit]}")
-            else:
-                say(f"{label}: FAILED: {trial.failed.get(edit, 'it was not tried')}")
-        passed += len(trial.refused)
-        failed += len(trial.edits) - len(trial.refused)
-    used = resource.getrusage(resource.RUSAGE_CHILDREN)
-    say(f"{used.ru_utime + used.ru_stime:.0f} CPU s")
-    print(f"{passed} passed, {failed} failed")
-    return failed
-
-
 def main():
     parser = argparse.ArgumentParser(prog="refused", description=__doc__.split("\n")[0])
     parser.add_argument("--size", type=int, default=100, help="how many edits at most in one check")
     parser.add_argument("--warm", action="store_true", help="begin over what rt check kept in out/, and over the libraries that it built")
     parser.add_argument("--built", action="store_true", help="take the libraries below as rt ci has just built them")
-    parser.add_argument("--seeds", metavar="FOLDER", help="begin over what rt ci proved, where seeds.py kept it there")
     parser.add_argument("--root", default=str(ROOT), help="the repository, if another than this one")
     parser.add_argument("names", nargs="*", metavar="NAME", help="the crates; all, if none is named")
     given = parser.parse_args()
@@ -137,7 +98,6 @@ def main():
     # (over libraries as they are built, no other crate is proved)
     names = given.names if given.built and given.names else os.listdir(f"{root}/crates")
     kept = {it: f"{root}/crates/{it}/out/incremental" for it in names if given.warm}
-    kept |= {it: f"{given.seeds}/{it}" for it in names if given.seeds}
     with tempfile.TemporaryDirectory(prefix="refused-") as room:
         copy_of(root, room, kept)
         crates = sorted(RT.rtlib.crates_below(room), key=lambda it: len(it.below()))
@@ -150,7 +110,8 @@ def main():
                     shutil.rmtree(f"{it.folder}/refused", ignore_errors=True)
         trials, tasks = tasks_of(crates, root, room, max(given.size, 1), given.built or given.warm)
         RT.in_lanes(tasks)
-        return 1 if report(trials) else 0
+        failed = report(trials)
+    return 1 if failed or not trials else 0
 
 
 if __name__ == "__main__":

@@ -20,8 +20,10 @@ class Edit:
         self.change, self.function = None, None
         # the file that it changes, the function's whole text as it is then, and whether a copy of the function can stand beside it
         self.file, self.item, self.has_copies = None, None, False
-        with open(path, encoding="utf-8", errors="replace") as it:
-            self.text = it.read()
+        self.text = ""
+        if os.path.isfile(path):
+            with open(path, encoding="utf-8", errors="replace") as it:
+                self.text = it.read()
 
 
 def edits_of(crate):
@@ -31,9 +33,12 @@ def edits_of(crate):
     found = [Edit(f"{folder}/{it}") for it in names if not it.endswith(".md")]
     items = items_of(crate) if found else {}
     with tempfile.TemporaryDirectory(prefix="refused-") as room:
-        texts = []
+        texts, seen = [], {}
         for at, edit in enumerate(found):
             changes = changes_of(edit, crate, items)
+            first = seen.setdefault(tuple(sorted(changes.items())), edit.name) if changes else edit.name
+            if first != edit.name:
+                edit.why = f"it makes the same change as {first}"
             for path, text in changes.items():
                 file = f"{room}/{at}.{len(texts)}.rt"
                 with open(file, "w", encoding="utf-8") as it:
@@ -96,7 +101,10 @@ def in_batches(edits, size):
         by_function.setdefault(it.change, []).append(it)
     counts = [len(it) for it in by_function.values()]
     least = max([-(-len(edits) // size), *(len(it) for it in by_function.values() if not all(edit.has_copies for edit in it))])
-    cost = lambda number: COPIES_A_CHECK * number + sum(it > number for it in counts)
+
+    def cost(number):
+        return COPIES_A_CHECK * number + sum(it > number for it in counts)
+
     batches = [[] for _ in range(min(range(least, max([least, *counts]) + 1), key=cost))]
     for together in sorted(by_function.values(), key=len, reverse=True):
         free = sorted(batches, key=len)
@@ -130,12 +138,18 @@ def put(room, file, changes, types, crate):
             if name == change.name:
                 own = item
                 continue
-            copies += b"\n\n" + re.sub(rb"\bfn(\s+)%s\b" % change.name.encode(), rb"fn\1%s" % name.encode(), item or text[start:end], count=1)
+            copies += b"\n\n" + renamed(item or text[start:end], change.name, name)
             for path in functions.names_of(change, types, crate):
                 copy_proof(room, path, path[: -len(change.name)] + name)
         text = text[:start] + own + copies + text[end:]
     with open(f"{room}/{file}", "wb") as it:
         it.write(text)
+
+
+def renamed(item, name, to):
+    """Returns a function's text under another name; the function's own comments may name it too, and stay."""
+    head = rb"(?m)^((?![ \t]*//).*?\bfn\s+)%s\b" % name.encode()
+    return re.sub(head, lambda it: it[1] + to.encode(), item, count=1)
 
 
 def copy_proof(room, path, copy):

@@ -13,8 +13,9 @@ TYPES = ("struct", "enum", "union", "trait")
 # A function of a file: the modules that it is written in, the type and the trait of its impl, if any, and its name.
 Function = namedtuple("Function", "modules type trait name")
 
-# What a file has: the tokens of each function's body, all other tokens, and the types that it declares, with their modules; where each
-# function stands, from its attributes to its last brace, in bytes; and which functions are methods of a trait.
+# What a file has: the tokens of each function's body, all other tokens, those of a closure's contract among them, and the types that it
+# declares, with their modules; where each function stands, from its attributes to its last brace, in bytes; and which functions are
+# methods of a trait.
 Items = namedtuple("Items", "bodies rest types spans of_traits")
 
 
@@ -88,7 +89,7 @@ def items_of(path, tokens):
         code = text if kind == "Code" and not is_clause else ""
         if inside is not None:
             depth += (code == "{") - (code == "}")
-            inside.append((kind, text))
+            (items.rest if is_clause or kind in ("Head", "End") else inside).append((kind, text))
             if not depth:
                 items.spans[function] = (begun, end) if function not in items.spans else None
                 if owner[2] or owner[0] == "trait":

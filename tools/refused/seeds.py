@@ -1,28 +1,25 @@
-"""Runs `rt ci` and keeps what it proves of each library with edits, for those edits to begin with.
-
-    python3 tools/refused/seeds.py FOLDER
+"""Keeps what `rt ci` proves of each library with edits, for those edits to begin with.
 
 Rattle writes each module that it has checked into a folder of its own, which it removes as it ends; a folder of kept work has such
-files too. While `rt ci` proves a library from nothing, this program links them into FOLDER/NAME, under the name that this prover
-gives its kept work. The first edit of must-fail/ begins over them, as each other does over what the edits before it kept; so does
-tools/refused. What is lacking is proved anew: the prover takes no module that isn't up to date. The status is that of `rt ci`.
+files too. While `rt ci` proves a library from nothing, `watch` links them into FOLDER/NAME, under the name that this prover gives its
+kept work. The edits of refused/ begin over them, and so does the first edit of must-fail/, as each other does over what the edits
+before it kept. What is lacking is proved anew: the prover takes no module that isn't up to date.
 """
 
 import glob
 import os
 import re
 import subprocess
-import sys
 import tempfile
 import threading
 import time
 
-sys.dont_write_bytecode = True
-
-from kit import RATTLE, RT, linked
+from kit import RATTLE, RT, link_or_copy, linked
 
 # in seconds; a library takes far longer, and what comes after the last look is proved anew
 BETWEEN_LOOKS = 1
+# held during a look
+LOOKING = threading.Lock()
 
 
 def name_of_kept():
@@ -56,7 +53,7 @@ def follow(folder, kept, seen):
     os.makedirs(kept, exist_ok=True)
     for name in {*os.listdir(folder)} - seen:
         if name.endswith(".oantt") and not os.path.exists(f"{kept}/{name}"):
-            os.link(f"{folder}/{name}", f"{kept}/{name}")
+            link_or_copy(f"{folder}/{name}", f"{kept}/{name}")
         seen.add(name)
 
 
@@ -69,7 +66,7 @@ def look(to, name, crates, known):
         if crate:
             try:
                 follow(folder, f"{to}/{crate}/{name}", seen)
-            except OSError:
+            except FileNotFoundError:
                 # (it was removed meanwhile)
                 continue
 
@@ -78,7 +75,8 @@ def watch(to, name, crates):
     """Looks for ever."""
     known = {}
     while True:
-        look(to, name, crates, known)
+        with LOOKING:
+            look(to, name, crates, known)
         time.sleep(BETWEEN_LOOKS)
 
 
@@ -93,17 +91,3 @@ def begun(to, check):
         return check(crate, texts, flags, kept, **more)
 
     return check_over_seed
-
-
-def main():
-    to = os.path.realpath(sys.argv[1])
-    os.makedirs(to, exist_ok=True)
-    name = name_of_kept()
-    if name:
-        RT.checked = begun(to, RT.checked)
-        threading.Thread(target=watch, args=(to, name, os.path.realpath("crates")), daemon=True).start()
-    return RT.main(["ci"])
-
-
-if __name__ == "__main__":
-    sys.exit(main())

@@ -1,17 +1,21 @@
 """Tests tools/refused on a small crate: edits that are refused, and each way in which an edit fails. Tests that seeds.py keeps what
 `rt ci` proves of it, and that the edits of its must-fail/ begin with that."""
 
+import importlib.util
+import os
 import pathlib
 import re
 import subprocess
 import sys
 import tempfile
+import types
 
 TOOL = pathlib.Path(__file__).resolve().parent
 sys.path.insert(0, str(TOOL))
 sys.dont_write_bytecode = True
 
 from kit import RATTLE, RT
+from trying import Trial
 
 CODE = """//! Halves and their sums.
 #![tactic(auto)]
@@ -78,8 +82,10 @@ returns-clause-some c = let more = returns-clause-more c in omega arith
 
 # the name of an edit, its text, and a word of what the tool says of it
 EDITS = [
-    ("refused_in_a_function", "file: src/lib.rt\nold:     number + 1\nnew:     number + 2\n", "lib::next did not prove"),
-    ("refused_too_in_a_copy", "file: src/lib.rt\nold:     number + 1\nnew:     number + 3\n", "lib::next_edit_1 did not prove"),
+    # (the first of a function is made in it, and so stands beside refused copies of it)
+    ("accepted_beside_copies", "file: src/lib.rt\nold:     number + 1\nnew:     1 + number\n", "NOT REFUSED"),
+    ("refused_in_a_copy", "file: src/lib.rt\nold:     number + 1\nnew:     number + 2\n", "lib::next_edit_1 did not prove"),
+    ("refused_too_in_a_copy", "file: src/lib.rt\nold:     number + 1\nnew:     number + 3\n", "lib::next_edit_2 did not prove"),
     ("refused_in_a_method", "file: src/lib.rt\nold:         self.0\nnew:         self.0 / 2\n", "lib::Number::get did not prove"),
     ("refused_by_an_answer", "file: src/lib.rt\nold:     next(two)\nnew:     next(two) - 1\n", "`returns-clause-more`"),
     # the same value, without the call that an answer names: in `third`, and the one above in a copy of it
@@ -91,10 +97,11 @@ EDITS = [
     ("cannot_be_applied", "file: src/lib.rt\nold:     number / 5\nnew:     number / 2\n", "BAD EDIT: an 'old:' text is in"),
     ("changes_a_contract", "file: src/lib.rt\nold:     ensures { result ≤ number }\nnew:     ensures { result < number }\n", "outside the bodies"),
     ("changes_two_functions", "file: src/lib.rt\nold:     number / 2\nnew:     number\nold:     number + 1\nnew:     number + 3\n", "bodies of 2 functions"),
+    ("the_same_change", "file: src/lib.rt\nold:   number + 1\nnew:   number + 2\n", "the same change as refused_in_a_copy.edit"),
 ]
 
 
-def make(root):
+def make(root, edits=EDITS):
     """Makes a repository of one crate with these edits."""
     crate = root / "crates" / "lib_of_halves"
     (crate / "src").mkdir(parents=True)
@@ -103,7 +110,7 @@ def make(root):
     (crate / "src" / "lib.rt").write_text(CODE, encoding="utf-8")
     (crate / "proofs" / "third").mkdir(parents=True)
     (crate / "proofs" / "third" / "Answers.antt").write_text(ANSWERS, encoding="utf-8")
-    for name, text, _ in EDITS:
+    for name, text, _ in edits:
         (crate / "refused" / f"{name}.edit").write_text(text, encoding="utf-8")
 
 
@@ -112,48 +119,46 @@ def add_must_fail(root):
     folder = root / "crates" / "lib_of_halves" / "must-fail"
     folder.mkdir()
     for name, text, _ in EDITS:
-        if name in ("refused_in_a_function", "refused_in_a_method"):
+        if name in ("refused_in_a_copy", "refused_in_a_method"):
             (folder / f"{name}.edit").write_text(text, encoding="utf-8")
 
 
-def faults_of_seeds():
-    """Returns what isn't as it must be of what seeds.py keeps of `rt ci`, on the same crate, and of what it answers."""
+def faults_of_gate():
+    """Returns what isn't as it must be of `rt ci` on the same crate with its edits tried beside it, and of what it keeps of it."""
     with tempfile.TemporaryDirectory(prefix="refused-test-") as folder:
         root = pathlib.Path(folder) / "repository"
         make(root)
         add_must_fail(root)
         how = {"cwd": root, "stdin": subprocess.DEVNULL, "stdout": subprocess.PIPE, "stderr": subprocess.STDOUT, "text": True}
-        words = [sys.executable, str(TOOL / "seeds.py"), f"{folder}/seeds"]
+        words = [sys.executable, str(TOOL / "gate.py"), f"{folder}/room"]
         ran = subprocess.run(words, **how)
+        edits = pathlib.Path(folder, "room", "edits").read_text(encoding="utf-8")
         crate = RT.rtlib.crates_below(str(root))[0]
-        kept = len(list(pathlib.Path(folder, "seeds").rglob("*.oantt")))
-        check = [RATTLE, "check", *crate.words(["--jobs", "1"], keeps=False), "--incremental", f"{folder}/seeds/{crate.name}"]
+        seed = pathlib.Path(folder, "room", "seeds", crate.name)
+        kept = len(list(seed.rglob("*.oantt")))
+        check = [RATTLE, "check", *crate.words(["--jobs", "1"], keeps=False), "--incremental", str(seed)]
         said = subprocess.run(check, **{**how, "cwd": crate.folder}).stdout
         # (there is nothing to prove in a folder that has no crates.txt)
         status = subprocess.run(words, **{**how, "cwd": folder}).returncode
-    faults = [] if status == 2 else [f"rt ci ends with 2 where there is no crates.txt, and seeds.py ended with {status}"]
+    faults = faults_of_edits(edits)
+    if status != 2:
+        faults.append(f"rt ci ends with 2 where there is no crates.txt, and gate.py ended with {status}")
     if ran.returncode or ran.stdout.rstrip("\n").split("\n")[-1] != "3 passed, 0 failed":
         faults.append(f"rt ci ended with {ran.returncode}, and not with 0 and 3 passed, 0 failed: {ran.stdout[-1000:]}")
     if f"seeds: the edits of {crate.name} begin over {kept} modules\n" not in ran.stdout:
-        faults.append(f"the edits of must-fail/ didn't begin over the {kept} modules that seeds.py kept")
+        faults.append(f"the edits of must-fail/ didn't begin over the {kept} modules that were kept")
+    # of `next`, `below` and `third`
+    if f"refused: {crate.name}: over what was proved of it, proved: 3 copies (" not in ran.stdout:
+        faults.append("the edits of refused/ didn't begin over what was proved, and a copy of each function that is copied")
     found = re.search(rf"^crate {crate.name}: modules loaded=(\d+) checked=(\d+)$", said, re.M)
     if not found or int(found[1]) <= int(found[2]):
-        faults.append(f"seeds.py kept less than half of what was proved: {found[0] if found else said[-1000:]}")
+        faults.append(f"less than half of what was proved is kept: {found[0] if found else said[-1000:]}")
     return faults
 
 
-def main():
-    with tempfile.TemporaryDirectory(prefix="refused-test-") as folder:
-        root = pathlib.Path(folder)
-        make(root)
-        words = [sys.executable, str(TOOL), "--root", folder]
-        ran = subprocess.run(words, stdin=subprocess.DEVNULL, stdout=subprocess.PIPE, stderr=subprocess.STDOUT)
-        said = ran.stdout.decode(errors="replace")
-        is_kept = not (root / "crates" / "lib_of_halves" / "out").exists()
-    faults = faults_of_seeds() + ([] if is_kept else ["it wrote into the repository"])
-    # of `next`, `below` and `third`
-    if "what its edits change, and 3 copies (" not in said:
-        faults.append("it didn't prove a copy of each function that it copies")
+def faults_of_edits(said):
+    """Returns what isn't as it must be of what is said of the edits."""
+    faults = []
     for name, _, word in EDITS:
         line = next((it for it in said.split("\n") if f"/{name}.edit: " in it), "no line")
         is_refused = ": refused, as it must be: " in line
@@ -161,11 +166,72 @@ def main():
             faults.append(f"{name}: {line}")
     refused = sum(it[0].startswith("refused") for it in EDITS)
     last = f"{refused} passed, {len(EDITS) - refused} failed"
-    if said.rstrip("\n").split("\n")[-1] != last or ran.returncode != 1:
-        faults.append(f"its last line is not {last}, or its status, {ran.returncode}, is not 1")
+    if said.rstrip("\n").split("\n")[-1] != last:
+        faults.append(f"the last line is not {last}")
+    return faults
+
+
+def faults_of_last_look():
+    """Returns what isn't as it must be where an edit's check leaves something in what the edits are tried over."""
+    with tempfile.TemporaryDirectory(prefix="refused-test-") as folder:
+        edit = type("Edit", (), {"why": None, "change": None})()
+        trial = Trial(types.SimpleNamespace(name="lib_of_halves"), [edit], [], folder, lambda text: None)
+        trial.is_proved = True
+        kept = pathlib.Path(folder, "kept")
+        kept.write_text("proved", encoding="utf-8")
+        counts = []
+        for text in ("proved", "edited"):
+            trial.begin(1)
+            trial.refused[edit] = "refused"
+            kept.write_text(text, encoding="utf-8")
+            trial.end()
+            counts.append((len(trial.refused), len(trial.failed)))
+    return [] if counts == [(1, 0), (0, 1)] else ["an edit counts though what it was tried over isn't what was proved"]
+
+
+def faults_of_libraries():
+    """Returns what isn't as it must be of which libraries are taken as they were built."""
+    spec = importlib.util.spec_from_file_location("refused", TOOL / "__main__.py")
+    tool = importlib.util.module_from_spec(spec)
+    spec.loader.exec_module(tool)
+    faults = []
+    with tempfile.TemporaryDirectory(prefix="refused-test-") as folder:
+        make(pathlib.Path(folder))
+        made = pathlib.Path(folder, "crates", "lib_of_halves", "out", "rlib")
+        crate = types.SimpleNamespace(name="lib_of_halves", stamp=lambda: "now")
+        wanted = [("with no library", False), ("as rt ci built it", True), ("older than its sources", False), ("of this stamp", True), ("of another stamp", False)]
+        for what, is_wanted in wanted:
+            if what == "as rt ci built it":
+                (made / "lib_of_halves.rlib").mkdir(parents=True)
+            elif what == "older than its sources":
+                os.utime(made / "lib_of_halves.rlib", (0, 0))
+            elif what != "with no library":
+                (made / "stamp").write_text("now" if is_wanted else "before", encoding="utf-8")
+            if tool.is_up_to_date(crate, str(made)) != is_wanted:
+                faults.append(f"a crate {what} is {'built anew' if is_wanted else 'taken as it is'}")
+    return faults
+
+
+def faults_alone():
+    """Returns what isn't as it must be of the tool without `rt ci`: of one edit, which is refused, and of none."""
+    faults = []
+    for edits, status, last in ((EDITS[1:2], 0, "1 passed, 0 failed"), ([], 1, "0 passed, 0 failed")):
+        with tempfile.TemporaryDirectory(prefix="refused-test-") as folder:
+            make(pathlib.Path(folder), edits)
+            ran = subprocess.run([sys.executable, str(TOOL), "--root", folder], stdin=subprocess.DEVNULL, stdout=subprocess.PIPE, text=True)
+            if ran.returncode != status or ran.stdout.rstrip("\n").split("\n")[-1] != last:
+                faults.append(f"of {len(edits)} edits it says {ran.stdout[-1000:]}, and ends with {ran.returncode}")
+            if pathlib.Path(folder, "crates", "lib_of_halves", "out").exists():
+                faults.append("it wrote into the repository")
+    return faults
+
+
+def main():
+    faults = faults_of_gate() + faults_of_last_look() + faults_of_libraries() + faults_alone()
     for it in faults:
         print(f"the test of tools/refused: {it}")
-    print(said if faults else f"the test of tools/refused: each of {len(EDITS)} edits was told for what it is")
+    if not faults:
+        print(f"the test of tools/refused: each of {len(EDITS)} edits was told for what it is")
     return 1 if faults else 0
 
 

@@ -1,5 +1,6 @@
 """Tries a crate's edits over one folder of kept work."""
 
+import hashlib
 import os
 import re
 import shutil
@@ -24,7 +25,6 @@ ANSWER = re.compile(r": error: `[^`]+`: ")
 # a proof file that names what the edit took away says nothing of the contract
 NAMES = re.compile(r"has no field|\(nearest: |is not in scope|has no `|was not admitted")
 
-
 # what the prover offers where a failing goal has no answer, for which it runs once more
 OFFER = re.compile(r"^help: (?:write|add these lines to) \./proofs/(\S+?)(?:_edit_\d+)?/Answers\.antt", re.M)
 
@@ -48,21 +48,21 @@ def run(words, folder, costs=None):
     before, spent, lines = time.monotonic(), 0, []
     how = {"cwd": folder, "stdin": subprocess.DEVNULL, "stdout": subprocess.PIPE, "stderr": subprocess.STDOUT}
     started = subprocess.Popen([*RT.rtlib.guarded(), RATTLE, *words], **how)
-    for line in started.stdout:
-        lines.append(line.decode(errors="replace"))
-        checked = CHECKED.match(lines[-1])
-        if checked and costs is not None:
-            now = cpu_of(started.pid)
-            if spent:
-                costs[checked[1]] = now - spent
-            spent = now
-    said = "".join(lines)
+    with started.stdout as said:
+        for line in said:
+            lines.append(line.decode(errors="replace"))
+            checked = CHECKED.match(lines[-1])
+            if checked and costs is not None:
+                now = cpu_of(started.pid)
+                if spent:
+                    costs[checked[1]] = now - spent
+                spent = now
     _, status, used = os.wait4(started.pid, 0)
-    started.returncode = os.waitstatus_to_exitcode(status) if hasattr(os, "waitstatus_to_exitcode") else ended(status)
+    started.returncode = os.waitstatus_to_exitcode(status)
     if started.returncode == -signal.SIGKILL and "--jobs" in words and words[words.index("--jobs") + 1] != "1":
         at = words.index("--jobs") + 1
         return run([*words[:at], "1", *words[at + 1 :]], folder, costs)
-    return started.returncode, said, used.ru_utime + used.ru_stime, time.monotonic() - before
+    return started.returncode, "".join(lines), used.ru_utime + used.ru_stime, time.monotonic() - before
 
 
 def only(paths):
@@ -70,30 +70,54 @@ def only(paths):
     return [word for path in sorted({*paths}) for word in ("--only", path)]
 
 
-def ended(status):
-    return -os.WTERMSIG(status) if os.WIFSIGNALED(status) else os.WEXITSTATUS(status)
-
-
 def told_as(edit, number):
     """Returns what the prover calls the function, or the copy of it, that an edit of this number changes."""
     return name_of_copy(edit.function, number) if number else edit.function
 
 
+def names_kept(folder, crate):
+    """Returns what the prover calls the functions of a crate whose proofs a folder of kept work has: each has a file of this name."""
+    start, end = f"Rattle-{crate}-proofs.TheLinks.", ".oantt"
+    files = [file for _, _, files in os.walk(folder) for file in files if file.startswith(start)]
+    return {file[len(start) : -len(end)].replace("-", "::") for file in files}
+
+
+def sum_of(folder):
+    """Returns a sum of all that stands in a folder."""
+    found = hashlib.blake2b()
+    for at, folders, files in os.walk(folder):
+        folders.sort()
+        for file in sorted(files):
+            with open(f"{at}/{file}", "rb") as it:
+                found.update(f"{at}/{file}\n".encode() + hashlib.blake2b(it.read()).digest())
+    return found.digest()
+
+
 class Trial:
-    """A crate of the copy, its folder of kept work, and what became of its edits."""
+    """A crate, its folder of kept work, and what became of its edits."""
 
     def __init__(self, crate, edits, types, kept, say):
         self.crate, self.edits, self.types, self.kept, self.say = crate, edits, types, kept, say
         self.refused, self.failed, self.is_begun = {}, {}, False
         # by file, the functions of which copies are tried in a batch
         self.copied = {}
-        self.asks = set()
+        # whether the crate is proved as it stands, in this run and into the folder of kept work
+        self.is_proved = False
+        # the sum of that folder as the edits began with it, and the CPU seconds of all checks
+        self.sum, self.used = None, 0
 
     def asked(self, by):
-        """Returns the names, by functions or by their modules, of what the edits change, and of a copy of each that is copied."""
+        """Returns the names, by functions or by their modules, of a copy of each function that is copied, and of what the edits change,
+        where it isn't proved."""
         copies = [it._replace(name=name_of_copy(it.name, 0)) for those in self.copied.values() for it in those]
-        of_edits = [it.change for it in self.edits if it.change]
+        of_edits = [] if self.is_proved else [it.change for it in self.edits if it.change]
         return {path for it in [*of_edits, *copies] for path in by(it, self.types, self.crate.name)}
+
+    def name_edits(self, known):
+        """Finds which of the prover's functions each edit changes; returns whether that is told of all."""
+        for it in self.edits:
+            it.function = it.change and named(it.change, self.types, self.crate.name, known)
+        return all(it.function for it in self.edits if it.change)
 
     def words(self, jobs, kept=None):
         return [*self.crate.words(["--jobs", str(jobs)], keeps=False), "--incremental", kept or self.kept]
@@ -102,29 +126,26 @@ class Trial:
         """Builds the crate's library for the crates above it."""
         os.makedirs(self.kept, exist_ok=True)
         os.makedirs(os.path.dirname(self.crate.rlib), exist_ok=True)
-        status, said, used, seconds = run(["build", *self.words(jobs), "-o", self.crate.rlib], self.crate.folder)
-        return not status and "\nlogic=proved " in said, said, used, seconds
+        status, said, used, _ = run(["build", *self.words(jobs), "-o", self.crate.rlib], self.crate.folder)
+        self.used += used
+        self.is_proved = not status and "\nlogic=proved " in said
+        return self.is_proved, said, used
 
-    def prove(self, jobs):
-        """Proves the edited functions as they stand, and what they call, into the folder of kept work; returns whether all are proved.
-        Where copies of a function are tried, one as it stands must be proved too."""
+    def prove(self, jobs, by=names_of):
+        """Proves what is asked for as it stands, and what that calls, into the folder of kept work; returns whether all is proved."""
         os.makedirs(self.kept, exist_ok=True)
-        self.asks = self.asks or self.asked(names_of)
         with tempfile.TemporaryDirectory(prefix="refused-") as room:
             self.copy_to(room)
             for file, changes in self.copied.items():
                 put(room, file, [(it, name_of_copy(it.name, 0), None) for it in changes], self.types, self.crate.name)
-            status, said, used, seconds = run(["check", *self.words(jobs), *only(self.asks)], room)
-        if status == 2 and "has no function" in said and self.asks != self.asked(modules_of):
-            self.asks = self.asked(modules_of)
-            return self.prove(jobs)
-        known = {name for name, _ in LINE.findall(said)}
-        for it in self.edits:
-            it.function = None if it.why else named(it.change, self.types, self.crate.name, known)
-            if not it.why and not it.function:
-                it.why = f"which of the prover's functions is {it.change.name}, which it changes, isn't told"
+            status, said, used, _ = run(["check", *self.words(jobs), *only(self.asked(by))], room)
+        self.used += used
+        if status == 2 and "has no function" in said and by == names_of:
+            return self.prove(jobs, modules_of)
+        if not self.is_proved:
+            self.name_edits({name for name, _ in LINE.findall(said)})
         told = ASKED.search(said)
-        return not status and bool(told) and told[1] == told[2], said, used, seconds
+        return not status and bool(told) and told[1] == told[2], said, used
 
     def copy_to(self, room):
         """Copies what a check reads of the crate."""
@@ -157,6 +178,7 @@ class Trial:
             asked = only(told_as(*it) for it in with_numbers(edits))
             words = ["check", *self.words(1, f"{kept}/{self.crate.name}"), "--progress", *asked]
             status, said, used, _ = run(words, room, costs)
+        self.used += used
         return status, changed, said, used
 
     def reaches_the_prover(self, status, changed, said):
@@ -178,15 +200,16 @@ class Trial:
         if line is None:
             return False, f"the prover says nothing of {function}"
         goals = GOALS.search(line)
-        if line != "proved" and goals:
+        if goals:
             return True, f"{function} did not prove {goals[1][:160]}"
         place = re.escape("/".join(function.split("::")[1:]))
         errors = re.findall(rf"(?m)^(?:\./)?proofs/{place}/\w+\.antt:\d+:\d+: error.*$", said)
         own = [it for it in errors if ANSWER.search(it) and not NAMES.search(it)]
-        if line != "proved" and own:
+        if own and not line.startswith("proved"):
             return True, f"{function}: {own[0][:200]}"
-        if line == "proved":
-            others = [name for name, it in lines.items() if it != "proved"]
+        # (a function that waits is `proved, may wait`)
+        if line.startswith("proved"):
+            others = [name for name, it in lines.items() if not it.startswith("proved")]
             told = f", though {others[0]} isn't" if others else ""
             return False, f"NOT REFUSED: {function} is still proved with this edit{told}"
         if errors:
@@ -194,25 +217,32 @@ class Trial:
         return False, f"no goal of {function} failed: {line[:200]}"
 
     def begin(self, jobs):
-        """Proves what the edits change, as it stands."""
-        self.is_begun, said, used, seconds = self.prove(jobs)
-        copies = sum(name.endswith(name_of_copy("", 0)) and line == "proved" for name, line in LINE.findall(said))
-        told = f"what its edits change{f', and {copies} copies' if copies else ''} ({used:.0f} CPU s, {seconds:.0f} s)"
-        self.say(f"{self.crate.name}: {'proved' if self.is_begun else 'NOT PROVED'}, {told}")
+        """Proves into the folder of kept work, as it stands, what the edits change, where the crate isn't proved so, and a copy of what is
+        copied."""
+        self.is_proved = self.is_proved and self.name_edits(names_kept(self.kept, self.crate.name))
+        count, over = sum(len(it) for it in self.copied.values()), "over what was proved of it, " * self.is_proved
+        self.is_begun, said, used = self.prove(jobs) if count or not self.is_proved else (True, "", 0)
+        what = f"{'' if self.is_proved else 'what its edits change, and '}{count} copies"
+        self.say(f"{self.crate.name}: {over}{'proved' if self.is_begun else 'NOT PROVED'}: {what} ({used:.0f} CPU s)")
         if not self.is_begun:
             self.say(said[-3000:])
+        for it in self.edits:
+            if it.change and not it.function:
+                it.why = f"which of the prover's functions is {it.change.name}, which it changes, isn't told"
+        self.sum = sum_of(self.kept)
 
     def end(self):
-        """Proves that again over the folder that the edits were tried in: where it fails, none of them is confirmed."""
-        is_well, _, used, _ = self.prove(1) if self.is_begun else (False, "", 0, 0)
-        if not is_well:
-            why = "over the folder that the edits were tried in, its function isn't proved any more" if self.is_begun else "its function isn't proved as it stands"
+        """Looks whether the folder of kept work is still what the edits began with: where it isn't, none of them is confirmed."""
+        is_same = self.is_begun and sum_of(self.kept) == self.sum
+        if not is_same:
+            why = "what it was tried over isn't what was proved" if self.is_begun else "its function isn't proved as it stands"
             self.failed = {it: why for it in self.edits}
             self.refused = {}
         for it in self.edits:
             if it.why:
                 self.failed[it] = f"BAD EDIT: {it.why}"
-        self.say(f"{self.crate.name}: {'proved' if is_well else 'NOT PROVED'} again after its edits ({used:.0f} CPU s)")
+        if self.is_begun:
+            self.say(f"{self.crate.name}: what its edits were tried over is {'as it was proved' if is_same else 'NOT as it was proved'}")
 
     def batches(self, size):
         """Returns the edits in batches, each with a label."""

@@ -118,7 +118,7 @@ def fails(case, room):
     arguments, given, wanted, *texts = case
     status, said = run(arguments, [given, *texts], room)
     wrong = [] if status == wanted else [f"status {status}, and not {wanted}"]
-    for name, it, text in zip(("standard output", "standard error"), said, texts):
+    for name, it, text in zip(("standard output", "standard error"), said, texts, strict=True):
         if not is_wanted(it, text, room):
             wrong.append(f"{name}: {it[-200:]!r}")
     return wrong

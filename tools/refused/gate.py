@@ -1,0 +1,83 @@
+"""Runs `rt ci`, and beside it tries the edits of refused/, those of a library once it is proved: no processor waits for the last checks.
+
+    python3 tools/refused/gate.py FOLDER
+
+It says what `rt ci` says, and has its status. FOLDER/edits has what became of the edits; its last line is `N passed, M failed`.
+"""
+
+import contextlib
+import os
+import sys
+import threading
+
+sys.dont_write_bytecode = True
+
+import seeds
+from edits import edits_of
+from kit import RT, linked
+from tasks import report, say, tasks_of_edits
+from trying import Trial
+
+# how many edits at most in one check
+SIZE = 100
+
+
+class TrialBeside(Trial):
+    """A trial whose folder of kept work begins as the crate's seed, what `rt ci` has just proved of it."""
+
+    def __init__(self, crate, to):
+        super().__init__(crate, *edits_of(crate), f"{to}/kept/{crate.name}", say)
+        self.seed, self.is_tried = f"{to}/seeds/{crate.name}", False
+
+    def begin(self, jobs):
+        self.is_tried = True
+        # (a look that has begun ends, and the next finds nothing more of this crate)
+        with seeds.LOOKING:
+            self.is_proved = os.path.isdir(self.seed)
+        if self.is_proved:
+            linked(self.seed, self.kept)
+        super().begin(jobs)
+
+
+def tasks_of(trials, waits):
+    """Returns the tasks for the edits of these crates; each crate's wait for what `waits` gives of its name."""
+    return {key: task for it in trials for key, task in tasks_of_edits(it, waits(it.crate.name), SIZE).items()}
+
+
+def beside(in_lanes, trials):
+    """Returns the kit's lanes, but for this: the edits of each crate run in them too, once its library is proved. The lanes take first
+    what has the most lines before it, so that of the edits counts for next to nothing: they fill what rt ci leaves free."""
+
+    def in_lanes_with_edits(tasks):
+        # (a kit that names its tasks otherwise tries them behind rt ci)
+        known = [it for it in trials if (it.crate.name, "proof") in tasks]
+        more = tasks_of(known, lambda name: [(name, "proof")])
+        return in_lanes({**tasks, **{key: (waits, lines / 1e6, needs, call) for key, (waits, lines, needs, call) in more.items()}})
+
+    return in_lanes_with_edits
+
+
+def main():
+    to = os.path.realpath(sys.argv[1])
+    os.makedirs(f"{to}/seeds", exist_ok=True)
+    # (where there is no crates.txt, rt ci says so)
+    crates = RT.rtlib.crates_below(os.getcwd()) if os.path.isfile("crates.txt") else []
+    trials = [TrialBeside(it, to) for it in sorted(crates, key=lambda it: len(it.below()))]
+    trials = [it for it in trials if it.edits]
+    in_lanes = RT.in_lanes
+    RT.in_lanes = beside(in_lanes, trials)
+    name = seeds.name_of_kept()
+    if name:
+        threading.Thread(target=seeds.watch, args=(f"{to}/seeds", name, os.path.realpath("crates")), daemon=True).start()
+        if hasattr(RT, "checked"):
+            RT.checked = seeds.begun(f"{to}/seeds", RT.checked)
+    status = RT.main(["ci"])
+    with open(f"{to}/edits", "w", encoding="utf-8") as said, contextlib.redirect_stdout(said):
+        if not status:
+            in_lanes(tasks_of([it for it in trials if not it.is_tried], lambda name: []))
+        report(trials)
+    return status
+
+
+if __name__ == "__main__":
+    sys.exit(main())

@@ -1,0 +1,50 @@
+"""The edits of crates as tasks for the kit's lanes, and what became of them."""
+
+import threading
+
+from kit import RT
+
+PRINTING = threading.Lock()
+
+
+def say(text):
+    with PRINTING:
+        print(f"refused: {text}", flush=True)
+
+
+def begin(trial, waits, given, jobs):
+    """Proves what a crate's edits change, once what it waits for is there."""
+    if all(given[it] for it in waits):
+        trial.begin(jobs)
+    else:
+        say(f"{trial.crate.name} NOT PROVED: a library failed")
+
+
+def tasks_of_edits(trial, waits, size):
+    """Returns the tasks for a crate's edits: a first one, the batches side by side over what it kept, and a last look."""
+    lines, needs, name = trial.crate.count(rb"\n"), RT.need(trial.crate), trial.crate.name
+    tasks = {(name, "first"): (waits, lines, needs, lambda given, jobs: begin(trial, waits, given, jobs))}
+    batches = trial.batches(size)
+    for batch, label in batches:
+        tasks[name, label] = [(name, "first")], lines, needs, lambda given, jobs, it=(batch, label): trial.try_these(*it)
+    tasks[name, "last"] = [(name, "first"), *((name, label) for _, label in batches)], lines, needs, lambda given, jobs: trial.end()
+    return tasks
+
+
+def report(trials):
+    """Prints what became of each edit and of each crate, and returns how many failed."""
+    passed, failed = 0, 0
+    if not trials:
+        say("there was no edit to try")
+    for trial in trials:
+        for edit in trial.edits:
+            label = f"{trial.crate.name}/{edit.name}"
+            if edit in trial.refused:
+                say(f"{label}: refused, as it must be: {trial.refused[edit]}")
+            else:
+                say(f"{label}: FAILED: {trial.failed.get(edit, 'it was not tried')}")
+        passed += len(trial.refused)
+        failed += len(trial.edits) - len(trial.refused)
+    say(f"{sum(it.used for it in trials):.0f} CPU s")
+    print(f"{passed} passed, {failed} failed", flush=True)
+    return failed
