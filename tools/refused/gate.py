@@ -72,9 +72,9 @@ def main():
         if hasattr(RT, "checked"):
             RT.checked = seeds.begun(f"{to}/seeds", RT.checked)
     status = RT.main(["ci"])
+    if not status:
+        in_lanes(tasks_of([it for it in trials if not it.is_tried], lambda name: []))
     with open(f"{to}/edits", "w", encoding="utf-8") as said, contextlib.redirect_stdout(said):
-        if not status:
-            in_lanes(tasks_of([it for it in trials if not it.is_tried], lambda name: []))
         report(trials)
     return status
 

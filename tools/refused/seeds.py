@@ -83,11 +83,11 @@ def watch(to, name, crates):
 def begun(to, check):
     """Returns the kit's check of an edit, but for this: a folder of kept work that is still empty gets the crate's seed first."""
 
-    def check_over_seed(crate, texts, flags, kept=None, **more):
+    def check_over_seed(crate, texts, flags, kept=None, *more, **named):
         seed = f"{to}/{crate.name}"
         if kept and os.path.isdir(kept) and not os.listdir(kept) and os.path.isdir(seed):
             linked(seed, kept)
             print(f"seeds: the edits of {crate.name} begin over {sum(len(names) for _, _, names in os.walk(kept))} modules", flush=True)
-        return check(crate, texts, flags, kept, **more)
+        return check(crate, texts, flags, kept, *more, **named)
 
     return check_over_seed

@@ -140,7 +140,10 @@ def faults_of_gate():
         said = subprocess.run(check, **{**how, "cwd": crate.folder}).stdout
         # (there is nothing to prove in a folder that has no crates.txt)
         status = subprocess.run(words, **{**how, "cwd": folder}).returncode
+        none = pathlib.Path(folder, "room", "edits").read_text(encoding="utf-8")
     faults = faults_of_edits(edits)
+    if none.rstrip("\n").split("\n")[-1] != "0 passed, 1 failed":
+        faults.append(f"where there is no edit to try, none is told to have failed: {none}")
     if status != 2:
         faults.append(f"rt ci ends with 2 where there is no crates.txt, and gate.py ended with {status}")
     if ran.returncode or ran.stdout.rstrip("\n").split("\n")[-1] != "3 passed, 0 failed":
@@ -215,7 +218,7 @@ def faults_of_libraries():
 def faults_alone():
     """Returns what isn't as it must be of the tool without `rt ci`: of one edit, which is refused, and of none."""
     faults = []
-    for edits, status, last in ((EDITS[1:2], 0, "1 passed, 0 failed"), ([], 1, "0 passed, 0 failed")):
+    for edits, status, last in ((EDITS[1:2], 0, "1 passed, 0 failed"), ([], 1, "0 passed, 1 failed")):
         with tempfile.TemporaryDirectory(prefix="refused-test-") as folder:
             make(pathlib.Path(folder), edits)
             ran = subprocess.run([sys.executable, str(TOOL), "--root", folder], stdin=subprocess.DEVNULL, stdout=subprocess.PIPE, text=True)

@@ -7,7 +7,6 @@ import shutil
 import signal
 import subprocess
 import tempfile
-import time
 
 from edits import in_batches, name_of_copy, put, with_numbers
 from functions import modules_of, named, names_of
@@ -45,7 +44,7 @@ def cpu_of(pid):
 def run(words, folder, costs=None):
     """Runs rattle and returns its status, what it said and the CPU seconds that it took; costs gets those of each function that it
     says to have checked, but for the first, which has the start of the check too."""
-    before, spent, lines = time.monotonic(), 0, []
+    spent, lines = 0, []
     how = {"cwd": folder, "stdin": subprocess.DEVNULL, "stdout": subprocess.PIPE, "stderr": subprocess.STDOUT}
     started = subprocess.Popen([*RT.rtlib.guarded(), RATTLE, *words], **how)
     with started.stdout as said:
@@ -62,7 +61,7 @@ def run(words, folder, costs=None):
     if started.returncode == -signal.SIGKILL and "--jobs" in words and words[words.index("--jobs") + 1] != "1":
         at = words.index("--jobs") + 1
         return run([*words[:at], "1", *words[at + 1 :]], folder, costs)
-    return started.returncode, "".join(lines), used.ru_utime + used.ru_stime, time.monotonic() - before
+    return started.returncode, "".join(lines), used.ru_utime + used.ru_stime
 
 
 def only(paths):
@@ -126,7 +125,7 @@ class Trial:
         """Builds the crate's library for the crates above it."""
         os.makedirs(self.kept, exist_ok=True)
         os.makedirs(os.path.dirname(self.crate.rlib), exist_ok=True)
-        status, said, used, _ = run(["build", *self.words(jobs), "-o", self.crate.rlib], self.crate.folder)
+        status, said, used = run(["build", *self.words(jobs), "-o", self.crate.rlib], self.crate.folder)
         self.used += used
         self.is_proved = not status and "\nlogic=proved " in said
         return self.is_proved, said, used
@@ -138,7 +137,7 @@ class Trial:
             self.copy_to(room)
             for file, changes in self.copied.items():
                 put(room, file, [(it, name_of_copy(it.name, 0), None) for it in changes], self.types, self.crate.name)
-            status, said, used, _ = run(["check", *self.words(jobs), *only(self.asked(by))], room)
+            status, said, used = run(["check", *self.words(jobs), *only(self.asked(by))], room)
         self.used += used
         if status == 2 and "has no function" in said and by == names_of:
             return self.prove(jobs, modules_of)
@@ -177,7 +176,7 @@ class Trial:
             linked(self.kept, f"{kept}/{self.crate.name}")
             asked = only(told_as(*it) for it in with_numbers(edits))
             words = ["check", *self.words(1, f"{kept}/{self.crate.name}"), "--progress", *asked]
-            status, said, used, _ = run(words, room, costs)
+            status, said, used = run(words, room, costs)
         self.used += used
         return status, changed, said, used
 

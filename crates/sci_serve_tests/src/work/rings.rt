@@ -115,35 +115,6 @@ fn passed<R: Wait, G: Gate>(
     Some((produced, consumed))
 }
 
-// What a node's workers answer that first consumes the items, which nobody produces, and then produces them, which nobody consumes.
-fn starved<R: Wait, G: Gate>(
-    rt: &R,
-    alloc: Global,
-    items: &[u64],
-    lines: u16,
-    gate: &G,
-) -> Option<(Result<Vec<u64>, WorkRefusal>, Result<(), WorkRefusal>)>
-    requires { (0 < lines) × (lines ≤ 1023) }
-{
-    let (consumers, producers) = (AtomicBool::new(false), AtomicBool::new(false));
-    let me = NodeId::new(3)?;
-    let fact = RingFact::new(items, lines);
-    let mut bank = opened(alloc, fact, me, lines + 1, [0; 8], 0)?;
-    let mut node = Node::new(alloc, me, lines + 1, 1).ok()?;
-    let consumed = consume(
-        rt,
-        alloc,
-        &mut node,
-        &mut bank,
-        items.len(),
-        lines,
-        gate,
-        &consumers,
-    );
-    let produced = produce(rt, &mut node, &mut bank, items, lines, gate, &producers);
-    Some((consumed, produced))
-}
-
 #[test]
 fn items_come_in_order(rt: HostRuntime) -> Result<(), Fail> {
     let stop = AtomicBool::new(false);
@@ -238,17 +209,5 @@ fn a_line_with_a_later_item_is_19(rt: HostRuntime) -> Result<(), Fail> {
         "no bank",
     )?;
     same(&rt, &consumed.err(), &Some(WorkRefusal::Overrun));
-    Ok(())
-}
-
-// An item that was counted too early would free its line for the next one.
-#[test]
-fn an_item_is_counted_once_it_was_read_and_written_once_its_line_is_free(
-    rt: HostRuntime,
-) -> Result<(), Fail> {
-    let gate = Shuts { from: 9 };
-    let ended = starved(&rt, rt.alloc(), &[7, 8], 1, &gate).ok_or("no bank")?;
-    same(&rt, &ended.0.err(), &Some(WorkRefusal::Stalled));
-    same(&rt, &ended.1, &Err(WorkRefusal::Stalled));
     Ok(())
 }
