@@ -1,5 +1,6 @@
-"""Tests tools/refused on a small crate: edits that are refused, and each way in which an edit fails. Tests that seeds.py keeps what
-`rt ci` proves of it, and that the edits of its must-fail/ begin with that."""
+"""Tests tools/refused on a small crate: edits that are refused, and each way in which an edit fails, beside `rt ci` and without it;
+that the edits of must-fail/ begin over what `rt ci` proved of the crate; that no edit counts where the folder that they were tried
+over has changed behind them; and which libraries are taken as they were built."""
 
 import importlib.util
 import os

@@ -20,10 +20,10 @@ impl<K: Keeps> Seat<K> {
         requires fits { FitsEvent (K.fits self.old.standing.terms.keep self.old.standing.terms.number) event }
         ensures made { HasMade K.fits self.old (Stepped event result) self.new }
     {
+        let asked = event;
         if !line.take(&mut self.token) {
             return Outcome::Busy;
         }
-        let asked = event;
         let outcome = line.step_in_hand(&mut self.token, &mut self.standing, self.node, event);
         let answer = outcome;
         line.give::<Brand>(&mut self.token, &Call::Stepped(asked, answer));
