@@ -44,6 +44,18 @@ def tasks_of(trials, waits):
     return {key: task for it in trials for key, task in tasks_of_edits(it, waits(it.crate.name), SIZE).items()}
 
 
+def by_all(call):
+    """Returns a task's call by as many jobs as there are lanes."""
+    return lambda given, jobs: call(given, int(os.environ.get("RT_JOBS", jobs)))
+
+
+def hastened(tasks):
+    """Returns the proofs that all others wait for, each by all lanes: beside them they would have next to nothing to do."""
+    proofs = {key: it for key, it in tasks.items() if key[1] == "proof"}
+    first = [key for key, (waits, *_) in proofs.items() if all(key in it[0] for other, it in proofs.items() if other not in (key, *waits))]
+    return {key: (*tasks[key][:3], by_all(tasks[key][3])) for key in first}
+
+
 def beside(in_lanes, trials):
     """Returns the kit's lanes, but for this: the edits of each crate run in them too, once its library is proved. The lanes take first
     what has the most lines before it, so that of the edits counts for next to nothing: they fill what rt ci leaves free."""
@@ -52,7 +64,8 @@ def beside(in_lanes, trials):
         # (a kit that names its tasks otherwise tries them behind rt ci)
         known = [it for it in trials if (it.crate.name, "proof") in tasks]
         more = tasks_of(known, lambda name: [(name, "proof")])
-        return in_lanes({**tasks, **{key: (waits, lines / 1e6, needs, call) for key, (waits, lines, needs, call) in more.items()}})
+        more = {key: (waits, lines / 1e6, needs, call) for key, (waits, lines, needs, call) in more.items()}
+        return in_lanes({**tasks, **hastened(tasks), **more})
 
     return in_lanes_with_edits
 

@@ -21,13 +21,14 @@ def begin(trial, waits, given, jobs):
 
 
 def tasks_of_edits(trial, waits, size):
-    """Returns the tasks for a crate's edits: a first one, the batches side by side over what it kept, and a last look."""
-    lines, needs, name = trial.crate.count(rb"\n"), RT.need(trial.crate), trial.crate.name
-    tasks = {(name, "first"): (waits, lines, needs, lambda given, jobs: begin(trial, waits, given, jobs))}
+    """Returns the tasks for a crate's edits: a first one, the batches side by side over what it kept, and a last look. Where the kit
+    asks for lines of work, the edits of a batch are counted: so the longest batches begin first, and the last to end is a short one."""
+    needs, name = RT.need(trial.crate), trial.crate.name
+    tasks = {(name, "first"): (waits, 1, needs, lambda given, jobs: begin(trial, waits, given, jobs))}
     batches = trial.batches(size)
     for batch, label in batches:
-        tasks[name, label] = [(name, "first")], lines, needs, lambda given, jobs, it=(batch, label): trial.try_these(*it)
-    tasks[name, "last"] = [(name, "first"), *((name, label) for _, label in batches)], lines, needs, lambda given, jobs: trial.end()
+        tasks[name, label] = [(name, "first")], len(batch), needs, lambda given, jobs, it=(batch, label): trial.try_these(*it)
+    tasks[name, "last"] = [(name, "first"), *((name, label) for _, label in batches)], 1, needs, lambda given, jobs: trial.end()
     return tasks
 
 

@@ -1,6 +1,6 @@
 """Tests tools/refused on a small crate: edits that are refused, and each way in which an edit fails, beside `rt ci` and without it;
 that the edits of must-fail/ begin over what `rt ci` proved of the crate; that no edit counts where the folder that they were tried
-over has changed behind them; and which libraries are taken as they were built."""
+over has changed behind them; which libraries are taken as they were built; and which proofs get all lanes."""
 
 import importlib.util
 import os
@@ -15,6 +15,7 @@ TOOL = pathlib.Path(__file__).resolve().parent
 sys.path.insert(0, str(TOOL))
 sys.dont_write_bytecode = True
 
+import gate
 from kit import RATTLE, RT
 from trying import Trial
 
@@ -193,6 +194,18 @@ def faults_of_last_look():
     return [] if counts == [(1, 0), (0, 1)] else ["an edit counts though what it was tried over isn't what was proved"]
 
 
+def faults_of_lanes():
+    """Returns what isn't as it must be of which proofs get all lanes: those that all others wait for, or that wait for these."""
+    waits = {"lowest": [], "low": ["lowest"], "left": ["lowest", "low"], "right": ["lowest", "low"], "top": ["lowest", "low", "left"]}
+    tasks = {(name, "proof"): ([(it, "proof") for it in below], 1, 1, lambda given, jobs: jobs) for name, below in waits.items()}
+    tasks["left", "edits"] = ([("left", "proof")], 1, 1, lambda given, jobs: jobs)
+    given = os.environ.get("RT_JOBS")
+    os.environ["RT_JOBS"] = "3"
+    jobs = {name: call({}, 1) for (name, _), (*_, call) in gate.hastened(tasks).items()}
+    os.environ.pop("RT_JOBS") if given is None else os.environ.update(RT_JOBS=given)
+    return [] if jobs == {"lowest": 3, "low": 3} else [f"the proofs that get all lanes are {jobs}"]
+
+
 def faults_of_libraries():
     """Returns what isn't as it must be of which libraries are taken as they were built."""
     spec = importlib.util.spec_from_file_location("refused", TOOL / "__main__.py")
@@ -231,7 +244,7 @@ def faults_alone():
 
 
 def main():
-    faults = faults_of_gate() + faults_of_last_look() + faults_of_libraries() + faults_alone()
+    faults = faults_of_lanes() + faults_of_gate() + faults_of_last_look() + faults_of_libraries() + faults_alone()
     for it in faults:
         print(f"the test of tools/refused: {it}")
     if not faults:
