@@ -20,6 +20,8 @@ from trying import Trial
 
 # how many edits at most in one check
 SIZE = 100
+# how many jobs at most prove one library, as in the kit
+JOBS = 4
 
 
 class TrialBeside(Trial):
@@ -45,20 +47,25 @@ def tasks_of(trials, waits):
 
 
 def by_all(call):
-    """Returns a task's call by as many jobs as there are lanes."""
-    return lambda given, jobs: call(given, int(os.environ.get("RT_JOBS", jobs)))
+    """Returns a task's call by as many jobs as there are lanes, but by JOBS at the most; by as many as the kit gives it, where no number of
+    lanes is told."""
+    lanes = os.environ.get("RT_JOBS", "")
+    most = min(JOBS, int(lanes)) if lanes.isdecimal() else 0
+    return lambda given, jobs: call(given, most or jobs)
 
 
 def hastened(tasks):
-    """Returns the proofs that all others wait for, each by all lanes: beside them they would have next to nothing to do."""
+    """Returns the proofs that all others wait for, but those below them, each by more jobs: beside such a one there would be next to
+    nothing to do."""
     proofs = {key: it for key, it in tasks.items() if key[1] == "proof"}
     first = [key for key, (waits, *_) in proofs.items() if all(key in it[0] for other, it in proofs.items() if other not in (key, *waits))]
     return {key: (*tasks[key][:3], by_all(tasks[key][3])) for key in first}
 
 
 def beside(in_lanes, trials):
-    """Returns the kit's lanes, but for this: the edits of each crate run in them too, once its library is proved. The lanes take first
-    what has the most lines before it, so that of the edits counts for next to nothing: they fill what rt ci leaves free."""
+    """Returns the kit's lanes, but for this: the edits of each crate run in them too, once its library is proved, and what all wait for
+    is hastened. The lanes take first what has the most lines before it, so that of the edits counts for next to nothing: they fill what
+    rt ci leaves free."""
 
     def in_lanes_with_edits(tasks):
         # (a kit that names its tasks otherwise tries them behind rt ci)

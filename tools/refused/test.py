@@ -1,6 +1,6 @@
 """Tests tools/refused on a small crate: edits that are refused, and each way in which an edit fails, beside `rt ci` and without it;
 that the edits of must-fail/ begin over what `rt ci` proved of the crate; that no edit counts where the folder that they were tried
-over has changed behind them; which libraries are taken as they were built; and which proofs get all lanes."""
+over has changed behind them; which libraries are taken as they were built; and which proofs get more jobs."""
 
 import importlib.util
 import os
@@ -195,15 +195,19 @@ def faults_of_last_look():
 
 
 def faults_of_lanes():
-    """Returns what isn't as it must be of which proofs get all lanes: those that all others wait for, or that wait for these."""
+    """Returns what isn't as it must be of which proofs get more jobs, and how many: those that all others wait for, but those below them,
+    as many as there are lanes, but four at the most, and what the kit gives them where no number of lanes is told."""
     waits = {"lowest": [], "low": ["lowest"], "left": ["lowest", "low"], "right": ["lowest", "low"], "top": ["lowest", "low", "left"]}
     tasks = {(name, "proof"): ([(it, "proof") for it in below], 1, 1, lambda given, jobs: jobs) for name, below in waits.items()}
     tasks["left", "edits"] = ([("left", "proof")], 1, 1, lambda given, jobs: jobs)
-    given = os.environ.get("RT_JOBS")
-    os.environ["RT_JOBS"] = "3"
-    jobs = {name: call({}, 1) for (name, _), (*_, call) in gate.hastened(tasks).items()}
+    faults, given = [], os.environ.get("RT_JOBS")
+    for lanes, wanted in (("3", 3), ("9", 4), ("0", 1), ("some", 1), ("", 1)):
+        os.environ["RT_JOBS"] = lanes
+        jobs = {name: call({}, 1) for (name, _), (*_, call) in gate.hastened(tasks).items()}
+        if jobs != {"lowest": wanted, "low": wanted}:
+            faults.append(f"where RT_JOBS is {lanes!r}, the proofs that get more jobs are {jobs}")
     os.environ.pop("RT_JOBS") if given is None else os.environ.update(RT_JOBS=given)
-    return [] if jobs == {"lowest": 3, "low": 3} else [f"the proofs that get all lanes are {jobs}"]
+    return faults
 
 
 def faults_of_libraries():
