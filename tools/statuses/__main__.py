@@ -170,7 +170,8 @@ def shortened(room):
         status, (said, error) = run([command], [given, "", ""], room)
         return status, drawn(said) if command == "draw" and said else said, error
 
-    return [([it[0]], it[1], shortages.faults(serve, *it)) for it in shortages.SERVED]
+    low = shortages.least(serve)
+    return [([it[0]], it[1], shortages.faults(serve, low, *it)) for it in shortages.SERVED]
 
 
 def main():
