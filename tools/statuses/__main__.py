@@ -3,7 +3,7 @@
     python3 tools/statuses [PROGRAM]
 
 PROGRAM is crates/sci_sim/out/sci_sim, or the one that is named. The last line is `statuses: N passed, M failed`, and the
-status is 0 where none failed. kinds.py says what a case is.
+status is 0 where none failed. kinds.py says what a case is, and shortages.py what is tried in little memory.
 """
 
 import html
@@ -168,7 +168,8 @@ def shortened(room):
 
     def serve(command, given):
         status, (said, error) = run([command], [given, "", ""], room)
-        return status, drawn(said) if command == "draw" and said else said, error
+        text = drawn(said) if command == "draw" and said else said
+        return status, "no page" if text is None else text, error
 
     low = shortages.least(serve)
     return [([it[0]], it[1], shortages.faults(serve, low, *it)) for it in shortages.SERVED]
