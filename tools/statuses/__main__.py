@@ -3,13 +3,15 @@
     python3 tools/statuses [PROGRAM]
 
 PROGRAM is crates/sci_sim/out/sci_sim, or the one that is named. The last line is `statuses: N passed, M failed`, and the
-status is 0 where none failed. kinds.py says what a case is.
+status is 0 where none failed. kinds.py says what a case is, and shortages.py what is tried in little memory.
 """
 
 import html
 import os
 import pathlib
 import resource
+import signal
+import socket
 import subprocess
 import sys
 import tempfile
@@ -19,18 +21,25 @@ sys.path.insert(0, str(HOME / "tools/statuses"))
 sys.dont_write_bytecode = True
 
 import caches
+import cuts
 import dumps
 import runs
 import scripts
 import settings
+import shortages
 import sizes
 import traces
-from kinds import CLOSED, FOLDER, FULL, UNREAD, Begins, Drawn, Lawful, Little, Page, Traced, WholePage
+from kinds import CLOSED, FOLDER, FULL, UNREAD
+from kinds import Begins, Broken, Crowded, Drawn, Filled, Lawful, Little, Page, Traced, WholePage
 
 PROGRAM = os.path.realpath(sys.argv[1] if sys.argv[1:] else HOME / "crates/sci_sim/out/sci_sim")
-TABLES = [scripts, caches, sizes, traces, dumps, runs, settings]
+TABLES = [scripts, caches, sizes, cuts, shortages, traces, dumps, runs, settings]
 # The files that lie where the program runs; `folder` is a folder.
 FILES = scripts.FILES | dumps.FILES | runs.FILES
+# How long a file may be that an output fills.
+FILE = 4096
+# How much stack a thread has, where there is room for few of them.
+STACK = 8_388_608
 
 
 def bytes_of(text):
@@ -47,10 +56,20 @@ def descriptor(number, text, room):
         reader, writer = os.pipe()
         os.close(reader)
         return writer
+    if isinstance(text, Broken):
+        # an end that is closed with something unread: behind what it had sent, a read fails
+        reader, writer = socket.socketpair()
+        reader.send(b"unread")
+        writer.sendall(bytes_of(text))
+        writer.close()
+        return reader.detach()
     name = f"{room}/.{number}"
     with open(name, "wb") as file:
         file.write(bytes_of(text) if number == 0 and text is not CLOSED else b"")
-    return os.open(name, os.O_RDWR)
+    opened = os.open(name, os.O_RDWR)
+    if isinstance(text, Filled):
+        os.lseek(opened, FILE - len(bytes_of(text)), os.SEEK_SET)
+    return opened
 
 
 def run(arguments, streams, room):
@@ -60,7 +79,13 @@ def run(arguments, streams, room):
 
     def prepare():
         if isinstance(streams[0], Little):
-            resource.setrlimit(resource.RLIMIT_AS, (12_000_000, 12_000_000))
+            resource.setrlimit(resource.RLIMIT_AS, (streams[0].memory, streams[0].memory))
+        if isinstance(streams[0], Crowded):
+            resource.setrlimit(resource.RLIMIT_STACK, (STACK, resource.getrlimit(resource.RLIMIT_STACK)[1]))
+        if isinstance(streams[1], Filled):
+            resource.setrlimit(resource.RLIMIT_FSIZE, (FILE, FILE))
+            # so a write behind the end fails, as on a full disk
+            signal.signal(signal.SIGXFSZ, signal.SIG_IGN)
         for number in closed:
             os.close(number)
 
@@ -76,7 +101,8 @@ def run(arguments, streams, room):
     for number in range(3):
         written = pathlib.Path(f"{room}/.{number}")
         if number:
-            said.append(written.read_bytes().decode(errors="replace") if written.exists() else "")
+            begun = FILE - len(bytes_of(streams[number])) if isinstance(streams[number], Filled) else 0
+            said.append(written.read_bytes()[begun:].decode(errors="replace") if written.exists() else "")
         written.unlink(missing_ok=True)
     return status, said
 
@@ -137,6 +163,18 @@ def differs(script, room):
     return wrong
 
 
+def shortened(room):
+    """The commands with an input each, and what is wrong with their answers in little memory."""
+
+    def serve(command, given):
+        status, (said, error) = run([command], [given, "", ""], room)
+        text = drawn(said) if command == "draw" and said else said
+        return status, "no page" if text is None else text, error
+
+    low = shortages.least(serve)
+    return [([it[0]], it[1], shortages.faults(serve, low, *it)) for it in shortages.SERVED]
+
+
 def main():
     passed, failed = 0, 0
     cases = [it for table in TABLES for it in table.CASES]
@@ -146,6 +184,7 @@ def main():
             pathlib.Path(f"{room}/{name}").write_bytes(bytes_of(text))
         told = [(arguments, given, fails((arguments, given, *rest), room)) for arguments, given, *rest in cases]
         told += [(["script", "trace", "draw"], script, differs(script, room)) for script in scripts.ALIKE + traces.ALIKE]
+        told += shortened(room)
     for arguments, given, wrong in told:
         passed, failed = passed + (not wrong), failed + bool(wrong)
         for it in wrong:

@@ -32,7 +32,27 @@ class Lawful(str):
 
 
 class Little(str):
-    """Standard input of a run that gets little memory: 12 megabytes of address space."""
+    """Standard input of a run that gets little memory: so many bytes of address space."""
+
+    def __new__(cls, text="", memory=12_000_000):
+        it = super().__new__(cls, text)
+        it.memory = memory
+        return it
+
+
+class Crowded(Little):
+    """Standard input of a run that has address space for the stacks of a few threads, of 8 MiB each, and not of 64."""
+
+    def __new__(cls, text):
+        return super().__new__(cls, text, 100_000_000)
+
+
+class Broken(str):
+    """Standard input whose next read fails behind this text."""
+
+
+class Filled(str):
+    """Standard output that has room for just this text, which it must then hold."""
 
 
 # The texts of usage and help are the command-line crate's: there the beginning is wanted.

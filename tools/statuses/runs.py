@@ -123,6 +123,7 @@ CASES = [
     (["run"], STENCIL.replace("nodes = 3", "nodes = 1"), 0, SPREAD, ""),
     (["run"], STENCIL.replace("nodes = 3", "nodes = 2"), 0, SPREAD, ""),
     (["run"], STENCIL.replace("nodes = 3", "nodes = 64"), 0, SPREAD, ""),
+    (["run"], STENCIL.replace("nodes = 3\ncapacity = 2", "nodes = 64\ncapacity = 1"), 0, SPREAD, ""),
     (["run"], STENCIL.replace("phases = 5", "phases = 0"), 0, f"cells {' '.join(map(str, CELLS))}\n", ""),
     (["run"], RING.replace(str(ITEMS), "[]"), 0, "items\n", ""),
     (["run"], RING.replace(str(ITEMS), "[0, 9223372036854775807]"), 0, "items 0 9223372036854775807\n", ""),

@@ -73,6 +73,22 @@ impl Read for Late {
     }
 }
 
+/// Gives a byte at each read, and has no end.
+#[derive(Drop)]
+struct Endless;
+
+impl Read for Endless {
+    fn read(&mut self, buf: &mut [u8]) -> io::Result<usize> {
+        match buf {
+            [first, ..] => {
+                *first = b'#';
+                Ok(1)
+            }
+            [] => Ok(0),
+        }
+    }
+}
+
 /// A script, its fault if it has one, and its text.
 type Case = (&'static str, Option<SimFault>, &'static str);
 
@@ -156,30 +172,37 @@ fn one_byte_at_a_time(rt: HostRuntime) {
     }
 }
 
-/// The fault of a script that can't be read, and what is written.
-fn unread(alloc: Global, form: Form) -> (Option<SimFault>, Vec<u8>) {
+/// The fault of a script of this reader, and what is written.
+fn unread<R: Read>(alloc: Global, form: Form, reader: &mut R) -> (Option<SimFault>, Vec<u8>) {
     let mut out = Vec::new(alloc);
-    let end = serve(alloc, form, &mut Broken, &mut out);
+    let end = serve(alloc, form, reader, &mut out);
     (end.err(), out)
 }
 
 /// The fault of a script before a writer with so much room, and what the writer holds.
-fn written(alloc: Global, script: &str, room: usize) -> (Option<SimFault>, Vec<u8>) {
+fn written(alloc: Global, form: Form, script: &str, room: usize) -> (Option<SimFault>, Vec<u8>) {
     let mut writer = with_room(alloc, room);
-    let end = serve_script(alloc, &mut script.as_bytes(), &mut writer);
+    let end = serve(alloc, form, &mut script.as_bytes(), &mut writer);
     (end.err(), writer.held)
 }
 
 #[test]
 fn readers_and_writers_that_fail(rt: HostRuntime) {
     for form in [Form::Script, Form::Trace] {
-        let (fault, out) = unread(rt.alloc(), form);
+        let (fault, out) = unread(rt.alloc(), form, &mut Broken);
         same(&rt, &fault, &Some(SimFault::CannotRead));
         same_bytes(&rt, &out, b"");
     }
-    let (fault, held) = written(rt.alloc(), SHARERS, 29);
-    same(&rt, &fault, &Some(SimFault::CannotWrite));
-    same_bytes(&rt, &held, &SHARED.as_bytes()[..29]);
+    for (form, script, text) in [
+        (Form::Script, SHARERS, SHARED),
+        (Form::Trace, READER, READER_TOLD),
+    ] {
+        for room in 0..text.len() {
+            let (fault, held) = written(rt.alloc(), form, script, room);
+            same_at(&rt, &room, &fault, &Some(SimFault::CannotWrite));
+            same_bytes(&rt, &held, text.as_bytes().get(..room).unwrap_or(b""));
+        }
+    }
 }
 
 /// The bytes of the writer and the fault, through a buffer of so many bytes before a writer with so much room.
@@ -311,6 +334,9 @@ fn inputs_of_2_097_152_reads(rt: HostRuntime) -> Result<(), Fail> {
         same(&rt, &end, &fault);
         same_bytes(&rt, &out, b"");
     }
+    let (end, out) = unread(rt.alloc(), Form::Script, &mut Endless);
+    same(&rt, &end, &Some(SimFault::CannotRead));
+    same_bytes(&rt, &out, b"");
     Ok(())
 }
 

@@ -1,0 +1,80 @@
+"""Runs that get less memory than they need, and runs with room for few threads' stacks."""
+
+from dumps import ITS_LISTS, LARGE_DUMP
+from kinds import LIMIT, Crowded, Little, refused
+from runs import COUNT
+from scripts import ROW
+
+# An address space that is ample, and how near to the least one it is tried.
+AMPLE, STEP = 200_000_000, 65_536
+
+
+def growing():
+    """A script in which eight nodes name more and more lines, so its run itself takes memory; and its text."""
+    script, text = ["memory 8 1024\n"], []
+    for line in range(1024):
+        for node in range(8):
+            script.append(f"load {node} {line} 0\ndone {node}\n")
+            text.append(f"node {node} read 0 stamp 0\n")
+    return "".join(script), "".join(text)
+
+
+GROWING, ITS_TEXT = growing()
+ONE = COUNT.replace("nodes = 4", "nodes = 1")
+
+# A command, its input, the text by hand where it is known, and whether something is printed before the last growth.
+SERVED = [
+    ("script", GROWING, ITS_TEXT, True),
+    ("trace", GROWING, None, True),
+    ("draw", GROWING, None, True),
+    ("run", ONE.ljust(LIMIT, "\n"), "count 1000\n", False),
+    ("check", LARGE_DUMP, ITS_LISTS, False),
+]
+
+# 64 nodes want more stack than there is; one has room for its thread.
+CASES = [
+    (["run"], Crowded(COUNT.replace("nodes = 4", "nodes = 64")), 1, "", refused("26")),
+    (["run"], Crowded(ONE), 0, "count 1000\n", ""),
+]
+
+
+def answers(serve, command, given, low):
+    """What a command answers in this memory, in ample memory, and nearer and nearer to the least that is enough.
+
+    `serve` gives its status, what it said and its error.
+    """
+    found = [serve(command, Little(given, memory)) for memory in (low, AMPLE)]
+    high = AMPLE
+    while high - low > STEP:
+        memory = (low + high) // 2
+        found.append(serve(command, Little(given, memory)))
+        low, high = (low, memory) if found[-1][0] == 0 else (memory, high)
+    return high, found
+
+
+def least(serve):
+    """The memory in which a small script is served, and hardly more."""
+    return answers(serve, "script", ROW, 1_000_000)[0]
+
+
+def is_told(answer, wanted, refusals):
+    """Whether all was served, or a refusal is told behind whole lines at the front of what was wanted."""
+    status, said, error = answer
+    if status == 0:
+        return (said, error) == (wanted, "")
+    is_front = wanted.startswith(said) and (not said or said.endswith("\n")) and said != wanted
+    return status == 1 and error in refusals and is_front
+
+
+def faults(serve, low, command, given, text, prints):
+    """What is wrong with the answers of a command, of which that in this memory and that in ample memory come first."""
+    found = answers(serve, command, given, low)[1]
+    wanted = text or serve(command, given)[1]
+    # a thread's stack is memory too
+    refusals = [refused("7"), refused("26")] if command == "run" else [refused("7")]
+    wrong = [f"status {it[0]}, {it[2]!r}, behind {len(it[1])} bytes: {it[1][-80:]!r}" for it in found if not is_told(it, wanted, refusals)]
+    if found[0] != (1, "", refused("7")) or found[1][0] != 0:
+        wrong.append("in little memory it must be refused, and in ample memory served")
+    if any(status != 0 and said for status, said, _ in found) != prints:
+        wrong.append(f"before a refusal {'nothing' if prints else 'something'} was printed")
+    return wrong
