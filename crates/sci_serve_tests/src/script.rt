@@ -10,6 +10,7 @@ mod long_texts;
 mod memory;
 mod rows;
 mod shared;
+mod stopping;
 mod unheard;
 mod writers;
 

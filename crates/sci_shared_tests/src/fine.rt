@@ -6,6 +6,7 @@ mod threads;
 
 use crate::lines::adding::adds_by_two;
 use crate::lines::opening::{finishes_in_order, opens_and_finishes};
+use crate::lines::stopping::stops_anywhere;
 use sci_core::AnyWords;
 use sci_fine::FineLine;
 use std::test::Fail;
@@ -23,4 +24,9 @@ fn finishes_with_seats_in_order(rt: HostRuntime) -> Result<(), Fail> {
 #[test]
 fn two_threads_add(rt: HostRuntime) -> Result<(), Fail> {
     adds_by_two::<_, FineLine<AnyWords>>(&rt, rt.alloc())
+}
+
+#[test]
+fn a_node_stops(rt: HostRuntime) {
+    stops_anywhere::<_, FineLine<AnyWords>>(&rt, rt.alloc());
 }

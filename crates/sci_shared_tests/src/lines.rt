@@ -2,10 +2,13 @@
 ghost use Rattle.std.specs.Prelude.{All, IfOk, IsTrue};
 
 pub(crate) mod adding;
+mod callers;
 mod coarse;
 mod fine;
+mod lawful;
 pub(crate) mod opening;
 pub(crate) mod replaying;
+pub(crate) mod stopping;
 pub(crate) mod turning;
 
 use sci_core::{Closed, Event, Line, OpenRefusal, Outcome, Pending};

@@ -116,7 +116,7 @@ pub(crate) fn fine_banks<'a>(
 }
 
 /// A line that a script can be run over.
-trait Banked: Shared {
+pub trait Banked: Shared {
     /// Runs a script over banks of such lines. None: there is no memory, or they make no banks.
     fn run(alloc: Global, script: &Script, out: &mut Vec<u8>) -> Option<Result<(), ScriptRefusal>>;
 }
@@ -138,7 +138,7 @@ impl Banked for FineLine<AnyWords> {
 }
 
 /// Reads a script, and runs it over banks of such lines.
-fn run_on<L: Banked>(
+pub(crate) fn run_on<L: Banked>(
     alloc: Global,
     text: &str,
     out: &mut Vec<u8>,
