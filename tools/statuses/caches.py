@@ -1,6 +1,69 @@
-"""Scripts of bounded caches, with their texts, worked out by hand from the tables of rows and turns."""
+"""Scripts of bounded caches, with their texts, worked out by hand from the tables of rows and turns; and what the nodes of workloads
+keep of their lines, by the rule that a node names the lines that it used last."""
 
 from kinds import refused
+
+# What one node of a stencil leaves of the six lines of three tiles after a phase, by its capacity: it writes lines 0, 2 and 4; then it
+# reads 0 and 2 and writes 1, reads 2, 0 and 4 and writes 3, reads 4 and 2 and writes 5; and at last it reads 1, 3 and 5. A line that it
+# no longer names is at home (H). One that it wrote, and has named ever since, it keeps dirty (D); one that it came back to read, fresh (F).
+LEFT = {1: "HHHHHF", 2: "HHHFHF", 3: "HFHFHD", 4: "HFDFHD", 5: "HFDDDD", 6: "DDDDDD", 1024: "DDDDDD"}
+TILES = f'work = "stencil"\nnodes = 1\nphases = 1\ncells = {21 * [1]}\ndump = true\n'
+TAKEN_IN = f"cells 2{19 * ' 3'} 2\n"
+# What was written to those lines: the stamp and the words.
+WRITTEN = [
+    "1 1 1 1 1 1 1 1 1",
+    "1 2 2 3 3 3 3 3 3",
+    "1 1 1 1 1 1 1 1 1",
+    "1 2 3 3 3 3 3 3 3",
+    "1 1 1 1 1 1 1 1 1",
+    "1 2 3 3 3 3 3 3 2",
+]
+ZEROS = "0 0 0 0 0 0 0 0 0"
+
+
+def line_of_one(line, state):
+    """The text of a line of the stencil's node."""
+    content = WRITTEN[line]
+    if state == "H":
+        return f"line {line} 000000000000ff00 {content}\n"
+    if state == "F":
+        return f"line {line} 0000000000000001 {content}\ntag {line} 0 0000000000ffff02 {content}\n"
+    return f"line {line} 0000000000000002 {ZEROS}\ntag {line} 0 0000000000ffff03 {content}\n"
+
+
+def tiles_dump(states):
+    return "scidump 1 1 6\n" + "".join(map(line_of_one, range(6), states)) + "end\n"
+
+
+def ring_of(count):
+    """The settings of a ring that has a line for each of its items, which are sevens."""
+    return f'work = "ring"\nlines = {count}\nitems = {count * [7]}\ndump = true\n'
+
+
+def passed_line(line, count, capacity):
+    """The text of a line of that ring. Node 0 writes each once, and names the last ones; node 1 reads each, and names as many, but for
+    the line behind them, where it counts. Who reads last is the head."""
+    content = f"1 {line + 1} 7 0 0 0 0 0 0"
+    if line < count - capacity:
+        return f"line {line} 000000000000ff00 {content}\n"
+    if line == count - capacity:
+        return f"line {line} 0000000000000002 {ZEROS}\ntag {line} 0 0000000000ffff03 {content}\n"
+    return f"line {line} 0000000000000102 {ZEROS}\ntag {line} 0 000000000001ff07 {content}\ntag {line} 1 0000000000ff0003 {content}\n"
+
+
+def ring_text(count, capacity):
+    """What that ring prints. With a capacity of one, node 1 leaves the line where it counts before each item but the first."""
+    lines = "".join(passed_line(line, count, capacity) for line in range(count))
+    before, last = f"{count - 1} {count - 1} 0 0 0 0 0 0 0", f"{count} {count} 0 0 0 0 0 0 0"
+    counted = f"line {count} 0000000000000102 {before if capacity == 1 else ZEROS}\ntag {count} 1 0000000000ffff03 {last}\n"
+    return f"items{count * ' 7'}\nscidump 1 2 {count + 1}\n{lines}{counted}end\n"
+
+
+WORKED = [
+    *((["run"], f"{TILES}capacity = {capacity}\n", 0, TAKEN_IN + tiles_dump(states), "") for capacity, states in LEFT.items()),
+    *((["run"], f"{ring_of(5)}capacity = {capacity}\n", 0, ring_text(5, capacity), "") for capacity in range(1, 8)),
+    *((["run"], f"{ring_of(1023)}capacity = {capacity}\n", 0, ring_text(1023, capacity), "") for capacity in (1022, 1023, 1024)),
+]
 
 CASES = [
     (
@@ -113,4 +176,5 @@ CASES = [
         "node 0 wrote stamp 1\nnode 1 wrote stamp 1\n",
         refused("18 at line 10"),
     ),
+    *WORKED,
 ]

@@ -6,7 +6,14 @@ from kinds import Begins, Lawful, refused
 COUNT = 'work = "count"\nnodes = 4\nadds = 1000\ncapacity = 1\n'
 # Long enough for two lines on its way.
 LONG = 'work = "count"\nnodes = 1\nadds = 250000\ncapacity = 1\n'
-TOLD = "scisim: run: 100000 calls\nscisim: run: 200000 calls\n"
+
+
+def told(count):
+    """The lines of a run whose nodes have ended so many calls together."""
+    return "".join(f"scisim: run: {calls} calls\n" for calls in range(100_000, count + 1, 100_000))
+
+
+TOLD = told(250_000)
 # One node counts, so the dump is always the same.
 ALONE = 'work = "count"\nnodes = 1\nadds = 3\ncapacity = 1\ndump = true\n'
 ALONE_COUNTED = (
@@ -15,9 +22,11 @@ ALONE_COUNTED = (
 CELLS = [0] * 10 + [1] + [0] * 10
 STENCIL = f'work = "stencil"\nnodes = 3\ncapacity = 2\nphases = 5\ncells = {CELLS}\n'
 SPREAD = "cells 0 0 0 0 0 1 5 15 30 45 51 45 30 15 5 1 0 0 0 0 0\n"
+ZEROS = 'work = "stencil"\nnodes = 1\ncapacity = 2\nphases = 0\ncells = [0, 0, 0, 0, 0, 0, 0]\n'
 ITEMS = [3 * place for place in range(100)]
 RING = f'work = "ring"\nlines = 2\ncapacity = 1\nitems = {ITEMS}\n'
 PASSED = "items " + " ".join(map(str, ITEMS)) + "\n"
+LONG_RING = f'work = "ring"\nlines = 1023\ncapacity = 1024\nitems = {40_000 * [0]}\n'
 
 # One node takes seven cells a phase on, from line 0 to line 1. Where it may name one line, it has left line 0 to memory.
 TILE = 'work = "stencil"\nnodes = 1\nphases = 1\ncells = [1, 1, 1, 1, 1, 1, 1]\ndump = true\n'
@@ -114,6 +123,15 @@ CASES = [
     (["run", "long_count", "--progress"], "", 0, "count 250000\n", TOLD),
     (["run"], LONG, 0, "count 250000\n", ""),
     (["run", "--progress", "count"], "", 0, "count 4000\n", ""),
+    # only the calls of all four nodes are so many, and no more
+    (["run", "--progress"], COUNT.replace("1000", "25000"), 0, "count 100000\n", told(100_000)),
+    (["run", "--progress"], COUNT.replace("1000", "24999"), 0, "count 99996\n", ""),
+    (["run", "--progress"], LONG.replace("250000", "99999"), 0, "count 99999\n", ""),
+    (["run", "--progress"], LONG.replace("250000", "1000000"), 0, "count 1000000\n", told(1_000_000)),
+    # in each phase a tile is read and written
+    (["run", "--progress"], ZEROS.replace("phases = 0", "phases = 60000"), 0, f"cells{7 * ' 0'}\n", told(100_000)),
+    # an item is written, read and counted
+    (["run", "--progress"], LONG_RING, 0, f"items{40_000 * ' 0'}\n", Begins(told(100_000))),
     (["run", "--progress"], LONG, 0, "count 250000\n", CLOSED),
     (["run", "--progress"], LONG, 1, FULL, TOLD + WRITE),
     (["run", "--progress"], "", 1, "", refused("22")),

@@ -185,6 +185,57 @@ WALKS = [
     ),
 ]
 
+
+
+def asked(node):
+    """What a node is asked for whose cache has room for one line: each operation, and a victim's eviction in front of the second load."""
+    return (
+        f"load {node} 0 0\ndone {node}\nstore {node} 0 0 5\ndone {node}\nadd {node} 0 0 1\ndone {node}\n"
+        f"load {node} 1 0\ndone {node}\nevict {node} 1\ndone {node}\n"
+    )
+
+
+def its_turns(node, word, stamp):
+    """The turns of that, where line 0 is at home with this word and stamp, and line 1 with zeros."""
+    return (
+        f"# node {node} line 0 load: Queue(none) Done; Queueing(none); HOME\n"
+        f"# node {node} line 0 load: PrependValid Done; Fetching(none); FRESH lent {node}: {node} QUEUED\n"
+        f"# node {node} line 0 load: ReturnMemory Done; InQueue(none); FRESH {node}: {node} QUEUED\n"
+        f"# node {node} line 0 load: Settle Done; Idle; FRESH {node}: {node} ONLY_FRESH\n"
+        f"node {node} read {word} stamp {stamp}\n"
+        f"# node {node} line 0 store: Convert(ONLY_FRESH) Done; Converting(none); FRESH {node}: {node} CONVERT\n"
+        f"# node {node} line 0 store: FreshToGone Done; Converting(none) turned; GONE {node}: {node} CONVERT\n"
+        f"# node {node} line 0 store: Converted Done; Purging; GONE {node}: {node} PURGING\n"
+        f"# node {node} line 0 store: Written(words 5 0 0 0 0 0 0 0) Done; Idle; GONE {node}: {node} ONLY_DIRTY\n"
+        f"node {node} wrote stamp {stamp + 1}\n"
+        f"# node {node} line 0 add: BeginPurge(ONLY_DIRTY) Done; Purging; GONE {node}: {node} PURGING\n"
+        f"# node {node} line 0 add: Written(words 6 0 0 0 0 0 0 0) Done; Idle; GONE {node}: {node} ONLY_DIRTY\n"
+        f"node {node} wrote stamp {stamp + 2}\n"
+        f"# node {node} line 0 evict: Leave(ONLY_DIRTY) Done; Leaving dirty; GONE {node}: {node} LEAVING\n"
+        f"# node {node} line 0 evict: ReturnHomeDirty Done; WritingBack; HOME lent\n"
+        f"# node {node} line 0 evict: ReturnMemory Done; Parted(none); HOME\n"
+        f"# node {node} line 0 evict: Left Done; Idle; HOME\n"
+        f"# node {node} line 1 load: Queue(none) Done; Queueing(none); HOME\n"
+        f"# node {node} line 1 load: PrependValid Done; Fetching(none); FRESH lent {node}: {node} QUEUED\n"
+        f"# node {node} line 1 load: ReturnMemory Done; InQueue(none); FRESH {node}: {node} QUEUED\n"
+        f"# node {node} line 1 load: Settle Done; Idle; FRESH {node}: {node} ONLY_FRESH\n"
+        f"node {node} read 0 stamp 0\n"
+        f"# node {node} line 1 evict: Leave(ONLY_FRESH) Done; Leaving; FRESH {node}: {node} LEAVING\n"
+        f"# node {node} line 1 evict: ReturnHomeFresh Done; Parted(none); HOME\n"
+        f"# node {node} line 1 evict: Left Done; Idle; HOME\n"
+        f"node {node} out\n"
+    )
+
+
+# Each of 64 nodes is asked for each operation, one node after the other. Each leaves 6 in line 0, and two stamps more.
+NODES = range(64)
+EACH_NODE = (
+    "memory 64 2\ncapacity 1\n" + "".join(map(asked, NODES)),
+    0,
+    "".join(its_turns(node, 6 if node else 0, 2 * node) for node in NODES),
+    "",
+)
+
 # A `done` that is refused has a line for each of its turns; they are more than what waits.
 UNENDED = "memory 2 1\nload 0 0 0\nturn 0\nturn 0\nload 1 0 0\nturn 1\ndone 1\n"
 ITS_TRACE = (
@@ -194,7 +245,7 @@ ITS_TRACE = (
     + 100_000 * "# node 1 line 0 load: waits: memory is lent; Queueing(0); FRESH lent 0: 0 QUEUED\n"
 )
 
-TRACED = [*WALKS, (UNENDED, 1, ITS_TRACE, refused("18 at line 7"))]
+TRACED = [*WALKS, EACH_NODE, (UNENDED, 1, ITS_TRACE, refused("18 at line 7"))]
 
 CASES = [
     *((["trace"], script, status, text, error) for script, status, text, error in TRACED),

@@ -215,16 +215,19 @@ fn no_call_begins_at_a_raised_mark(rt: HostRuntime) -> Result<(), Fail> {
     Ok(())
 }
 
-/// Lets each call start, but only once the mark is raised.
+/// Raises the mark while it is asked, when it was asked so often before.
 #[derive(Drop)]
 struct Raises<'s> {
     stop: &'s AtomicBool,
+    at: u64,
     hears: Hears,
 }
 
 impl Gate for Raises<'_> {
     fn may_start(&self, node: u16, call: u64) -> bool {
-        self.stop.store(true, Ordering::SeqCst);
+        if self.hears.asked.load(Ordering::SeqCst) == self.at {
+            self.stop.store(true, Ordering::SeqCst);
+        }
         self.hears.may_start(node, call)
     }
 
@@ -233,23 +236,33 @@ impl Gate for Raises<'_> {
     }
 
     fn limit(&self) -> u64 {
-        self.hears.limit()
+        1000
     }
 }
 
 #[test]
 fn no_call_begins_at_a_mark_raised_meanwhile(rt: HostRuntime) -> Result<(), Fail> {
-    for produces in [true, false] {
+    // the gate opens as the mark is raised, or it stays shut: then the worker asks no more
+    for (produces, from, at) in [
+        (true, u64::MAX, 0),
+        (false, u64::MAX, 0),
+        (true, 0, 0),
+        (false, 0, 1),
+        (true, 0, 500),
+    ] {
         let stop = AtomicBool::new(false);
         let gate = Raises {
             stop: &stop,
-            hears: Hears::new(ME, u64::MAX),
+            at,
+            hears: Hears::new(ME, from),
         };
         let found = worked(&rt, rt.alloc(), &[7], produces, None, 0, &gate, &stop).ok_or(
             "no bank",
         )?;
         same(&rt, &found, &STOPPED);
-        same(&rt, &gate.hears.ended.load(Ordering::SeqCst), &0);
+        let (asked, ended) = (&gate.hears.asked, &gate.hears.ended);
+        same(&rt, &asked.load(Ordering::SeqCst), &(at + 1));
+        same(&rt, &ended.load(Ordering::SeqCst), &0);
     }
     Ok(())
 }

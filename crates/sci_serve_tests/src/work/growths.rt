@@ -14,7 +14,7 @@ use sci_work::{OpenGate, RingFact, WorkRefusal, consume, count, produce, ring, s
 use std::alloc::Global;
 use std::process::Abort;
 use std::sync::Wait;
-use std::sync::atomic::AtomicBool;
+use std::sync::atomic::{AtomicBool, Ordering};
 use std::test::Fail;
 use std::thread::Threads;
 
@@ -53,6 +53,12 @@ fn passes<R: Abort + Threads + Wait + Sync>(rt: &R, alloc: Global) -> Result<(),
     Ok(())
 }
 
+// The worker was refused memory, and has raised the mark.
+fn stopped<R: Abort>(rt: &R, refusal: WorkRefusal, stop: &AtomicBool) {
+    let is_raised = stop.load(Ordering::SeqCst);
+    same(rt, &(refusal, is_raised), &(WorkRefusal::OutOfMemory, true));
+}
+
 // A node produces the items on a ring of one line: at a second try, if it is refused memory.
 fn produces<R: Abort + Wait, B: Bank>(
     rt: &R,
@@ -71,7 +77,7 @@ fn produces<R: Abort + Wait, B: Bank>(
     let Err(refusal) = produce(rt, node, bank, items, 1, &OpenGate, &stop) else {
         return Ok(());
     };
-    same(rt, &refusal, &WorkRefusal::OutOfMemory);
+    stopped(rt, refusal, &stop);
     produce(rt, node, bank, items, 1, &OpenGate, &again)?;
     Err(Fail::new("produce answered 7"))
 }
@@ -94,7 +100,7 @@ fn consumes<R: Abort + Wait, B: Bank>(
             same(rt, &consumed.as_slice(), &items);
             return Ok(());
         }
-        Err(refusal) => same(rt, &refusal, &WorkRefusal::OutOfMemory),
+        Err(refusal) => stopped(rt, refusal, &stop),
     }
     let consumed = consume(rt, alloc, node, bank, items.len(), 1, &OpenGate, &again)?;
     same(rt, &consumed.as_slice(), &items);

@@ -44,13 +44,15 @@ impl Gate for HearsBoth {
     }
 }
 
-// What a gate hears of two nodes that add 1 ten times each.
+// What a gate hears of nodes that add 1 so often each.
 fn heard_of_a_count<R: Threads + Wait + Sync>(
     rt: &R,
     alloc: Global,
+    nodes: u16,
+    adds: u64,
 ) -> Result<[Option<(u64, u64)>; 2], WorkRefusal> {
     let gate = HearsBoth::new();
-    count(rt, alloc, 2, 10, 1, &gate)?;
+    count(rt, alloc, nodes, adds, 1, &gate)?;
     Ok(gate.calls())
 }
 
@@ -76,8 +78,11 @@ fn heard_of_a_stencil<R: Threads + Wait + Sync>(
 
 #[test]
 fn each_node_asks_for_its_calls(rt: HostRuntime) -> Result<(), Fail> {
-    let counted = heard_of_a_count(&rt, rt.alloc())?;
+    let counted = heard_of_a_count(&rt, rt.alloc(), 2, 10)?;
     same(&rt, &counted, &[Some((10, 10)), Some((10, 10))]);
+    // calls keep their numbers past 2^16
+    let counted = heard_of_a_count(&rt, rt.alloc(), 1, 70_000)?;
+    same(&rt, &counted[0], &Some((70_000, 70_000)));
     let passed = heard_of_a_ring(&rt, rt.alloc())?;
     same(&rt, &passed[0], &Some((3, 3)));
     let taken_in = heard_of_a_stencil(&rt, rt.alloc())?;
