@@ -113,7 +113,7 @@ fn requests_and_turns_are_refused(rt: HostRuntime) -> Result<(), Fail> {
 
 // The request by the call that waits for its end.
 #[tactic(auto, using(sci_ops::proofs::Storing::any_store_fits))]
-fn called<R: Wait>(
+pub(super) fn called<R: Wait>(
     rt: &R,
     node: &mut Node,
     bank: &mut SoloBank<AnyWords>,
@@ -134,7 +134,7 @@ fn called<R: Wait>(
 }
 
 // The request's call waits for this end.
-fn ends<R: Abort + Wait>(
+pub(super) fn ends<R: Abort + Wait>(
     rt: &R,
     node: &mut Node,
     bank: &mut SoloBank<AnyWords>,
@@ -150,7 +150,7 @@ fn ends<R: Abort + Wait>(
 }
 
 // Calls on a line that was never written, and their ends.
-const CALLS: [(Request, Answer); 4] = [
+pub(super) const CALLS: [(Request, Answer); 4] = [
     (
         Request::Store {
             line: 0,
