@@ -75,15 +75,13 @@ fn lists(rt: &impl Abort, alloc: Global, node: &Node, named: &[u16]) -> Result<(
 
 // What is told of a call that waits and was refused memory.
 fn told(request: Request) -> Fail {
-    Fail::new(
-        match request {
-            Request::Load { .. } => "load answered 7",
-            Request::Store { .. } => "store answered 7",
-            Request::Add { .. } => "add answered 7",
-            Request::WriteLine { .. } => "write_line answered 7",
-            Request::Evict { .. } => "evict answered 7",
-        },
-    )
+    Fail::new(match request {
+        Request::Load { .. } => "load answered 7",
+        Request::Store { .. } => "store answered 7",
+        Request::Add { .. } => "add answered 7",
+        Request::WriteLine { .. } => "write_line answered 7",
+        Request::Evict { .. } => "evict answered 7",
+    })
 }
 
 // A call that waits on a line that isn't named yet has this answer: at a second try, if it is refused memory.
