@@ -198,7 +198,8 @@ fn seats(rt: &impl Abort, alloc: Global, script: &Script) -> Result<(), Fail> {
     }
 }
 
-/// Growths: 3 made up for, 1 of read_script, 11 of open, 12 of run, 3 of list_text, 3 of tag_text, 1 of push, 7 of new.
+/// Growths: 6 made up for, 1 of read_script, 1 made up for, 1 of read_script, 1 made up for, 2 of read_script, 14 of open, 16 of run,
+/// 20 of perform, 3 of list_text, 3 of tag_text, 1 of push, 7 of new, 1 of begin, 1 of resident.
 #[test]
 fn refused_growths(rt: HostRuntime) -> Result<(), Fail> {
     let alloc = rt.alloc();

@@ -259,7 +259,10 @@ fn shows(rt: &impl Abort, alloc: Global, text: &str, told: &'static str) -> Resu
     Err(Fail::new(told))
 }
 
-/// Growths: 11 of serve_check, 9 of read_settings, 1 of serve_trace, 3 made up for, 17 of serve_trace.
+/// Growths: 11 of serve_check, 9 of read_settings, 1 of serve_trace, 3 made up for, 17 of serve_trace, 1 of serve_script,
+/// 3 made up for, 17 of serve_script, 1 of serve, 3 made up for, 17 of serve, 1 of with_capacity, 1 of serve_buffered,
+/// 3 made up for, 17 of serve_buffered, 1 of serve_draw, 3 made up for, 17 of serve_draw, 3 of cells_text, 2 of items_text,
+/// 2 of count_text.
 #[test]
 fn refused_growths(rt: HostRuntime) -> Result<(), Fail> {
     checks(&rt, rt.alloc())?;
