@@ -119,6 +119,9 @@ fn opened_with(alloc: Global, nodes: u16, number: LineNo) -> Opened {
     }
 }
 
+/// Numbers of lines, the least and the greatest among them.
+const NUMBERS: [LineNo; 9] = [0, 7, 255, 256, 1_000, 1_023, 1_024, 32_768, u16::MAX];
+
 /// What so many nodes open a line of this number to.
 fn opens(rt: &impl Abort, alloc: Global, nodes: u16, number: LineNo, want: Opened) {
     let opened = opened_with(alloc, nodes, number);
@@ -128,14 +131,10 @@ fn opens(rt: &impl Abort, alloc: Global, nodes: u16, number: LineNo, want: Opene
 #[test]
 fn opens_with_1_to_64_nodes(rt: HostRuntime) {
     for nodes in 1..65 {
-        for number in [0, 7, u16::MAX] {
+        for number in NUMBERS {
             let opened = Ok((nodes, number, MemState::Home));
             opens(&rt, rt.alloc(), nodes, number, opened);
         }
-    }
-    for number in 0..u16::MAX {
-        let opened = Ok((1, number, MemState::Home));
-        opens(&rt, rt.alloc(), 1, number, opened);
     }
     for nodes in [0, 65, u16::MAX] {
         opens(&rt, rt.alloc(), nodes, 7, Err(6));

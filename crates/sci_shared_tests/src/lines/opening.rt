@@ -54,16 +54,16 @@ fn opens<L: SharedLine>(
     same_at(rt, &(nodes, number), &counts, &want);
 }
 
-/// A line opens with 1 to 64 nodes and with each number, and is closed again.
+/// Numbers of lines, the least and the greatest among them.
+const NUMBERS: [LineNo; 9] = [0, 7, 255, 256, 1_000, 1_023, 1_024, 32_768, u16::MAX];
+
+/// A line opens with 1 to 64 nodes and with each of these numbers, and is closed again.
 pub(crate) fn opens_and_finishes<L: SharedLine>(rt: &impl Abort, alloc: Global) {
     for nodes in 1..65 {
         let count = usize::from(nodes);
-        for number in [0, 7, u16::MAX] {
+        for number in NUMBERS {
             opens::<L>(rt, alloc, nodes, number, Ok((count, count)));
         }
-    }
-    for number in 0..u16::MAX {
-        opens::<L>(rt, alloc, 1, number, Ok((1, 1)));
     }
     for nodes in [0, 65, u16::MAX] {
         opens::<L>(rt, alloc, nodes, 7, Err(6));
