@@ -49,14 +49,14 @@ def page(said, whole):
 
 # The arguments, the input, how often a growth is made up for, what may be told, and what may be printed before.
 RUNS = [
-    ("script", SCRIPT, 3, REFUSED, lines),
-    ("trace", SCRIPT, 3, REFUSED, lines),
-    ("draw", SCRIPT, 3, REFUSED, page),
-    ("check", DUMP, 0, REFUSED, nothing),
-    ("check", DUMP.replace("ff0102", "ff0112"), 0, REFUSED, nothing),
-    ("run", COUNT, 0, OR_NO_THREAD, nothing),
-    ("run", STENCIL, 0, OR_NO_THREAD, nothing),
-    ("run", RING, 0, OR_NO_THREAD, nothing),
+    ("script", SCRIPT, 7, REFUSED, lines),
+    ("trace", SCRIPT, 7, REFUSED, lines),
+    ("draw", SCRIPT, 7, REFUSED, page),
+    ("check", DUMP, 1, REFUSED, nothing),
+    ("check", DUMP.replace("ff0102", "ff0112"), 1, REFUSED, nothing),
+    ("run", COUNT, 1, OR_NO_THREAD, nothing),
+    ("run", STENCIL, 1, OR_NO_THREAD, nothing),
+    ("run", RING, 1, OR_NO_THREAD, nothing),
 ]
 
 
