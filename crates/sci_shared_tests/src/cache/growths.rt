@@ -3,8 +3,8 @@
 //! saying which call answered it.
 ghost use Rattle.std.specs.Prelude.{◌≡◌, IfOk, length};
 
-use super::waiting::{CALLS, called, ends};
-use super::{banked, ended, opened};
+use super::waiting::{CALLS, called, ends, seated};
+use super::{ended, opened};
 use crate::checks::{same, same_at};
 use sci_cache::{Node, NodeRefusal, Request};
 use sci_core::{AnyWords, Line, OpenRefusal, Whole};
@@ -113,17 +113,7 @@ fn waits<R: Abort + Wait>(
 
 // The calls that wait, each on a line that was left. Leaving takes no memory.
 fn waits_each<R: Abort + Wait>(rt: &R, alloc: Global) -> Result<(), Fail> {
-    let zero = NodeId::new(0).ok_or("no node")?;
-    let Ok(wholes) = opened(alloc, 1, 1, Line::ZERO) else {
-        return Err(Fail::new("open answered 7"));
-    };
-    if wholes.len() != 1 {
-        return Err(Fail::new("no line"));
-    }
-    let mut bank = banked(wholes, zero).ok_or("no bank")?;
-    let Ok(mut node) = Node::new(alloc, zero, 1, 1) else {
-        return Err(Fail::new("new answered 7"));
-    };
+    let (mut node, mut bank) = seated(alloc, Line::ZERO)?;
     let evict = Request::Evict { line: 0 };
     for (request, want) in CALLS {
         waits(rt, alloc, &mut node, &mut bank, request, want)?;
