@@ -1,4 +1,5 @@
-"""Runs tests with one allocation of their program refused: those of growths, and those of calls that take no memory.
+"""Runs tests with one allocation of their program refused: those of growths, and those of calls that take no memory. The built
+program is run so too.
 
     python3 tools/allocations [--built] [NAME ..]
 
@@ -17,6 +18,9 @@ number that has, as in 'allocation 4 is refused'. With that one refused it must 
 would have another number.
 
 With ample memory, as `rt ci` runs them, all these tests pass. The status is 0 where all is as it must be.
+
+Without a NAME the built program is run with each allocation refused, as program.py says. And docs/MEMORY.md must have each public
+call, with the test that shows its growths, as calls.py says.
 """
 
 import argparse
@@ -30,6 +34,12 @@ import sys
 import tempfile
 
 HERE = pathlib.Path(__file__).resolve().parent
+sys.path.insert(0, str(HERE))
+sys.dont_write_bytecode = True
+
+import calls
+import program as built
+
 ROOT = HERE.parents[1]
 SAID = "an allocation was refused"
 PASSED = "test result: ok"
@@ -56,10 +66,10 @@ def crates_below(crate):
 
 
 class Program:
-    """The program of a crate's tests."""
+    """The program of a crate's tests, or the crate's own."""
 
-    def __init__(self, crate, refusing):
-        self.path, self.refusing = crate / "out" / f"{crate.name}_tests", refusing
+    def __init__(self, crate, refusing, suffix="_tests"):
+        self.path, self.refusing = crate / "out" / f"{crate.name}{suffix}", refusing
 
     def is_built(self):
         """Whether it is there, and no older than the sources of its crate and of those below."""
@@ -143,6 +153,27 @@ def faults_of(crate, files, refusing, is_built):
     return {file: FAULTS[file.name](program, file, module_of(crate, file)) for file in files}
 
 
+def faults_of_program(refusing, is_built):
+    """Runs the built program with each allocation refused, says how many there were, and returns what isn't as it must be."""
+    crate = ROOT / "crates/sci_sim"
+    if not is_built and subprocess.run(["rt", "run", "--", "--version"], cwd=crate, stdin=subprocess.DEVNULL, stdout=sys.stderr).returncode:
+        return ["the program wasn't proved, or not built"]
+    program, faults, count = Program(crate, refusing, ""), [], 0
+    if not program.is_built():
+        return ["the program is missing, or older than its sources"]
+    for row in built.RUNS:
+        refused, of_row = built.faults_of(built.Scisim(program.path, refusing), row)
+        count += refused
+        faults += [f"{row[0]}: {it}" for it in of_row + ([] if refused else ["NOTHING WAS REFUSED"])]
+    print(f"allocations: sci_sim: {count} growths of the program were refused")
+    return faults
+
+
+def faults_of_calls():
+    """Returns what isn't as it must be in the table of public calls."""
+    return calls.faults(ROOT)
+
+
 # what is looked for in a file of tests, by the file's name
 FAULTS = {"growths.rt": faults_of_growths, "memory.rt": faults_of_memory}
 
@@ -171,9 +202,13 @@ def main():
             for file, of_file in of_crate.items():
                 for it in of_file or ["each growth was answered as it must be" if file.name == "growths.rt" else "no call took memory that takes none"]:
                     print(f"allocations: {file.relative_to(ROOT / 'crates')}: {it}", flush=True)
+        others = {"docs/MEMORY.md": faults_of_calls()} | ({} if given.names else {"sci_sim": faults_of_program(refusing, given.built)})
+    for name, of_name in others.items():
+        for it in of_name or ["all is as it must be"]:
+            print(f"allocations: {name}: {it}", flush=True)
     if not faults:
         print("allocations: NOTHING WAS REFUSED: there is no growths.rt and no memory.rt")
-    return 1 if any(faults.values()) or not faults else 0
+    return 1 if any([*faults.values(), *others.values()]) or not faults else 0
 
 
 if __name__ == "__main__":

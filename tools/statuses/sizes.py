@@ -1,6 +1,7 @@
-"""Scripts of each number of nodes, and of as many bytes as a script may have."""
+"""Scripts of each number of nodes; and scripts, dumps and settings of as many bytes as an input may have."""
 
-from kinds import LIMIT, refused
+from dumps import ITS_LISTS, LARGE_DUMP
+from kinds import LIMIT, Page, refused
 
 
 def visits(nodes):
@@ -28,7 +29,41 @@ LARGEST = [
 ]
 assert all(len(script) == LIMIT for script, *_ in LARGEST)
 
+
+
+def largest_dump():
+    """A dump of 340 lines that 64 nodes share each, and of unused lines whose contents fill it up; and what is printed of it."""
+    shared, unused = LARGE_DUMP.removesuffix("end\n"), []
+    count = (LIMIT - len(LARGE_DUMP)) // 100
+    room = LIMIT - len(LARGE_DUMP)
+    for number in range(count):
+        line = f"line {340 + number} 000000000000ff00 "
+        share = room // (count - number) - len(line) - 1
+        room -= share + len(line) + 1
+        values = ["1" * (share // 9 - 1)] * 8
+        unused.append(f"{line}{' '.join([*values, '1' * (share - len(' '.join(values)) - 1)])}\n")
+    homes = "".join(f"line {340 + number} HOME\n" for number in range(count))
+    text = shared.replace("scidump 1 64 340\n", f"scidump 1 64 {340 + count}\n") + "".join(unused) + "end\n"
+    return text, ITS_LISTS.replace("lawful\n", f"{homes}lawful\n")
+
+
+def longest_ring():
+    """The settings of a ring of 100,000 items, whose digits fill them up; and what is printed of it."""
+    front = 'work = "ring"\nlines = 1023\ncapacity = 1024\nitems = ['
+    digits, more = divmod(LIMIT - len(front) - len("]\n") - 2 * 99_999, 100_000)
+    items = ["7" * (digits + (number < more)) for number in range(100_000)]
+    return f"{front}{', '.join(items)}]\n", f"items {' '.join(items)}\n"
+
+
+DUMP, ITS_VERDICT = largest_dump()
+RING, ITS_ITEMS = longest_ring()
+assert len(DUMP) == len(RING) == LIMIT
+
 CASES = [
     *((["script"], script, 0, text, "") for script, text in map(visits, range(1, 65))),
     *((["script"], *it) for it in LARGEST),
+    *((["trace"], *it) for it in LARGEST[:1]),
+    *((["draw"], script, status, Page(text), said) for script, status, text, said in LARGEST[:1]),
+    (["check"], DUMP, 0, ITS_VERDICT, ""),
+    (["run"], RING, 0, ITS_ITEMS, ""),
 ]

@@ -112,25 +112,32 @@ pub(crate) fn run(
 /// How many nodes a line has, its number and memory's state; or the number of the refusal to open it.
 type Opened = Result<(u16, LineNo, MemState), u8>;
 
-fn opened_with(alloc: Global, nodes: u16) -> Opened {
-    match Whole::open(alloc, nodes, 7, LINE, AnyWords) {
+fn opened_with(alloc: Global, nodes: u16, number: LineNo) -> Opened {
+    match Whole::open(alloc, nodes, number, LINE, AnyWords) {
         Ok(whole) => Ok((whole.nodes(), whole.number(), whole.mem().state)),
         Err(refusal) => Err(refusal.number()),
     }
 }
 
-/// What so many nodes open line 7 to.
-const OPENED: [(u16, Opened); 4] = [
-    (0, Err(6)),
-    (1, Ok((1, 7, MemState::Home))),
-    (64, Ok((64, 7, MemState::Home))),
-    (65, Err(6)),
-];
+/// Numbers of lines, the least and the greatest among them.
+const NUMBERS: [LineNo; 9] = [0, 7, 255, 256, 1_000, 1_023, 1_024, 32_768, u16::MAX];
+
+/// What so many nodes open a line of this number to.
+fn opens(rt: &impl Abort, alloc: Global, nodes: u16, number: LineNo, want: Opened) {
+    let opened = opened_with(alloc, nodes, number);
+    same_at(rt, &(nodes, number), &opened, &want);
+}
 
 #[test]
 fn opens_with_1_to_64_nodes(rt: HostRuntime) {
-    for (nodes, opened) in &OPENED {
-        same_at(&rt, nodes, &opened_with(rt.alloc(), *nodes), opened);
+    for nodes in 1..65 {
+        for number in NUMBERS {
+            let opened = Ok((nodes, number, MemState::Home));
+            opens(&rt, rt.alloc(), nodes, number, opened);
+        }
+    }
+    for nodes in [0, 65, u16::MAX] {
+        opens(&rt, rt.alloc(), nodes, 7, Err(6));
     }
 }
 

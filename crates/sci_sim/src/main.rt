@@ -4,7 +4,7 @@
 
 mod commands;
 
-use clap::ArgMatches;
+use clap::{ArgMatches, Error, error};
 use commands::commands;
 use sci_serve::{Form, Progress, SimFault, serve_buffered, serve_check, serve_run, serve_run_by};
 use std::alloc::{AllocError, Global};
@@ -89,6 +89,17 @@ fn served<T: Threads + Wait + Eprint + Sync>(
     Ok(ExitCode::SUCCESS)
 }
 
+/// The status of the program where its arguments are no command to be served: they ask for help, or are a fault of usage.
+fn told(rt: &HostRuntime, error: &Error) -> Result<ExitCode, SimFault> {
+    if error.kind() == error::ErrorKind::OutOfMemory {
+        return Err(SimFault::from(AllocError));
+    }
+    match (error.exit_code(), error.print(rt)) {
+        (0, Err(_)) => Err(SimFault::CannotWrite),
+        (status, _) => Ok(ExitCode::from(status as u8)),
+    }
+}
+
 /// The status of the program with its arguments. An argument that isn't UTF-8 can't be read.
 fn scisim<T: Threads + Wait + Eprint + Sync>(
     rt: &HostRuntime,
@@ -104,10 +115,7 @@ fn scisim<T: Threads + Wait + Eprint + Sync>(
             Some((name, options)) => served(rt, threads, name, options),
             None => Ok(ExitCode::from(2)),
         },
-        Err(error) => match (error.exit_code(), error.print(rt)) {
-            (0, Err(_)) => Err(SimFault::CannotWrite),
-            (status, _) => Ok(ExitCode::from(status as u8)),
-        },
+        Err(error) => told(rt, &error),
     }
 }
 

@@ -12,7 +12,7 @@ use std::process::Abort;
 use std::test::Fail;
 
 /// How many nodes and lines the script's memory has.
-fn size_of(script: &Script) -> Size
+pub(super) fn size_of(script: &Script) -> Size
     ensures { result ≡ script.now.size }
 {
     Size {

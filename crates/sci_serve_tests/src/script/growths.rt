@@ -2,22 +2,33 @@
 //! commands, and a second try has the memory. With ample memory this test passes. tools/allocations runs it once for each
 //! growth of its table, with that one refused, and the test ends by saying which call answered it. Where a call makes up for a
 //! refused growth by a later one, it answers Ok.
+ghost use Rattle.std.specs.Prelude.{◌≡◌, ◌<◌};
+
 use super::banks::are_banks;
+use super::desks::size_of;
 use super::unheard::{Unheard, unheard_bank};
 use super::{node, tag};
 use crate::checks::same;
 use crate::fixed::{empty, is_front};
+use sci_cache::Request;
 use sci_script::{
-    BankDesk, NoDesk, Script, ScriptRefusal, WholeDesk, list_text, read_script, tag_text,
+    BankDesk, Desk, NoDesk, Script, ScriptRefusal, WholeDesk, list_text, note, perform, put,
+    read_script, tag_text,
 };
-use sci_words::{Kind, Mem, MemState};
+use sci_words::{Kind, Mem, MemState, NodeId};
 use std::alloc::{AllocError, Global};
 use std::process::Abort;
 use std::test::Fail;
 
-const SCRIPT: &str = "memory 1 1\nload 0 0 0\ndone 0\nlist 0\nresidents 0\n";
+const SCRIPT: &str = "memory 1 2\nopen 0 3 5 0 0 0 0 0 0 0\nload 0 0 0\ndone 0\nlist 0\n\
+    store 0 1 0 7\ndone 0\ntag 1 0\nresidents 0\nevict 0 1\ndone 0\n";
 
-const TEXT: &str = "node 0 read 0 stamp 0\nline 0 FRESH 0: 0 ONLY_FRESH\nnode 0 residents 0\n";
+const TEXT: &str = "node 0 read 5 stamp 3\nline 0 FRESH 0: 0 ONLY_FRESH\nnode 0 wrote stamp 1\n\
+    tag 1 0 ONLY_DIRTY forw - back -\nnode 0 residents 1 0\nnode 0 out\n";
+
+/// What the same commands print behind a run of them.
+const AGAIN: &str = "node 0 read 5 stamp 3\nline 0 FRESH 0: 0 ONLY_FRESH\nnode 0 wrote stamp 2\n\
+    tag 1 0 ONLY_DIRTY forw - back -\nnode 0 residents 1 0\nnode 0 out\n";
 
 fn reads(rt: &impl Abort, alloc: Global) -> Result<Script, Fail> {
     match read_script(alloc, SCRIPT.as_bytes()) {
@@ -40,7 +51,7 @@ fn runs(rt: &impl Abort, alloc: Global, script: &Script) -> Result<(), Fail> {
     match script.run(alloc, &mut desk, &mut out) {
         Ok(()) => {
             assert!(rt; out.text() == TEXT.as_bytes());
-            Ok(())
+            performs(rt, alloc, script, &mut desk)
         }
         Err(refusal) => {
             same(rt, &refusal, &ScriptRefusal::OutOfMemory);
@@ -49,6 +60,32 @@ fn runs(rt: &impl Abort, alloc: Global, script: &Script) -> Result<(), Fail> {
             Err(Fail::new("run answered 7"))
         }
     }
+}
+
+/// Each command of the script behind its run, one by one.
+fn performs(
+    rt: &impl Abort,
+    alloc: Global,
+    script: &Script,
+    desk: &mut WholeDesk,
+) -> Result<(), Fail>
+    requires { desk.old.size ≡ script.now.size }
+{
+    let mut words = [0; 64];
+    let mut out = empty();
+    for step in script.steps() {
+        let mut text = String::new(alloc);
+        let performed = perform(alloc, &mut text, desk, script.nodes(), &words, *step);
+        if performed.is_err() {
+            same(rt, &performed, &Err(ScriptRefusal::OutOfMemory));
+            assert!(rt; is_front(out.text(), AGAIN.as_bytes()));
+            return Err(Fail::new("perform answered 7"));
+        }
+        note(&mut words, size_of(script), step.command);
+        assert!(rt; put(&mut out, text.as_bytes()).is_ok());
+    }
+    assert!(rt; out.text() == AGAIN.as_bytes());
+    Ok(())
 }
 
 const LIST: &str = "line 0 FRESH 0: 0 ONLY_FRESH\n";
@@ -90,6 +127,48 @@ fn shows(rt: &impl Abort, alloc: Global) -> Result<(), Fail> {
     Err(Fail::new("tag_text answered 7"))
 }
 
+/// The node names these lines.
+fn names<D: Desk>(
+    rt: &impl Abort,
+    alloc: Global,
+    desk: &D,
+    node: NodeId,
+    want: &[u16],
+) -> Result<(), Fail>
+    requires { node < (D.size desk.now).nodes }
+{
+    if let Ok(lines) = desk.resident(alloc, node) {
+        same(rt, &lines.as_slice(), &want);
+        return Ok(());
+    }
+    same(rt, &desk.resident(alloc, node)?.as_slice(), &want);
+    Err(Fail::new("resident answered 7"))
+}
+
+/// The first node of a desk that nobody has used begins a load.
+fn begins<D: Desk>(
+    rt: &impl Abort,
+    alloc: Global,
+    script: &Script,
+    desk: &mut D,
+) -> Result<(), Fail>
+    requires { D.size desk.old ≡ script.now.size }
+{
+    let zero = node(0);
+    if zero.get() >= script.nodes() || script.lines() == 0 || desk.open(zero) {
+        return Err(Fail::new("it has no node that may begin"));
+    }
+    let load = Request::Load { line: 0 };
+    if desk.begin(zero, load).is_err() {
+        assert!(rt; !desk.open(zero));
+        names(rt, alloc, desk, zero, &[])?;
+        assert!(rt; desk.begin(zero, load).is_ok());
+        return Err(Fail::new("begin answered 7"));
+    }
+    assert!(rt; desk.open(zero));
+    names(rt, alloc, desk, zero, &[0])
+}
+
 /// The banks that a refused desk gives back are those of the script, and make a desk.
 fn seats_again(rt: &impl Abort, alloc: Global, script: &Script, none: NoDesk<Unheard>) -> Fail {
     same(rt, &none.number(), &7);
@@ -110,7 +189,8 @@ fn seats(rt: &impl Abort, alloc: Global, script: &Script) -> Result<(), Fail> {
         return Err(Fail::new("they are not its banks"));
     }
     match BankDesk::new(alloc, script, banks) {
-        Ok(desk) => {
+        Ok(mut desk) => {
+            begins(rt, alloc, script, &mut desk)?;
             assert!(rt; are_banks(script, &desk.into_banks()));
             Ok(())
         }
@@ -118,12 +198,13 @@ fn seats(rt: &impl Abort, alloc: Global, script: &Script) -> Result<(), Fail> {
     }
 }
 
-/// Growths: 3 made up for, 1 of read_script, 11 of open, 12 of run, 3 of list_text, 3 of tag_text, 1 of push, 7 of new.
+/// Growths: 6 made up for, 1 of read_script, 1 made up for, 1 of read_script, 1 made up for, 2 of read_script, 14 of open, 16 of run,
+/// 20 of perform, 3 of list_text, 3 of tag_text, 1 of push, 7 of new, 1 of begin, 1 of resident.
 #[test]
 fn refused_growths(rt: HostRuntime) -> Result<(), Fail> {
     let alloc = rt.alloc();
     let script = reads(&rt, alloc)?;
-    same(&rt, &(script.nodes(), script.lines()), &(1, 1));
+    same(&rt, &(script.nodes(), script.lines()), &(1, 2));
     same(&rt, &script.capacity(), &1024);
     runs(&rt, alloc, &script)?;
     lists(&rt, alloc)?;

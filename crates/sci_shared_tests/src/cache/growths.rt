@@ -1,15 +1,19 @@
 //! Each growth may be refused: its call then answers 7, all is as before, and a second try has the memory. With ample memory
 //! this test passes. tools/allocations runs it once for each growth of its table, with that one refused, and the test ends by
 //! saying which call answered it.
-ghost use Rattle.std.specs.Prelude.{◌≡◌, IfOk};
+ghost use Rattle.std.specs.Prelude.{◌≡◌, IfOk, length};
 
+use super::waiting::{CALLS, called, ends, seated};
 use super::{ended, opened};
-use crate::checks::same;
+use crate::checks::{same, same_at};
 use sci_cache::{Node, NodeRefusal, Request};
 use sci_core::{AnyWords, Line, OpenRefusal, Whole};
+use sci_ops::Answer;
+use sci_port::SoloBank;
 use sci_words::NodeId;
 use std::alloc::Global;
 use std::process::Abort;
+use std::sync::Wait;
 use std::test::Fail;
 
 // A node of three lines, which may name two.
@@ -69,7 +73,56 @@ fn lists(rt: &impl Abort, alloc: Global, node: &Node, named: &[u16]) -> Result<(
     Err(Fail::new("resident answered 7"))
 }
 
-/// Growths: 6 of new, 10 of open, 2 of begin, 1 of resident.
+// What is told of a call that waits and was refused memory.
+fn told(request: Request) -> Fail {
+    Fail::new(match request {
+        Request::Load { .. } => "load answered 7",
+        Request::Store { .. } => "store answered 7",
+        Request::Add { .. } => "add answered 7",
+        Request::WriteLine { .. } => "write_line answered 7",
+        Request::Evict { .. } => "evict answered 7",
+    })
+}
+
+// A call that waits on a line that isn't named yet has this answer: at a second try, if it is refused memory.
+fn waits<R: Abort + Wait>(
+    rt: &R,
+    alloc: Global,
+    node: &mut Node,
+    bank: &mut SoloBank<AnyWords>,
+    request: Request,
+    want: Answer,
+) -> Result<(), Fail>
+    requires node { (node.old.id ≡ bank.old.node) × (node.old.lines ≡ 1) }
+    requires bank { length bank.old.wholes.items ≡ 1 }
+    ensures node { (node.new.id ≡ bank.new.node) × (node.new.lines ≡ 1) }
+    ensures bank { length bank.new.wholes.items ≡ 1 }
+{
+    match called(rt, node, bank, request) {
+        Ok(answer) => {
+            same_at(rt, &request, &answer, &want);
+            return Ok(());
+        }
+        Err(refusal) => same_at(rt, &request, &refusal, &NodeRefusal::OutOfMemory),
+    }
+    assert!(rt; !node.open());
+    super::lists(rt, alloc, node, &[])?;
+    ends(rt, node, bank, request, Ok(want));
+    Err(told(request))
+}
+
+// The calls that wait, each on a line that was left. Leaving takes no memory.
+fn waits_each<R: Abort + Wait>(rt: &R, alloc: Global) -> Result<(), Fail> {
+    let (mut node, mut bank) = seated(alloc, Line::ZERO)?;
+    let evict = Request::Evict { line: 0 };
+    for (request, want) in CALLS {
+        waits(rt, alloc, &mut node, &mut bank, request, want)?;
+        ends(rt, &mut node, &mut bank, evict, Ok(Answer::Out));
+    }
+    Ok(())
+}
+
+/// Growths: 6 of new, 10 of open, 2 of begin, 1 of resident, 4 of open, 6 of new, 1 of store, 1 of load, 1 of add, 1 of write_line.
 #[test]
 fn refused_growths(rt: HostRuntime) -> Result<(), Fail> {
     let alloc = rt.alloc();
@@ -79,5 +132,6 @@ fn refused_growths(rt: HostRuntime) -> Result<(), Fail> {
     begins(&rt, alloc, &mut node, 2, &[])?;
     ended(&mut node, wholes).ok_or("no end")?;
     begins(&rt, alloc, &mut node, 1, &[2])?;
-    lists(&rt, alloc, &node, &[1, 2])
+    lists(&rt, alloc, &node, &[1, 2])?;
+    waits_each(&rt, alloc)
 }

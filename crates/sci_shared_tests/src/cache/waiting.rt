@@ -45,17 +45,21 @@ fn refusals_have_their_numbers(rt: HostRuntime) {
 }
 
 // A node of one line, and its bank of that line.
-fn seated(alloc: Global, line: Line) -> Result<(Node, SoloBank<AnyWords>), Fail>
+pub(super) fn seated(alloc: Global, line: Line) -> Result<(Node, SoloBank<AnyWords>), Fail>
     ensures node { IfOk result (λ seat. (seat.0.id ≡ seat.1.node) × (seat.0.lines ≡ 1)) }
     ensures bank { IfOk result (λ seat. length seat.1.wholes.items ≡ 1) }
 {
     let zero = NodeId::new(0).ok_or("no node")?;
-    let wholes = opened(alloc, 1, 1, line)?;
+    let Ok(wholes) = opened(alloc, 1, 1, line) else {
+        return Err(Fail::new("open answered 7"));
+    };
     if wholes.len() != 1 {
         return Err(Fail::new("no line"));
     }
     let bank = banked(wholes, zero).ok_or("no bank")?;
-    let node = Node::new(alloc, zero, 1, 1)?;
+    let Ok(node) = Node::new(alloc, zero, 1, 1) else {
+        return Err(Fail::new("new answered 7"));
+    };
     Ok((node, bank))
 }
 
@@ -113,7 +117,7 @@ fn requests_and_turns_are_refused(rt: HostRuntime) -> Result<(), Fail> {
 
 // The request by the call that waits for its end.
 #[tactic(auto, using(sci_ops::proofs::Storing::any_store_fits))]
-fn called<R: Wait>(
+pub(super) fn called<R: Wait>(
     rt: &R,
     node: &mut Node,
     bank: &mut SoloBank<AnyWords>,
@@ -134,7 +138,7 @@ fn called<R: Wait>(
 }
 
 // The request's call waits for this end.
-fn ends<R: Abort + Wait>(
+pub(super) fn ends<R: Abort + Wait>(
     rt: &R,
     node: &mut Node,
     bank: &mut SoloBank<AnyWords>,
@@ -150,7 +154,7 @@ fn ends<R: Abort + Wait>(
 }
 
 // Calls on a line that was never written, and their ends.
-const CALLS: [(Request, Answer); 4] = [
+pub(super) const CALLS: [(Request, Answer); 4] = [
     (
         Request::Store {
             line: 0,

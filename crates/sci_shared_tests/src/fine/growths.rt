@@ -14,7 +14,7 @@ fn are_as_before(rt: &impl Abort, seats: &[Seat<AnyWords>]) {
     same(rt, &seats.len(), &2);
     for (place, seat) in seats.iter().enumerate() {
         same(rt, &usize::from(seat.node().get()), &place);
-        same(rt, &seat.number(), &7);
+        same(rt, &seat.number(), &u16::MAX);
         assert!(rt; FineLine::is_idle(seat));
     }
 }
@@ -23,13 +23,13 @@ fn are_as_before(rt: &impl Abort, seats: &[Seat<AnyWords>]) {
 fn opens_again(rt: &impl Abort, alloc: Global, refusal: OpenRefusal) -> Result<(), Fail> {
     same(rt, &refusal, &OpenRefusal::OutOfMemory);
     same(rt, &refusal.number(), &7);
-    let (_, seats) = FineLine::new(alloc, 2, 7, OPENING, AnyWords)?;
+    let (_, seats) = FineLine::new(alloc, 2, u16::MAX, OPENING, AnyWords)?;
     are_as_before(rt, &seats);
     Err(Fail::new("new answered 7"))
 }
 
 fn refuses(rt: &impl Abort, alloc: Global) -> Result<(), Fail> {
-    let (line, seats) = match FineLine::new(alloc, 2, 7, OPENING, AnyWords) {
+    let (line, seats) = match FineLine::new(alloc, 2, u16::MAX, OPENING, AnyWords) {
         Ok(opened) => opened,
         Err(refusal) => return opens_again(rt, alloc, refusal),
     };

@@ -1,8 +1,8 @@
 //! How a line that threads share is opened and closed.
 use super::{SharedLine, closed};
-use crate::checks::same;
+use crate::checks::{same, same_at};
 use sci_core::{Closed, Line};
-use sci_words::{Kind, Mem, MemState, Tag};
+use sci_words::{Kind, LineNo, Mem, MemState, Tag};
 use std::alloc::Global;
 use std::process::Abort;
 use std::test::Fail;
@@ -26,8 +26,12 @@ const INVALID: Tag = Tag {
 };
 
 // How many seats a line of so many nodes opens with, and how many tags that nobody used it closes with; or the refusal.
-fn counts_of<L: SharedLine>(alloc: Global, nodes: u16) -> Result<(usize, usize), u8> {
-    let (line, seats) = match L::opened(alloc, nodes, 7, OPENING) {
+fn counts_of<L: SharedLine>(
+    alloc: Global,
+    nodes: u16,
+    number: LineNo,
+) -> Result<(usize, usize), u8> {
+    let (line, seats) = match L::opened(alloc, nodes, number, OPENING) {
         Ok(opened) => opened,
         Err(refusal) => return Err(refusal.number()),
     };
@@ -38,16 +42,31 @@ fn counts_of<L: SharedLine>(alloc: Global, nodes: u16) -> Result<(usize, usize),
     }
 }
 
-/// A line opens with 1 to 64 nodes, and is closed again.
+// A line of so many nodes opens under this number and is closed again, or is refused.
+fn opens<L: SharedLine>(
+    rt: &impl Abort,
+    alloc: Global,
+    nodes: u16,
+    number: LineNo,
+    want: Result<(usize, usize), u8>,
+) {
+    let counts = counts_of::<L>(alloc, nodes, number);
+    same_at(rt, &(nodes, number), &counts, &want);
+}
+
+/// Numbers of lines, the least and the greatest among them.
+const NUMBERS: [LineNo; 9] = [0, 7, 255, 256, 1_000, 1_023, 1_024, 32_768, u16::MAX];
+
+/// A line opens with 1 to 64 nodes and with each of these numbers, and is closed again.
 pub(crate) fn opens_and_finishes<L: SharedLine>(rt: &impl Abort, alloc: Global) {
     for nodes in 1..65 {
         let count = usize::from(nodes);
-        let counts = counts_of::<L>(alloc, nodes);
-        same(rt, &(nodes, counts), &(nodes, Ok((count, count))));
+        for number in NUMBERS {
+            opens::<L>(rt, alloc, nodes, number, Ok((count, count)));
+        }
     }
     for nodes in [0, 65, u16::MAX] {
-        let counts = counts_of::<L>(alloc, nodes);
-        same(rt, &(nodes, counts), &(nodes, Err(6)));
+        opens::<L>(rt, alloc, nodes, 7, Err(6));
     }
 }
 

@@ -1,0 +1,125 @@
+"""The table of public calls, docs/MEMORY.md: that it has each, and that the tests which it names are there and show what it says.
+
+A row names calls, as `read_tag` or `Whole::{mem, tag}`; whether they take memory, `yes` or `none`; whether they may wait, `may` or
+`no`; and where that is seen: tests, as `sci_line_tests::whole::growths::refused_growths`, or `in` calls that are made of these.
+
+A public call is a `pub fn` or a trait's `fn` that lib.rt hands on by its name or by the name of its type. Each must stand in one row,
+and each name of a row must be one. A call that takes memory must be in the growths of a test that its row names, or be `in` calls
+that are. Where an allocator comes in, and the call takes no memory, a test must say so. A call may wait where a bound says `Wait`.
+"""
+
+import re
+
+ITEM = re.compile(r"(?m)^(?:(impl|pub trait|pub struct|pub enum)\b(.*)$|( *)(?:(pub )?)(?:const )?fn (\w+))")
+USES = re.compile(r"pub use [\w:]+::(?:\{([^}]*)\}|(\w+));")
+ROW = re.compile(r"(?m)^\| (.*`.*) \| (\w+) \| (\w+) \| (.*) \|$")
+NAMES = re.compile(r"`(\w+(?:::\w+)*)(?:::\{([^}]*)\})?`")
+GROWTHS = re.compile(r"/// Growths: ([^.]+)\.\n#\[test\]\nfn (\w+)\(")
+GROWING = re.compile(r"\bof (\w+)")
+
+
+def handed_on(crate):
+    """The names that a crate's lib.rt hands on, with those of the modules that are public themselves."""
+    text = (crate / "src/lib.rt").read_text(encoding="utf-8")
+    names = {name.strip() for many, one in USES.findall(text) for name in (many or one).split(",") if name.strip()}
+    for module in re.findall(r"(?m)^pub mod (\w+);", text):
+        inner = (crate / f"src/{module}.rt").read_text(encoding="utf-8")
+        names |= set(re.findall(r"(?m)^pub (?:struct|enum|trait|fn) (\w+)", inner))
+    return names
+
+
+def signature(text, start):
+    """A function's text from its generics to its last parameter, and the bounds behind them."""
+    depth, place = 0, text.index("(", start)
+    for place in range(place, len(text)):
+        depth += {"(": 1, ")": -1}.get(text[place], 0)
+        if not depth:
+            break
+    return text[start:place]
+
+
+def type_of(head):
+    """The type of an impl without a trait, or a trait's name; nothing for a trait's impl."""
+    plain = re.sub(r"^<(?:[^<>]|<[^<>]*>)*>", "", head.strip()).strip()
+    return None if re.search(r"\bfor\b", plain.split("{")[0]) else re.match(r"\w+", plain)[0]
+
+
+def calls_of(crate):
+    """The public calls of a crate, each with whether an allocator comes in and whether it may wait."""
+    public, found = handed_on(crate), {}
+    for file in sorted(crate.glob("src/**/*.rt")):
+        text, owner, is_trait = file.read_text(encoding="utf-8"), None, False
+        for item in ITEM.finditer(text):
+            kind, head, indent, is_public, name = item.groups()
+            if kind:
+                owner, is_trait = (type_of(head) if kind in ("impl", "pub trait") else None), kind == "pub trait"
+                continue
+            holder = owner if indent else name
+            if holder in public and (is_public or (is_trait and indent)):
+                text_of = signature(text, item.end())
+                call = f"{owner}::{name}" if indent else name
+                found[call] = (bool(re.search(r"\b(Global|AllocGlobal)\b", text_of)), bool(re.search(r"\bWait\b", text_of)))
+    return found
+
+
+def named_in(cell):
+    """The names of a cell, those in braces one by one."""
+    return [f"{name}::{part.strip()}" if parts else name for name, parts in NAMES.findall(cell) for part in (parts or "-").split(",")]
+
+
+def tests_of(root):
+    """The tests of the crates of tests, each with the calls whose growths its table has."""
+    found = {}
+    for file in sorted(root.glob("crates/*_tests/src/**/*.rt")):
+        text = file.read_text(encoding="utf-8")
+        tables = {test: set(GROWING.findall(table)) for table, test in GROWTHS.findall(text)}
+        module = [file.relative_to(root / "crates").parts[0], *file.relative_to(root / "crates").with_suffix("").parts[2:]]
+        for test in re.findall(r"#\[test\]\n(?:#\[.*\]\n)*fn (\w+)\(", text):
+            found["::".join([*module, test])] = tables.get(test, set())
+    return found
+
+
+def rows_of(root):
+    """The rows of the table, each with its crate."""
+    text = (root / "docs/MEMORY.md").read_text(encoding="utf-8")
+    parts = re.split(r"(?m)^## (\w+)$", text)
+    return [(crate, *row) for crate, part in zip(parts[1::2], parts[2::2]) for row in ROW.findall(part)]
+
+
+def faults_of_row(row, calls, tests, grown):
+    """What isn't as it must be in a row. `grown` are the calls of all rows that a test's growths have."""
+    _, names, memory, waits, seen = row
+    shown, within, faults = named_in(seen.split("in ")[0]), named_in(seen.partition("in ")[2]), []
+    faults += [f"there is no test {it}" for it in shown if it not in tests]
+    faults += [f"the growths of {it} are shown by no test" for it in within if it not in grown]
+    for call in named_in(names):
+        has_alloc, may_wait = calls.get(call, (False, waits == "may"))
+        if call not in calls:
+            faults.append(f"there is no public call {call}")
+        if memory not in ("yes", "none") or waits != ("may" if may_wait else "no"):
+            faults.append(f"{call}: '{memory}' and '{waits}' aren't what it takes and whether it may wait")
+        if memory == "yes" and call not in grown and not within:
+            faults.append(f"{call}: no test that its row names has growths of it")
+        if memory == "none" and has_alloc and not shown:
+            faults.append(f"{call}: no test shows that it takes no memory")
+    return faults
+
+
+def grown_of(rows, tests):
+    """The calls whose growths a test has that their row names."""
+    return {call for _, names, memory, _, seen in rows if memory == "yes"
+            for call in named_in(names) for test in named_in(seen) if call.split("::")[-1] in tests.get(test, ())}
+
+
+def faults(root):
+    """What isn't as it must be in the table of a repository's public calls."""
+    crates = [it.parents[1] for it in sorted(root.glob("crates/*/src/lib.rt")) if not it.parents[1].name.endswith("_tests")]
+    calls, rows, tests = {it.name: calls_of(it) for it in crates}, rows_of(root), tests_of(root)
+    grown, found = grown_of(rows, tests), []
+    for row in rows:
+        found += [f"{row[0]}: {it}" for it in faults_of_row(row, calls.get(row[0], {}), tests, grown)]
+    for crate, public in calls.items():
+        named = [call for it in rows if it[0] == crate for call in named_in(it[1])]
+        found += [f"{crate}: {it} stands in no row" for it in sorted(public) if it not in named]
+        found += [f"{crate}: {it} stands in {named.count(it)} rows" for it in sorted({*named}) if named.count(it) > 1]
+    return found
