@@ -106,7 +106,8 @@ EDITS = [
     ("accepted", "file: src/lib.rt\nold:     number / 2\nnew:     number / 3\n", "NOT REFUSED"),
     # the same value, while the function that it calls is edited beside it in the same check
     ("only_what_it_calls_is_refused", "file: src/lib.rt\nold: next(next(number))\nnew: next(next(number) + 0)\n", "NOT REFUSED"),
-    ("does_not_compile", "file: src/lib.rt\nold:     number / 2\nnew:     numeral / 2\n", "BAD EDIT: it doesn't reach the prover"),
+    # (it stands behind the edits of `next`, so that those go together)
+    ("will_not_compile", "file: src/lib.rt\nold:         self.0\nnew:         self.one\n", "BAD EDIT: it doesn't reach the prover"),
     ("cannot_be_applied", "file: src/lib.rt\nold:     number / 5\nnew:     number / 2\n", "BAD EDIT: an 'old:' text is in"),
     ("changes_a_contract", "file: src/lib.rt\nold:     ensures { result ≤ number }\nnew:     ensures { result < number }\n", "outside the bodies"),
     ("changes_two_functions", "file: src/lib.rt\nold:     number / 2\nnew:     number\nold:     number + 1\nnew:     number + 3\n", "bodies of 2 functions"),
@@ -181,7 +182,7 @@ def faults_of_gate():
         faults.append(f"rt ci ended with {ran.returncode}, and not with 0 and 3 passed, 0 failed: {ran.stdout[-1000:]}")
     if f"seeds: the edits of {crate.name} begin over {kept} modules\n" not in ran.stdout:
         faults.append(f"the edits of must-fail/ didn't begin over the {kept} modules that were kept")
-    # of `next`, `below` and `third`
+    # of `next`, `third` and `get`
     if f"refused: {crate.name}: over what was proved of it, proved: 3 copies (" not in ran.stdout:
         faults.append("the edits of refused/ didn't begin over what was proved, and a copy of each function that is copied")
     found = re.search(rf"^crate {crate.name}: modules loaded=(\d+) checked=(\d+)$", said, re.M)
