@@ -47,6 +47,10 @@ def report(trials):
                 say(f"{label}: FAILED: {trial.failed.get(edit, 'it was not tried')}")
         passed += len(trial.refused)
         failed += len(trial.edits) - len(trial.refused)
+    for trial in trials:
+        say(f"{trial.crate.name}: {len(trial.refused)} refused, of them {len(trial.searched)} by search alone")
+        for edit in (it for it in trial.edits if it in trial.searched):
+            say(f"{trial.crate.name}/{edit.name}: by search alone, which did not prove {trial.searched[edit]}")
     say(f"{sum(it.used for it in trials):.0f} CPU s")
     print(f"{passed} passed, {failed} failed", flush=True)
     return failed

@@ -1,5 +1,5 @@
-"""Tests tools/refused on a small crate: edits that are refused, and each way in which an edit fails, beside `rt ci` and without it;
-that the edits of must-fail/ begin over what `rt ci` proved of the crate; that no edit counts where the folder that they were tried
+"""Tests tools/refused on a small crate: edits that are refused, by search alone too, and each way in which an edit fails, beside
+`rt ci` and without it; that the edits of must-fail/ begin over what `rt ci` proved of the crate; that no edit counts where the folder that they were tried
 over has changed behind them; which libraries are taken as they were built; and which proofs get more jobs."""
 
 import importlib.util
@@ -22,7 +22,7 @@ from trying import Trial
 CODE = """//! Halves and their sums.
 #![tactic(auto)]
 
-ghost use Rattle.std.specs.Prelude.{◌≡◌, ◌+◌, ◌≤◌, ◌<◌};
+ghost use Rattle.std.specs.Prelude.{◌≡◌, ◌+◌, ◌%◌, ◌≤◌, ◌<◌};
 
 /// One more.
 pub fn next(number: u32) -> u32
@@ -57,6 +57,15 @@ pub fn below(number: u32) -> u32
     number / 2
 }
 
+/// A number that is even where the one given is.
+pub fn like(number: u32) -> u32
+    requires { number < 1000 }
+    ensures { result % 2 ≡ number % 2 }
+{
+    let like = number;
+    like
+}
+
 /// A number.
 #[derive(Clone, Copy, PartialEq, Eq)]
 pub struct Number(u32);
@@ -89,17 +98,38 @@ EDITS = [
     ("refused_in_a_copy", "file: src/lib.rt\nold:     number + 1\nnew:     number + 2\n", "lib::next_edit_1 did not prove"),
     ("refused_too_in_a_copy", "file: src/lib.rt\nold:     number + 1\nnew:     number + 3\n", "lib::next_edit_2 did not prove"),
     ("refused_in_a_method", "file: src/lib.rt\nold:         self.0\nnew:         self.0 / 2\n", "lib::Number::get did not prove"),
+    # (a square is even where its number is, but the search knows nothing of it)
+    ("refused_by_search_alone", "file: src/lib.rt\nold: like = number;\nnew: like = number * number;\n", "lib::like did not prove"),
     ("refused_by_an_answer", "file: src/lib.rt\nold:     next(two)\nnew:     next(two) - 1\n", "`returns-clause-more`"),
     # the same value, without the call that an answer names: in `third`, and the one above in a copy of it
     ("only_names_fail", "file: src/lib.rt\nold: second(number);\nnew: number + 2;\n", "only a proof file that names"),
     ("accepted", "file: src/lib.rt\nold:     number / 2\nnew:     number / 3\n", "NOT REFUSED"),
     # the same value, while the function that it calls is edited beside it in the same check
     ("only_what_it_calls_is_refused", "file: src/lib.rt\nold: next(next(number))\nnew: next(next(number) + 0)\n", "NOT REFUSED"),
-    ("does_not_compile", "file: src/lib.rt\nold:     number / 2\nnew:     numeral / 2\n", "BAD EDIT: it doesn't reach the prover"),
+    # (it stands behind the edits of `next`, so that those go together)
+    ("will_not_compile", "file: src/lib.rt\nold:         self.0\nnew:         self.one\n", "BAD EDIT: it doesn't reach the prover"),
     ("cannot_be_applied", "file: src/lib.rt\nold:     number / 5\nnew:     number / 2\n", "BAD EDIT: an 'old:' text is in"),
     ("changes_a_contract", "file: src/lib.rt\nold:     ensures { result ≤ number }\nnew:     ensures { result < number }\n", "outside the bodies"),
     ("changes_two_functions", "file: src/lib.rt\nold:     number / 2\nnew:     number\nold:     number + 1\nnew:     number + 3\n", "bodies of 2 functions"),
     ("the_same_change", "file: src/lib.rt\nold:   number + 1\nnew:   number + 2\n", "the same change as refused_in_a_copy.edit"),
+]
+
+
+# what the prover says of a function `like` under an edit, and the goals where it is refused by search alone
+OPEN = "fn lib::like: no proof: expected answers in ./proofs/like/Answers.antt; `search` did not prove `returns`, `overflow_mul-like`\n"
+ERROR = "./proofs/like/Answers.antt:5:13: error: `returns`: "
+NO_PROOF = f"{ERROR}`search`: no proof of `number % 2 ≡ 0`\n  was found."
+LIKE = "fn lib::like: not proved\n"
+WORDS = [
+    ("goals have no answer", OPEN, "`returns`, `overflow_mul-like`"),
+    ("an answer is a search", f"{NO_PROOF}\n{LIKE}", "`returns`"),
+    ("one goal has no answer, and that of another is a search", f"{NO_PROOF}\n{OPEN}", "`returns`, `overflow_mul-like`, `returns`"),
+    ("values are told of a goal without an answer", f"{OPEN}note: `returns` of proofs/like/Answers.antt may be false: the known facts allow `c.args.number` = `1`\n", None),
+    ("values are told of another function's goal", f"{OPEN}note: `returns` of proofs/like_edit_1/Answers.antt may be false: the known facts allow `c` = `1`\n", "`returns`, `overflow_mul-like`"),
+    ("values are told by an answer that is a search", f"{NO_PROOF} `grind`: the goal does not follow. The hypotheses hold, and the goal fails at `c` = `1`\n{LIKE}", None),
+    ("an answer that is no search fails", f"{ERROR}`omega`: the goal does not follow from what it read\n{OPEN}", None),
+    ("an answer of another function fails", f"{ERROR.replace('like', 'next')}`omega`: no\n{OPEN}", "`returns`, `overflow_mul-like`"),
+    ("an answer names what is gone", f"{ERROR}`c` has no field `next`\n{OPEN}", "`returns`, `overflow_mul-like`"),
 ]
 
 
@@ -152,7 +182,7 @@ def faults_of_gate():
         faults.append(f"rt ci ended with {ran.returncode}, and not with 0 and 3 passed, 0 failed: {ran.stdout[-1000:]}")
     if f"seeds: the edits of {crate.name} begin over {kept} modules\n" not in ran.stdout:
         faults.append(f"the edits of must-fail/ didn't begin over the {kept} modules that were kept")
-    # of `next`, `below` and `third`
+    # of `next`, `third` and `get`
     if f"refused: {crate.name}: over what was proved of it, proved: 3 copies (" not in ran.stdout:
         faults.append("the edits of refused/ didn't begin over what was proved, and a copy of each function that is copied")
     found = re.search(rf"^crate {crate.name}: modules loaded=(\d+) checked=(\d+)$", said, re.M)
@@ -169,11 +199,23 @@ def faults_of_edits(said):
         is_refused = ": refused, as it must be: " in line
         if word.replace("lib::", "lib_of_halves::") not in line or is_refused != name.startswith("refused"):
             faults.append(f"{name}: {line}")
+    alone = {name for name, *_ in EDITS if f"/{name}.edit: by search alone, which did not prove `" in said}
+    if alone != {name for name, *_ in EDITS if name.startswith("refused_by_search_alone")}:
+        faults.append(f"refused by search alone are {sorted(alone)}")
     refused = sum(it[0].startswith("refused") for it in EDITS)
+    if f": {refused} refused, of them {len(alone)} by search alone\n" not in said:
+        faults.append(f"it isn't said that {refused} are refused, and how many of them by search alone")
     last = f"{refused} passed, {len(EDITS) - refused} failed"
     if said.rstrip("\n").split("\n")[-1] != last:
         faults.append(f"the last line is not {last}")
     return faults
+
+
+def faults_of_words():
+    """Returns what isn't as it must be of which edits are told to be refused by search alone."""
+    trial = Trial(None, [], [], None, lambda text: None)
+    told = [(what, trial.judge("lib::like", said), goals) for what, said, goals in WORDS]
+    return [f"where {what}, an edit is judged {it}" for what, it, goals in told if not it[0] or it[2] != goals]
 
 
 def faults_of_last_look():
@@ -248,7 +290,7 @@ def faults_alone():
 
 
 def main():
-    faults = faults_of_lanes() + faults_of_gate() + faults_of_last_look() + faults_of_libraries() + faults_alone()
+    faults = faults_of_words() + faults_of_lanes() + faults_of_gate() + faults_of_last_look() + faults_of_libraries() + faults_alone()
     for it in faults:
         print(f"the test of tools/refused: {it}")
     if not faults:

@@ -20,9 +20,13 @@ CHECKED = re.compile(r"^checked (\S+), \d+ of \d+$")
 # what the prover says of a function whose own goals it could not show
 GOALS = re.compile(r"`search` did not prove (`[^`]+`(?:, `[^`]+`)*)")
 # an answer's own error; that others rest on a refused one, or that a file can't be read, is none
-ANSWER = re.compile(r": error: `[^`]+`: ")
+ANSWER = re.compile(r": error: (`[^`]+`): ")
+# one of an answer that is a search, or holds one: it found no proof
+SEARCH = re.compile(r": error: `[^`]+`: `(?:search|grind)`: ")
 # a proof file that names what the edit took away says nothing of the contract
 NAMES = re.compile(r"has no field|\(nearest: |is not in scope|has no `|was not admitted")
+# what stands in such an error where the prover's kernel has checked values at which the goal fails
+VALUES = "The hypotheses hold, and the goal fails at"
 
 # what the prover offers where a failing goal has no answer, for which it runs once more
 OFFER = re.compile(r"^help: (?:write|add these lines to) \./proofs/(\S+?)(?:_edit_\d+)?/Answers\.antt", re.M)
@@ -74,6 +78,30 @@ def told_as(edit, number):
     return name_of_copy(edit.function, number) if number else edit.function
 
 
+def errors_of(function, said):
+    """Returns what the prover says to be wrong in the files of a function's proof, each error with the lines that go on with it."""
+    place = re.escape(place_of(function))
+    return re.findall(rf"(?m)^(?:\./)?proofs/{place}/\w+\.antt:\d+:\d+: error.*(?:\n  .*)*", said)
+
+
+def place_of(function):
+    """Returns where the files of a function's proof stand."""
+    return "/".join(function.split("::")[1:])
+
+
+def first_line(text):
+    return text.split("\n", 1)[0]
+
+
+def by_search(function, goals, own, said):
+    """Returns the goals that failed, where nothing but a search says so: no other answer failed, and no values are told at which a goal
+    fails. Else None."""
+    told = re.search(rf"(?m)^note: `[^`]+` of (?:\./)?proofs/{re.escape(place_of(function))}/Answers\.antt may be false: ", said)
+    if told or any(VALUES in it or not SEARCH.search(it) for it in own):
+        return None
+    return ", ".join([*([goals[1]] if goals else []), *(ANSWER.search(it)[1] for it in own)])
+
+
 def names_kept(folder, crate):
     """Returns what the prover calls the functions of a crate whose proofs a folder of kept work has: each has a file of this name."""
     start, end = f"Rattle-{crate}-proofs.TheLinks.", ".oantt"
@@ -98,6 +126,8 @@ class Trial:
     def __init__(self, crate, edits, types, kept, say):
         self.crate, self.edits, self.types, self.kept, self.say = crate, edits, types, kept, say
         self.refused, self.failed, self.is_begun = {}, {}, False
+        # of those refused by search alone, the goals that the search did not prove
+        self.searched = {}
         # by file, the functions of which copies are tried in a batch
         self.copied = {}
         # whether the crate is proved as it stands, in this run and into the folder of kept work
@@ -193,27 +223,25 @@ class Trial:
         return "it doesn't reach the prover: " + " | ".join(it for it in lines[:3])[:300]
 
     def judge(self, function, said):
-        """Returns whether a goal of the edit's own function failed, and what to say."""
+        """Returns whether a goal of the edit's own function failed, what to say, and the goals where it is refused by search alone."""
         lines = dict(LINE.findall(said))
         line = lines.get(function)
         if line is None:
-            return False, f"the prover says nothing of {function}"
-        goals = GOALS.search(line)
-        if goals:
-            return True, f"{function} did not prove {goals[1][:160]}"
-        place = re.escape("/".join(function.split("::")[1:]))
-        errors = re.findall(rf"(?m)^(?:\./)?proofs/{place}/\w+\.antt:\d+:\d+: error.*$", said)
-        own = [it for it in errors if ANSWER.search(it) and not NAMES.search(it)]
-        if own and not line.startswith("proved"):
-            return True, f"{function}: {own[0][:200]}"
+            return False, f"the prover says nothing of {function}", None
+        errors = errors_of(function, said)
         # (a function that waits is `proved, may wait`)
         if line.startswith("proved"):
             others = [name for name, it in lines.items() if not it.startswith("proved")]
             told = f", though {others[0]} isn't" if others else ""
-            return False, f"NOT REFUSED: {function} is still proved with this edit{told}"
+            return False, f"NOT REFUSED: {function} is still proved with this edit{told}", None
+        goals = GOALS.search(line)
+        own = [it for it in errors if ANSWER.search(it) and not NAMES.search(first_line(it))]
+        told = f"{function} did not prove {goals[1][:160]}" if goals else f"{function}: {first_line(own[0])[:200]}" if own else ""
+        if told:
+            return True, told, by_search(function, goals, own, said)
         if errors:
-            return False, f"{function}: only a proof file that names what the edit took away fails: change a value and keep the names"
-        return False, f"no goal of {function} failed: {line[:200]}"
+            return False, f"{function}: only a proof file that names what the edit took away fails: change a value and keep the names", None
+        return False, f"no goal of {function} failed: {line[:200]}", None
 
     def begin(self, jobs):
         """Proves into the folder of kept work, as it stands, what the edits change, where the crate isn't proved so, and a copy of what is
@@ -236,7 +264,7 @@ class Trial:
         if not is_same:
             why = "what it was tried over isn't what was proved" if self.is_begun else "its function isn't proved as it stands"
             self.failed = {it: why for it in self.edits}
-            self.refused = {}
+            self.refused, self.searched = {}, {}
         for it in self.edits:
             if it.why:
                 self.failed[it] = f"BAD EDIT: {it.why}"
@@ -270,9 +298,11 @@ class Trial:
             return
         again = []
         for edit, number in with_numbers(batch):
-            is_refused, told = (False, f"BAD EDIT: {why}") if why else self.judge(told_as(edit, number), said)
+            is_refused, told, goals = (False, f"BAD EDIT: {why}", None) if why else self.judge(told_as(edit, number), said)
             if is_refused:
                 self.refused[edit] = told
+                if goals:
+                    self.searched[edit] = goals
             elif alone:
                 self.failed[edit] = told
             else:
