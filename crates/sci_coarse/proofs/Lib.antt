@@ -8,6 +8,7 @@ pub mod Ordered
 pub mod Ending
 pub mod Histories
 pub mod Unslipped
+pub mod Told
 pub mod Staying
 pub mod Banked
 pub mod TwoLines

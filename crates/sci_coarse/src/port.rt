@@ -10,7 +10,7 @@ use sci_port::Port;
 use sci_words::{LineNo, Mem, NodeId, Tag};
 
 /// A seat's port to its line. Each call is one region: the lock word is taken, the call is made on the line, and the lock
-/// word is given back. Where the lock word is found taken, a load answers None and a step Busy, at once.
+/// word is given back. Where the lock word is found taken, a load answers None and a step Busy, without a second try.
 #[derive(Drop)]
 pub struct CoarsePort<'a, K: Keeps> {
     line: &'a CoarseLine<K>,

@@ -25,7 +25,7 @@ use Rattle.sci_fine.specs.declared.views.Terms.{Terms}
 use Rattle.sci_fine.specs.declared.views.View.{View}
 use Rattle.sci_fine.specs.Rule.{Shared, Stands, word_at}
 use Rattle.sci_fine.specs.Steps.{place_of}
-use Rattle.sci_fine.specs.Laws.{AreApart, Adds, IsTrue, IsMiss, HasOneRun, AppendsCalls, HidesNothing, MissesTruly}
+use Rattle.sci_fine.specs.Laws.{AreApart, Adds, IsTrue, IsMiss, HasOneRun, AppendsCalls, HidesNothing, MissesTruly, LogsCalls}
 use Rattle.sci_fine.proofs.Elements.{inside}
 use Rattle.sci_fine.proofs.Giving.{found_there}
 use Rattle.sci_fine.proofs.Tables.{place_below}
@@ -124,3 +124,6 @@ module _ {K : Type 0} (fits : K → ℕ → List ℕ → Type 0) where
 
   pub misses_truly : MissesTruly fits
   misses_truly t s u before after id turn e code apart added = is_miss fits t s u before after id turn e code apart added
+
+  pub logs_calls : LogsCalls fits
+  logs_calls t v call u step = (step.turn, ap (λ (x : View K). x.log) step.view, ap (λ (x : View K). x.steps) step.view)

@@ -1,6 +1,6 @@
--- What the rule of the line's table says of any step that adds one call to its seat's log, or none, whatever else it does. This
--- project's profile, after Herlihy and Wing's linearizability.
-use Rattle.std.specs.Prelude.{◌≡◌, ℕ, Some, List, [], ◌∷◌, ◌++◌, length, slice_index, slice_set}
+-- What the rule of the line's table says of any step that adds one call to its seat's log, or none, whatever else it does; and what
+-- a call of a port adds. This project's profile, after Herlihy and Wing's linearizability.
+use Rattle.std.specs.Prelude.{◌≡◌, ℕ, ◌+◌, Some, List, [], ◌∷◌, ◌++◌, length, slice_index, slice_set}
 use mathlib.Core.Option.{some}
 use lib.ListN.{get_elem?}
 use Rattle.sci_core.specs.declared.events.Event.{Event}
@@ -13,6 +13,7 @@ use Rattle.sci_core.specs.declared.outcomes.Outcome.TheVariants.{Missed}
 use Rattle.sci_port.specs.Solo.{Gives}
 use Rattle.sci_fine.specs.declared.views.Terms.{Terms}
 use Rattle.sci_fine.specs.declared.views.View.{View}
+use Rattle.sci_fine.specs.Calls.{IsStep}
 use Rattle.sci_fine.specs.Rule.{Shared, Stands, lies_at}
 use Rattle.sci_fine.specs.Steps.{place_of}
 
@@ -57,3 +58,11 @@ HidesNothing {K} fits = (t : Terms K) (s u : Shared K) (before : Stands fits t s
 -- and none tells a miss that was none
 abbrev pub MissesTruly : {K : Type 0} → (K → ℕ → List ℕ → Type 0) → Type 0
 MissesTruly {K} fits = (t : Terms K) (s u : Shared K) (before : Stands fits t s) (after : Stands fits t u) (id turn : ℕ) (e : Event) (code : ℕ) → AreApart t s → (added : Adds s u id ((turn, Stepped e (Missed code)) ∷ [])) → IsMiss s before.state added.before e code
+
+-- from this view to that one the call was added to the log, once and alone, and counted as one step
+abbrev pub IsLogged : {K : Type 0} → View K → Call → View K → Type 0
+IsLogged v call u = (turn : ℕ) × (u.log ≡ v.log ++ (turn, call) ∷ []) × (u.steps ≡ v.steps + 1)
+
+-- and a call of a port is
+abbrev pub LogsCalls : {K : Type 0} → (K → ℕ → List ℕ → Type 0) → Type 0
+LogsCalls {K} fits = (t : Terms K) (v : View K) (call : Call) (u : View K) → IsStep fits t v call u → IsLogged v call u

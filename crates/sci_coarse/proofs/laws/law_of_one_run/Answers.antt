@@ -1,3 +1,4 @@
+use Rattle.sci_coarse.proofs.Told.{gives_truly, no_false_busy, logs_calls}
 use Rattle.sci_coarse.proofs.Unslipped.{one_run, appends, hides_nothing, takes_truly, misses_truly}
 use Rattle.sci_coarse.proofs.laws.law_of_one_run.Goals as goal
 
@@ -15,3 +16,12 @@ returns-clause-takes g c = takes_truly g.K.Keeps.fits
 
 pub returns-clause-misses : goal.returns-clause-misses
 returns-clause-misses g c = misses_truly g.K.Keeps.fits
+
+pub returns-clause-gives : goal.returns-clause-gives
+returns-clause-gives g c = gives_truly g.K.Keeps.fits
+
+pub returns-clause-no_false_busy : goal.returns-clause-no_false_busy
+returns-clause-no_false_busy g c = no_false_busy g.K.Keeps.fits
+
+pub returns-clause-logs : goal.returns-clause-logs
+returns-clause-logs g c = logs_calls g.K.Keeps.fits

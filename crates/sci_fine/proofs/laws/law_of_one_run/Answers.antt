@@ -1,4 +1,4 @@
-use Rattle.sci_fine.proofs.Telling.{one_run, appends, hides_nothing, misses_truly}
+use Rattle.sci_fine.proofs.Telling.{one_run, appends, hides_nothing, misses_truly, logs_calls}
 use Rattle.sci_fine.proofs.laws.law_of_one_run.Goals as goal
 
 pub returns-clause-one : goal.returns-clause-one
@@ -12,3 +12,6 @@ returns-clause-hides g c = hides_nothing g.K.Keeps.fits
 
 pub returns-clause-misses : goal.returns-clause-misses
 returns-clause-misses g c = misses_truly g.K.Keeps.fits
+
+pub returns-clause-logs : goal.returns-clause-logs
+returns-clause-logs g c = logs_calls g.K.Keeps.fits
