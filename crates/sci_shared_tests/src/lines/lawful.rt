@@ -144,8 +144,9 @@ impl Words {
     // Whether a node's tag is what its step says, and it stands in the chain exactly where its step says so.
     fn is_node_lawful(&self, chain: &Chain, node: NodeId) -> bool {
         let (step, tag) = self.at(node);
+        let is_held = tag.held;
         is_own_word(&step, tag)
-            && tag.held == self.is_read(node)
+            && is_held == self.is_read(node)
             && self.is_outside(node) != chain.contains(&Some(node))
     }
 
