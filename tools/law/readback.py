@@ -177,7 +177,9 @@ def modes(line):
                 And(Implies(line.step(i, 'InQueue'), state.copy(i)), state.line(i) == state.value)))))
     yield 'GONE, last front', line.every(lambda i: Implies(And(line.mode('Gone'), line.last_front(i)), Or(
         line.kind(i, 'Dirty', 'Purging'), And(line.kind(i, 'Convert', 'Leaving'), flagged(i)), line.step(i, 'Copying'),
-        And(line.step(i, 'Ready'), flagged(i)))))
+        And(line.step(i, 'Ready'), flagged(i)),
+        And(line.kind(i, 'Queued'), flagged(i), state.forw(i) == LINK.none, Or(line.step(i, 'Fetching'), state.copy(i)),
+            state.line(i) == state.value))))
     yield 'GONE, waiting', line.every(lambda i: Implies(
         And(line.mode('Gone'), line.front(i), Not(line.last_front(i))),
         And(flagged(i), Or(And(line.step(i, 'InQueue'), Not(state.copy(i))), line.step(i, 'Promoted')))))

@@ -198,6 +198,13 @@ def enter_rows():
         needs=[MEMORY_SLOT], memory=lent('MemState.Fresh', '(Some me)'), slots={'memory': 'None'},
         witness={'rank': 'update g.rank me 1', 'last_front': 'me', 'borrower': 'me'}, facts=[link('None'), OUTSIDE],
         special={'order': 'push_first me me_forw (rw memory_forw at o.order)'})
+    row('home_write', 'HomeWrite',
+        'The home is HOME: the node is the only entry, dirty, with memory\'s slot in hand.',
+        [('line', LINE)],
+        ('Queueing', 'None'), ('Fetching', 'None', 'true', 'line'), memory_before=memory('MemState.Home', 'None'),
+        needs=[MEMORY_SLOT], memory=lent('MemState.Gone', '(Some me)'), slots={'memory': 'None'},
+        witness={'rank': 'update g.rank me 1', 'last_front': 'me', 'borrower': 'me'}, facts=[link('None'), OUTSIDE],
+        special={'order': 'push_first me me_forw (rw memory_forw at o.order)'})
     row('prepend_valid_listed', 'PrependValid',
         'The home is FRESH: the node is the head before the old one, with memory\'s slot in hand.',
         [('target', NODE), ('line', LINE)], ('Queueing', '(Some target)'), ('Fetching', '(Some target)', 'false', 'line'),
@@ -427,4 +434,4 @@ home_rows()
 look_rows()
 EVENTS = ('Queue Requeue PrependValid ReturnMemory AttachFresh Settle Hold Unhold Convert FreshToGone Converted Unconverted '
           'BeginPurge Written PrependGone AttachDirty ReturnCopy PurgeOne Advance Clear Roll TellSuccessor TellPredecessor '
-          'Adopt Rolled Leave Promote PassOn Stay ReEnter ReturnHomeFresh ReturnHomeDirty Left Look').split()
+          'Adopt Rolled Leave Promote PassOn Stay ReEnter ReturnHomeFresh ReturnHomeDirty Left HomeWrite Look').split()

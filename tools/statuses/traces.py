@@ -53,12 +53,10 @@ WALKS = [
         0,
         (
             "# node 0 line 0 add: Queue(none) Done; Queueing(none); HOME\n"
-            "# node 0 line 0 add: PrependValid Done; Fetching(none); FRESH lent 0: 0 QUEUED\n"
-            "# node 0 line 0 add: ReturnMemory Done; InQueue(none); FRESH 0: 0 QUEUED\n"
-            "# node 0 line 0 add: Settle Done; Idle; FRESH 0: 0 ONLY_FRESH\n"
-            "# node 0 line 0 add: Convert(ONLY_FRESH) Done; Converting(none); FRESH 0: 0 CONVERT\n"
-            "# node 0 line 0 add: FreshToGone Done; Converting(none) turned; GONE 0: 0 CONVERT\n"
-            "# node 0 line 0 add: Converted Done; Purging; GONE 0: 0 PURGING\n"
+            "# node 0 line 0 add: HomeWrite Done; Fetching(none) dirty; GONE lent 0: 0 QUEUED\n"
+            "# node 0 line 0 add: ReturnMemory Done; InQueue(none) dirty; GONE 0: 0 QUEUED\n"
+            "# node 0 line 0 add: Settle Done; Idle; GONE 0: 0 ONLY_DIRTY\n"
+            "# node 0 line 0 add: BeginPurge(ONLY_DIRTY) Done; Purging; GONE 0: 0 PURGING\n"
             "# node 0 line 0 add: Written(words 0 0 0 0 0 0 0 9) Done; Idle; GONE 0: 0 ONLY_DIRTY\n"
             "node 0 wrote stamp 1\n"
             "# node 0 line 0 load: Hold(ONLY_DIRTY) Done; Holding; GONE 0: 0 ONLY_DIRTY held\n"
@@ -139,12 +137,10 @@ WALKS = [
         0,
         (
             "# node 0 line 0 store: Queue(none) Done; Queueing(none); HOME\n"
-            "# node 0 line 0 store: PrependValid Done; Fetching(none); FRESH lent 0: 0 QUEUED\n"
-            "# node 0 line 0 store: ReturnMemory Done; InQueue(none); FRESH 0: 0 QUEUED\n"
-            "# node 0 line 0 store: Settle Done; Idle; FRESH 0: 0 ONLY_FRESH\n"
-            "# node 0 line 0 store: Convert(ONLY_FRESH) Done; Converting(none); FRESH 0: 0 CONVERT\n"
-            "# node 0 line 0 store: FreshToGone Done; Converting(none) turned; GONE 0: 0 CONVERT\n"
-            "# node 0 line 0 store: Converted Done; Purging; GONE 0: 0 PURGING\n"
+            "# node 0 line 0 store: HomeWrite Done; Fetching(none) dirty; GONE lent 0: 0 QUEUED\n"
+            "# node 0 line 0 store: ReturnMemory Done; InQueue(none) dirty; GONE 0: 0 QUEUED\n"
+            "# node 0 line 0 store: Settle Done; Idle; GONE 0: 0 ONLY_DIRTY\n"
+            "# node 0 line 0 store: BeginPurge(ONLY_DIRTY) Done; Purging; GONE 0: 0 PURGING\n"
             "# node 0 line 0 store: Written(words 0 0 18446744073709551615 0 0 0 0 0) Done; Idle; GONE 0: 0 ONLY_DIRTY\n"
             "node 0 wrote stamp 1\n"
         ),
@@ -156,12 +152,10 @@ WALKS = [
         0,
         (
             "# node 0 line 0 store: Queue(none) Done; Queueing(none); HOME\n"
-            "# node 0 line 0 store: PrependValid Done; Fetching(none); FRESH lent 0: 0 QUEUED\n"
-            "# node 0 line 0 store: ReturnMemory Done; InQueue(none); FRESH 0: 0 QUEUED\n"
-            "# node 0 line 0 store: Settle Done; Idle; FRESH 0: 0 ONLY_FRESH\n"
-            "# node 0 line 0 store: Convert(ONLY_FRESH) Done; Converting(none); FRESH 0: 0 CONVERT\n"
-            "# node 0 line 0 store: FreshToGone Done; Converting(none) turned; GONE 0: 0 CONVERT\n"
-            "# node 0 line 0 store: Converted Done; Purging; GONE 0: 0 PURGING\n"
+            "# node 0 line 0 store: HomeWrite Done; Fetching(none) dirty; GONE lent 0: 0 QUEUED\n"
+            "# node 0 line 0 store: ReturnMemory Done; InQueue(none) dirty; GONE 0: 0 QUEUED\n"
+            "# node 0 line 0 store: Settle Done; Idle; GONE 0: 0 ONLY_DIRTY\n"
+            "# node 0 line 0 store: BeginPurge(ONLY_DIRTY) Done; Purging; GONE 0: 0 PURGING\n"
             "# node 0 line 0 store: Written(words 7 0 0 0 0 0 0 0) Done; Idle; GONE 0: 0 ONLY_DIRTY\n"
             "node 0 wrote stamp 1\n"
             "# node 0 line 0 evict: Leave(ONLY_DIRTY) Done; Leaving dirty; GONE 0: 0 LEAVING\n"

@@ -64,6 +64,7 @@ given me l line a = ap (λ (x : Line). Carry.Gives (Place.Node me) x) (same_some
 
 queueing_silent : (me : ℕ) (e : Event) (f : Option ℕ) (y : Line) → (queueing_row me e f).answer y ≡ None
 queueing_silent me Event.PrependGone (Some x) y = refl
+queueing_silent me Event.HomeWrite None y = refl
 queueing_silent me _ f y = refl
 
 purging_silent : (me : ℕ) (l : Line) (e : Event) (seen : Option (Option ℕ)) (y : Line) → (purging_row me l e seen).answer y ≡ None

@@ -44,6 +44,8 @@ queueing_filled me l y (Event.Requeue g) f = refl
 queueing_filled me l y Event.PrependValid f = refl
 queueing_filled me l y Event.PrependGone (Some x) = refl
 queueing_filled me l y Event.PrependGone None = refl
+queueing_filled me l y Event.HomeWrite (Some x) = refl
+queueing_filled me l y Event.HomeWrite None = refl
 queueing_filled me l y _ f = refl
 
 in_queue_filled : (me : ℕ) (l y : Line) (e : Event) (f : Option ℕ) (d c : Bool) → exchange_with y (in_queue_row me e f d (cond c (Some l) None)) ≡ refilled (in_queue_row me e f d (cond c (Some l) None)) e l y

@@ -81,6 +81,7 @@ queueing_forms : (me : ℕ) (e : Event) (f : Option ℕ) → LeavesWellFormed (r
 queueing_forms me (Event.Requeue h) f = refl
 queueing_forms me Event.PrependValid f = refl
 queueing_forms me Event.PrependGone (Some x) = refl
+queueing_forms me Event.HomeWrite None = refl
 queueing_forms me _ f = refl
 
 promoted_forms : (me : ℕ) (d : Bool) (l : Line) (x : ℕ) (e : Event) → LeavesWellFormed (row_of me (Pending.Promoted d l x) e).change

@@ -33,6 +33,8 @@ queueing_hands n me (Event.Requeue g) f h = record { gives = tt; after = λ y. r
 queueing_hands n me Event.PrependValid f h = record { gives = tt; after = λ y. refl }
 queueing_hands n me Event.PrependGone (Some x) h = record { gives = tt; after = λ y. refl }
 queueing_hands n me Event.PrependGone None h = absurd (false≢true h)
+queueing_hands n me Event.HomeWrite None h = record { gives = tt; after = λ y. refl }
+queueing_hands n me Event.HomeWrite (Some x) h = absurd (false≢true h)
 queueing_hands n me _ f h = absurd (false≢true h)
 
 in_queue_hands : (me : ℕ) (e : Event) (f : Option ℕ) (d : Bool) (c : Option Line) → in_queue_allows e f d c ≡ true → Hands me (Pending.InQueue f d c) (in_queue_row me e f d c)

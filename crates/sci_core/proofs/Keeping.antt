@@ -32,4 +32,5 @@ pub mod ReEnter
 pub mod ReturnHomeFresh
 pub mod ReturnHomeDirty
 pub mod Left
+pub mod HomeWrite
 pub mod Look

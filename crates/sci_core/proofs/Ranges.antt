@@ -49,6 +49,8 @@ module _ (n : ℕ) (s : State) (b : Below n (shape s)) (me : ℕ) (below : me < 
   queueing_below Event.PrependValid f = record { change = tt; carry = tt }
   queueing_below Event.PrependGone (Some x) = record { change = tt; carry = tt }
   queueing_below Event.PrependGone None = record { change = tt; carry = tt }
+  queueing_below Event.HomeWrite (Some x) = record { change = tt; carry = tt }
+  queueing_below Event.HomeWrite None = record { change = tt; carry = tt }
   queueing_below _ f = record { change = tt; carry = tt }
 
   purging_below : (l : Line) (e : Event) (seen : Option (Option ℕ)) → s.steps me ≡ Pending.Purging l seen → RowBelow n (purging_row me l e seen)

@@ -200,6 +200,8 @@ is_dirty_front Kind.Dirty _ _ = true
 is_dirty_front Kind.Purging _ _ = true
 is_dirty_front Kind.Convert _ f = f
 is_dirty_front Kind.Leaving _ f = f
+is_dirty_front Kind.Queued Fetching f = f
+is_dirty_front Kind.Queued InQueue f = f
 is_dirty_front Kind.Queued Copying _ = true
 is_dirty_front Kind.Queued Ready f = f
 is_dirty_front _ _ _ = false
@@ -323,6 +325,7 @@ pub record Mode (state : MemState) (head : Option ℕ) (kind : ℕ → Kind) (ph
   pub gone_queue : (i : ℕ) → state ≡ MemState.Gone → rank last_front < rank i → phase i ≢ Promoted → phase i ≡ InQueue
   pub gone_copy : (i : ℕ) → state ≡ MemState.Gone → rank last_front < rank i → phase i ≡ InQueue → copy i ≡ false
   pub last_copy : (i : ℕ) → phase i ≡ InQueue → kept i ≡ None → copy i ≡ true
+  pub last_value : (i : ℕ) → phase i ≡ InQueue → kept i ≡ None → line i ≡ value
 
 -- one value
 pub record Values (state : MemState) (kind : ℕ → Kind) (phase : ℕ → Phase) (memory_slot : Option Line) (slot : ℕ → Option Line) (line : ℕ → Line) (value : Line) : Type 0 where

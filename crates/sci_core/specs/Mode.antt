@@ -36,9 +36,13 @@ pub record IsFreshList (s : State) (nodes : List ℕ) (v : Line) : Type 0 where
   pub queued : (i : ℕ) → Contains nodes i → (s.tags i).kind ≡ Kind.Queued → kept_line (s.steps i) ≡ Some v
   pub promoted : (i : ℕ) → Contains nodes i → phase_of (s.steps i) ≡ Phase.Promoted → kept_line (s.steps i) ≡ Some v
 
+-- alone in the list, on its way to write: it has memory's bytes, which are the value, and is dirty
+abbrev pub IsHomeWriter : Tag → Pending → Line → Type 0
+IsHomeWriter t p v = (t.kind ≡ Kind.Queued) × (is_dirty_step p ≡ true) × (t.forw ≡ None) × (kept_line p ≡ Some v)
+
 -- the last front under GONE has the bytes
-abbrev pub IsDirtyFront : Tag → Pending → Type 0
-IsDirtyFront t p = (t.kind ≡ Kind.Dirty) ⊎ (t.kind ≡ Kind.Purging) ⊎ ((t.kind ≡ Kind.Convert) × (is_turned p ≡ true)) ⊎ ((t.kind ≡ Kind.Leaving) × (is_dirty_step p ≡ true)) ⊎ (phase_of p ≡ Phase.Copying) ⊎ ((phase_of p ≡ Phase.Ready) × (is_dirty_step p ≡ true))
+abbrev pub IsDirtyFront : Tag → Pending → Line → Type 0
+IsDirtyFront t p v = (t.kind ≡ Kind.Dirty) ⊎ (t.kind ≡ Kind.Purging) ⊎ ((t.kind ≡ Kind.Convert) × (is_turned p ≡ true)) ⊎ ((t.kind ≡ Kind.Leaving) × (is_dirty_step p ≡ true)) ⊎ (phase_of p ≡ Phase.Copying) ⊎ ((phase_of p ≡ Phase.Ready) × (is_dirty_step p ≡ true)) ⊎ IsHomeWriter t p v
 
 -- a front before it under GONE: in the queue without a copy, or promoted; and dirty
 abbrev pub IsDirtyWaiting : Pending → Type 0
@@ -47,10 +51,10 @@ IsDirtyWaiting (Pending.Promoted dirty line succ) = dirty ≡ true
 IsDirtyWaiting _ = ⊥
 
 -- the list has the bytes
-pub record IsGoneList (s : State) (nodes : List ℕ) : Type 0 where
-  pub last : (i : ℕ) → IsLastFront s nodes i → IsDirtyFront (s.tags i) (s.steps i)
+pub record IsGoneList (s : State) (nodes : List ℕ) (v : Line) : Type 0 where
+  pub last : (i : ℕ) → IsLastFront s nodes i → IsDirtyFront (s.tags i) (s.steps i) v
   pub waiting : (i : ℕ) → IsWaitingFront s nodes i → IsDirtyWaiting (s.steps i)
 
 pub record FitsMemoryWord (s : State) (nodes : List ℕ) (v : Line) : Type 0 where
   pub fresh : s.memory.state ≡ MemState.Fresh → IsFreshList s nodes v
-  pub gone : s.memory.state ≡ MemState.Gone → IsGoneList s nodes
+  pub gone : s.memory.state ≡ MemState.Gone → IsGoneList s nodes v

@@ -73,7 +73,7 @@ pub enum Event {
     ReturnHomeDirty,
     /// Own tag, Leaving to Invalid: the leaver is out of the list.
     Left,
-    /// Planned: a store that finds HOME goes straight to GONE. Never in turn yet.
+    /// Memory's word, HOME to GONE with this node as the head, and memory's bytes lent to it: a writer that finds no list.
     HomeWrite,
 }
 

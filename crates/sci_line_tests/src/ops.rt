@@ -55,7 +55,7 @@ fn take(
 fn writes_a_line_and_adds(rt: HostRuntime) -> Result<(), Fail> {
     let mut whole = Whole::open(rt.alloc(), 1, 0, Line::ZERO, AnyWords)?;
     let words = [1, 2, 3, 4, 5, 6, 7, 8];
-    let wrote = take(&mut whole, 0, Ok(Op::write_line(words)), 8);
+    let wrote = take(&mut whole, 0, Ok(Op::write_line(words)), 6);
     let before = [0; 8];
     same(&rt, &wrote, &Some(Answer::Wrote { before, stamp: 1 }));
     let added = take(&mut whole, 0, Op::add(7, u64::MAX), 2);
@@ -212,7 +212,7 @@ fn spends_the_last_stamp(rt: HostRuntime) -> Result<(), Fail> {
     let mut whole = Whole::open(rt.alloc(), 1, 0, last, AnyWords)?;
     same(
         &rt,
-        &take(&mut whole, 0, Op::store(0, 5), 8),
+        &take(&mut whole, 0, Op::store(0, 5), 6),
         &Some(Answer::Spent),
     );
     let words = [0; 8];

@@ -95,9 +95,10 @@ idle_speaks goal me t Kind.Dirty e = dirty_speaks goal me t
 idle_speaks goal me t Kind.Valid e = valid_speaks goal t
 idle_speaks goal me t _ e = waits
 
-prepend_speaks : {goal : Goal} {p : Pending} {last : Option (Pending × Call)} (s : MemState) → Speaks goal p last (prepend s)
+prepend_speaks : {goal : Goal} {p : Pending} {last : Option (Pending × Call)} (s : MemState) → Speaks goal p last (prepend goal s)
+prepend_speaks MemState.Home = moves
+prepend_speaks MemState.Fresh = moves
 prepend_speaks MemState.Gone = moves
-prepend_speaks _ = moves
 
 counts : (l : Line) → can_count l ≡ true → l.stamp < 18446744073709551615
 counts l h = grind (arith, nat_tests, h)

@@ -62,6 +62,14 @@ below x n h = grind (arith, nat_tests, h)
 pub node_below : (n : ℕ) (f : Option ℕ) (x : ℕ) → f ≡ Some x → IsTrue (link_below n f) → x < n
 node_below n f x e h = below x n (subst (λ (o : Option ℕ). IsTrue (link_below n o)) e h)
 
+-- where memory has no list, it names none
+pub headless : (s : MemState) (g f : Option ℕ) → s ≡ MemState.Home → not (is_home s && is_some g) ≡ true → option_eq nat_eq g f ≡ true → is_none f ≡ true
+headless s g None e w h = refl
+headless MemState.Home (Some x) (Some y) e w h = cc
+headless MemState.Home None (Some y) e w h = cc
+headless MemState.Fresh g (Some y) e w h = cc
+headless MemState.Gone g (Some y) e w h = cc
+
 -- where memory has a list, it names a head
 pub head_named : (s : MemState) (g f : Option ℕ) → s ≡ MemState.Gone → not (not (is_home s) && is_none g) ≡ true → option_eq nat_eq g f ≡ true → is_some f ≡ true
 head_named s g (Some x) e w h = refl

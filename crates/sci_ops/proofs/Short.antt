@@ -44,9 +44,10 @@ idle_loads goal me t Kind.Dirty = dirty_loads goal me t
 idle_loads goal me t Kind.Valid = valid_loads goal t
 idle_loads goal me t _ = by_end
 
-prepend_loads : (s : MemState) → LoadsAtMost 2 (prepend s)
-prepend_loads MemState.Gone = by_exchange
-prepend_loads _ = by_exchange
+prepend_loads : (goal : Goal) (s : MemState) → LoadsAtMost 2 (prepend goal s)
+prepend_loads goal MemState.Home = by_exchange
+prepend_loads goal MemState.Fresh = by_exchange
+prepend_loads goal MemState.Gone = by_exchange
 
 write_loads : (goal : Goal) (l : Line) → LoadsAtMost 2 (write goal l)
 write_loads Goal.Load l = by_exchange
@@ -77,7 +78,7 @@ roll_loads me true f b = roll_on_loads me b
 in_loads : (goal : Goal) (me : ℕ) (p : Pending) → LoadsAtMost 3 (turn_in goal me p)
 in_loads goal me Pending.Idle = by_own (λ t. either _ _ _ by_end (idle_loads goal me t t.kind))
 in_loads goal me (Pending.Holding w l) = by_exchange
-in_loads goal me (Pending.Queueing f) = by_mem (λ m. either _ _ _ by_end (either _ _ _ (prepend_loads m.state) by_exchange))
+in_loads goal me (Pending.Queueing f) = by_mem (λ m. either _ _ _ by_end (either _ _ _ (prepend_loads goal m.state) by_exchange))
 in_loads goal me (Pending.Fetching f d l) = by_exchange
 in_loads goal me (Pending.InQueue None d c) = by_exchange
 in_loads goal me (Pending.InQueue (Some x) d c) = by_tag (λ t. either (may_attach_fresh d (is_some c) t) _ _ by_exchange (either (may_attach_dirty d (is_some c) t) _ _ by_exchange by_end))

@@ -86,16 +86,22 @@ idle_at goal me t = if t.held then wait else idle_as goal me t t.kind
 abbrev pub idle : Goal → ℕ → Plan
 idle goal me = own (idle_at goal me)
 
-abbrev pub prepend : MemState → Plan
-prepend MemState.Gone = move Event.PrependGone
-prepend _ = move Event.PrependValid
+-- how it enters where there is no list: a writer dirty, so that memory turns to GONE at once
+abbrev pub home_event : Goal → Event
+home_event (Goal.Write write) = Event.HomeWrite
+home_event _ = Event.PrependValid
 
-abbrev pub queueing_at : Option ℕ → Mem → Plan
-queueing_at f m = if m.lent then wait else (if is_same m.forw f then prepend m.state else move (Event.Requeue m.forw))
+abbrev pub prepend : Goal → MemState → Plan
+prepend goal MemState.Home = move (home_event goal)
+prepend goal MemState.Fresh = move Event.PrependValid
+prepend goal MemState.Gone = move Event.PrependGone
+
+abbrev pub queueing_at : Goal → Option ℕ → Mem → Plan
+queueing_at goal f m = if m.lent then wait else (if is_same m.forw f then prepend goal m.state else move (Event.Requeue m.forw))
 
 -- Queueing: it enters the list before the head that it found, or looks for the head again
-abbrev pub queueing : Option ℕ → Plan
-queueing f = mem (queueing_at f)
+abbrev pub queueing : Goal → Option ℕ → Plan
+queueing goal f = mem (queueing_at goal f)
 
 -- it may be attached: memory's bytes are those of a Fresh head, and were copied
 abbrev pub may_attach_fresh : Bool → Bool → Tag → Bool
@@ -187,7 +193,7 @@ rolling me told = own (λ t. roll me told t.forw t.back)
 abbrev pub turn_in : Goal → ℕ → Pending → Plan
 turn_in goal me Pending.Idle = idle goal me
 turn_in goal me (Pending.Holding w l) = exchange Event.Unhold (seen_end goal)
-turn_in goal me (Pending.Queueing f) = queueing f
+turn_in goal me (Pending.Queueing f) = queueing goal f
 turn_in goal me (Pending.Fetching f d l) = move Event.ReturnMemory
 turn_in goal me (Pending.InQueue f d copy) = in_queue goal f d (is_some copy)
 turn_in goal me (Pending.Copying x w l) = move Event.ReturnCopy

@@ -76,7 +76,7 @@ pub fn turn_towards<P: Port>(port: &mut P, goal: Goal) -> Turn
     match port.stage() {
         Stage::Idle => idle(port, goal),
         Stage::Holding { .. } => exchange(port, Event::Unhold, seen_end(goal)),
-        Stage::Queueing { forw } => queueing(port, forw),
+        Stage::Queueing { forw } => queueing(port, goal, forw),
         Stage::Fetching { .. } | Stage::WritingBack => go_on(port, Event::ReturnMemory),
         Stage::InQueue {
             forw,

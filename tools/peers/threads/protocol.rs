@@ -54,6 +54,10 @@ fn mem(state: u64, forw: u64) -> u64 {
     state | forw << 8
 }
 
+fn listed(dirty: bool) -> u64 {
+    if dirty { GONE } else { FRESH_MEM }
+}
+
 fn settled(dirty: bool) -> u64 {
     if dirty { DIRTY } else { FRESH }
 }
@@ -154,7 +158,7 @@ enum Step {
     Idle,
     Holding(u64),
     Queueing(u64),
-    Fetching(u64),
+    Fetching { forw: u64, dirty: bool },
     InQueue { forw: u64, dirty: bool },
     Copying(u64, u64),
     Ready { forw: u64, dirty: bool },
@@ -272,14 +276,15 @@ impl<'a, P: Port> Seat<'a, P> {
                 } else if kind(m) == GONE {
                     self.go(MEM, m, mem(GONE, me), InQueue { forw: f, dirty: true })
                 } else {
-                    let step = self.go(MEM, m, mem(FRESH_MEM, me) | LENT, Fetching(f))?;
+                    let dirty = kind(m) == HOME && matches!(goal, Goal::Add { .. });
+                    let step = self.go(MEM, m, mem(listed(dirty), me) | LENT, Fetching { forw: f, dirty })?;
                     self.copy(MEM, own);
                     Some(step)
                 }
             }
-            Fetching(f) => {
-                let m = mem(FRESH_MEM, me);
-                self.go(MEM, m | LENT, m, InQueue { forw: f, dirty: false })
+            Fetching { forw: f, dirty } => {
+                let m = mem(listed(dirty), me);
+                self.go(MEM, m | LENT, m, InQueue { forw: f, dirty })
             }
             InQueue { forw: NONE, dirty } => {
                 self.rest(tag(QUEUED, NONE, NONE), tag(settled(dirty), NONE, NONE), goal)
@@ -354,7 +359,7 @@ impl<'a, P: Port> Seat<'a, P> {
             }
             Promoted { dirty, succ } => {
                 if forw(port.load(MEM)?) == me {
-                    let state = if dirty { GONE } else { FRESH_MEM };
+                    let state = listed(dirty);
                     self.go(MEM, mem(state, me), mem(state, succ), Parted { forw: succ })
                 } else {
                     let before = tag(LEAVING, succ, NONE);

@@ -16,6 +16,7 @@ use Rattle.sci_core.proofs.Going.Forms.{Going, Turn, FindsRow}
 use Rattle.sci_core.proofs.Going.Facts.{below_link, memory_home}
 use Rattle.sci_core.proofs.Keeping.Requeue.{requeue_keeps_law, requeue_keeps_links}
 use Rattle.sci_core.proofs.Keeping.PrependValid.{prepend_valid_home_keeps_law, prepend_valid_home_keeps_links, prepend_valid_listed_keeps_law, prepend_valid_listed_keeps_links}
+use Rattle.sci_core.proofs.Keeping.HomeWrite.{home_write_keeps_law, home_write_keeps_links}
 use Rattle.sci_core.proofs.Keeping.PrependGone.{prepend_gone_keeps_law, prepend_gone_keeps_links}
 use Rattle.sci_core.proofs.Keeping.ReturnMemory.{return_memory_fetching_keeps_law, return_memory_fetching_keeps_links}
 
@@ -41,6 +42,17 @@ module _ (n : ℕ) (s : State) (g : Witness) (me : ℕ) where
         after = record g { rank = update g.rank me 1; last_front = me; borrower = me };
         law = prepend_valid_home_keeps_law s g t.law me (line_in s.memory_slot) t.pending word has;
         links = prepend_valid_home_keeps_links n s t.links me t.below (line_in s.memory_slot) t.pending word;
+        value = refl;
+      }
+
+  home_write_goes : Turn n s g me (Pending.Queueing None) → s.memory ≡ home → Going n s g me Event.HomeWrite (queueing_row me Event.HomeWrite None)
+  home_write_goes t word =
+      let has : s.memory_slot ≡ Some (line_in s.memory_slot) = slot_home t home word refl in
+      record {
+        home = has;
+        after = record g { rank = update g.rank me 1; last_front = me; borrower = me };
+        law = home_write_keeps_law s g t.law me (line_in s.memory_slot) t.pending word has;
+        links = home_write_keeps_links n s t.links me t.below (line_in s.memory_slot) t.pending word;
         value = refl;
       }
 
@@ -70,6 +82,8 @@ module _ (n : ℕ) (s : State) (g : Witness) (me : ℕ) where
   queueing_goes (Some x) Event.PrependValid t allowed finds = prepend_listed_goes x t finds
   queueing_goes (Some x) Event.PrependGone t allowed finds = prepend_gone_goes x t finds
   queueing_goes None Event.PrependGone t allowed finds = absurd (false≢true allowed)
+  queueing_goes None Event.HomeWrite t allowed finds = home_write_goes t finds
+  queueing_goes (Some x) Event.HomeWrite t allowed finds = absurd (false≢true allowed)
   queueing_goes f _ t allowed finds = absurd (false≢true allowed)
 
   return_memory_goes : (f : Option ℕ) (d : Bool) (l : Line) → Turn n s g me (Pending.Fetching f d l) → s.memory ≡ lent_word (listed d me) → Going n s g me Event.ReturnMemory (fetching_row me f d l Event.ReturnMemory)

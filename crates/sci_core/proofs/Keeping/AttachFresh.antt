@@ -183,6 +183,7 @@ attach_fresh_keeps_law s g o me target line pending target_fresh target_unheld =
         gone_copy = λ i h1 h2 h3. let c0 = o.own.suited me in let c1 = o.outside.may_be me in let c2 = o.mode.gone_copy i in
             let c3 = o.fronts.body me in let o : ℕ = 0 in grind (arith, nat_tests, c0, c1, c2, c3);
         last_copy = let c = o.mode.last_copy in let o : ℕ = 0 in grind (arith, nat_tests, c);
+        last_value = λ i h1 h2. let c0 = o.mode.last_value in let o : ℕ = 0 in grind (arith, nat_tests, c0);
       };
       values = record {
         memory = let c = o.values.memory in let o : ℕ = 0 in grind (arith, nat_tests, c);

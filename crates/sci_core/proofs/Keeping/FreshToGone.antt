@@ -72,6 +72,7 @@ fresh_to_gone_keeps_law s g o me forw pending memory_word_is =
             let c2 = o.order.head_in me in let c3 = o.order.apart me g.last_front in let c4 = o.fronts.queue me in let o : ℕ = 0 in
             grind (arith, nat_tests, c0, c1, c2, c3, c4);
         last_copy = let c = o.mode.last_copy in let o : ℕ = 0 in grind (arith, nat_tests, c);
+        last_value = λ i h1 h2. let c0 = o.mode.last_value in let o : ℕ = 0 in grind (arith, nat_tests, c0);
       };
       values = let c = o.values in let o : ℕ = 0 in grind (arith, nat_tests, c);
     }

@@ -101,6 +101,7 @@ pass_on_keeps_law s g o me target dirty line pending memory_word_is =
         gone_copy = λ i h1 h2 h3. let c0 = o.own.suited me in let c1 = o.mode.gone_copy i in let c2 = o.fronts.leaves in let o : ℕ = 0 in
             grind (arith, nat_tests, c0, c1, c2);
         last_copy = let c = o.mode.last_copy in let o : ℕ = 0 in grind (arith, nat_tests, c);
+        last_value = λ i h1 h2. let c0 = o.mode.last_value in let o : ℕ = 0 in grind (arith, nat_tests, c0);
       };
       values = let c = o.values in let o : ℕ = 0 in grind (arith, nat_tests, c);
     }

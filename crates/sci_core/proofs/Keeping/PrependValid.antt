@@ -119,6 +119,7 @@ prepend_valid_home_keeps_law s g o me line pending memory_word_is memory_has =
         gone_queue = let c = o.mode.gone_queue in let o : ℕ = 0 in grind (arith, nat_tests, c);
         gone_copy = let c = o.mode.gone_copy in let o : ℕ = 0 in grind (arith, nat_tests, c);
         last_copy = let c = o.mode.last_copy in let o : ℕ = 0 in grind (arith, nat_tests, c);
+        last_value = λ i h1 h2. let c0 = o.mode.last_value in let o : ℕ = 0 in grind (arith, nat_tests, c0);
       };
       values = let c = o.values in let o : ℕ = 0 in grind (arith, nat_tests, c);
     }
@@ -260,6 +261,7 @@ prepend_valid_listed_keeps_law s g o me target line pending memory_word_is memor
         gone_queue = let c = o.mode.gone_queue in let o : ℕ = 0 in grind (arith, nat_tests, c);
         gone_copy = let c = o.mode.gone_copy in let o : ℕ = 0 in grind (arith, nat_tests, c);
         last_copy = let c = o.mode.last_copy in let o : ℕ = 0 in grind (arith, nat_tests, c);
+        last_value = λ i h1 h2. let c0 = o.mode.last_value in let o : ℕ = 0 in grind (arith, nat_tests, c0);
       };
       values = let c = o.values in let o : ℕ = 0 in grind (arith, nat_tests, c);
     }

@@ -176,6 +176,7 @@ promote_keeps_law s g o me target dirty line pending target_valid target_back ta
             let c8 = o.mode.gone_copy i in let c9 = o.fronts.queue me in let c10 = o.fronts.body me in let o : ℕ = 0 in
             grind (arith, nat_tests, c0, c1, c2, c3, c4, c5, c6, c7, c8, c9, c10);
         last_copy = let c = o.mode.last_copy in let o : ℕ = 0 in grind (arith, nat_tests, c);
+        last_value = λ i h1 h2. let c0 = o.mode.last_value in let o : ℕ = 0 in grind (arith, nat_tests, c0);
       };
       values = let c = o.values in let o : ℕ = 0 in grind (arith, nat_tests, c);
     }

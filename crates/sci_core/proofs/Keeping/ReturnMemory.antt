@@ -49,7 +49,25 @@ return_memory_fetching_keeps_law s g o me forw dirty line pending =
         copied_idle = let c = o.slots.copied_idle in let o : ℕ = 0 in grind (arith, nat_tests, c);
         copied_by = let c = o.slots.copied_by in let o : ℕ = 0 in grind (arith, nat_tests, c);
       };
-      mode = let c = o.mode in let o : ℕ = 0 in grind (arith, nat_tests, c);
+      mode = record {
+        home = λ h1. let c0 = o.mode.home in let o : ℕ = 0 in grind (arith, nat_tests, c0);
+        not_home = λ h1. let c0 = o.mode.not_home in let o : ℕ = 0 in grind (arith, nat_tests, c0);
+        not_dirty = λ i h1 h2 hn. let c0 = o.mode.not_dirty in let o : ℕ = 0 in grind (arith, nat_tests, c0);
+        not_purging = λ i h1 h2 hn. let c0 = o.mode.not_purging in let o : ℕ = 0 in grind (arith, nat_tests, c0);
+        not_copying = λ i h1 h2 hn. let c0 = o.mode.not_copying in let o : ℕ = 0 in grind (arith, nat_tests, c0);
+        not_flagged = λ i h1 h2 h3. let c0 = o.mode.not_flagged in let o : ℕ = 0 in grind (arith, nat_tests, c0);
+        has_copy = λ i h1 h2 h3. let c0 = o.mode.has_copy in let o : ℕ = 0 in grind (arith, nat_tests, c0);
+        has_value = λ i h1 h2 h3. let c0 = o.mode.has_value in let o : ℕ = 0 in grind (arith, nat_tests, c0);
+        gone = λ h1. let c0 = o.mode.gone in let o : ℕ = 0 in grind (arith, nat_tests, c0);
+        gone_flag = λ i h1 h2. let c0 = o.mode.gone_flag in let o : ℕ = 0 in grind (arith, nat_tests, c0);
+        gone_queue = λ i h1 h2 h3. let c0 = o.mode.gone_queue in let o : ℕ = 0 in grind (arith, nat_tests, c0);
+        gone_copy = λ i h1 h2 h3. let c0 = o.slots.fetching me in let c1 = o.order.head_top me g.last_front in
+            let c2 = o.order.head_top g.last_front i in let c3 = o.order.apart g.last_front me in let c4 = o.mode.gone_queue me in
+            let c5 = o.fronts.last_front_in i in let o : ℕ = 0 in grind (arith, nat_tests, c0, c1, c2, c3, c4, c5);
+        last_copy = λ i h1 h2. let c0 = o.mode.last_copy in let o : ℕ = 0 in grind (arith, nat_tests, c0);
+        last_value = λ i h1 h2. let c0 = o.values.lent_line me in let c1 = o.mode.last_value i in let o : ℕ = 0 in
+            grind (arith, nat_tests, c0, c1);
+      };
       values = let c = o.values in let o : ℕ = 0 in grind (arith, nat_tests, c);
     }
 

@@ -120,11 +120,8 @@ settle_in_queue_keeps_law s g o me dirty line pending me_word =
       values = record {
         memory = let c = o.values.memory in let o : ℕ = 0 in grind (arith, nat_tests, c);
         lent_line = let c = o.values.lent_line in let o : ℕ = 0 in grind (arith, nat_tests, c);
-        sharer = λ i l h1 h2. let c0 = o.values.sharer i l in let c1 = o.own.suited me in let c2 = o.own.as_kept me in
-            let c3 = o.outside.may_be me in let c4 = o.order.last me g.last_front in let c5 = o.order.empty me in
-            let c6 = o.order.apart me g.last_front in let c7 = o.mode.home in let c8 = o.mode.has_value me in let c9 = o.mode.gone in
-            let c10 = o.fronts.last_front_in me in let c11 = o.fronts.body me in let o : ℕ = 0 in
-            grind (arith, nat_tests, c0, c1, c2, c3, c4, c5, c6, c7, c8, c9, c10, c11);
+        sharer = λ i l h1 h2. let c0 = o.values.sharer i l in let c1 = o.mode.last_value me in let o : ℕ = 0 in
+            grind (arith, nat_tests, c0, c1);
         hand = let c = o.values.hand in let o : ℕ = 0 in grind (arith, nat_tests, c);
         copying = let c = o.values.copying in let o : ℕ = 0 in grind (arith, nat_tests, c);
         leaving = let c = o.values.leaving in let o : ℕ = 0 in grind (arith, nat_tests, c);

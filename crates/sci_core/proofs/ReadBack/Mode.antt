@@ -1,5 +1,5 @@
 -- What the memory word says of the chain.
-use Rattle.std.proofs.Common.{◌≡◌, ◌⊎◌, ◌≢◌, ℕ, ◌<◌, true, false, Some, None, List, refl, ap, ⊎_elim, ◌∙◌, arith}
+use Rattle.std.proofs.Common.{◌≡◌, ◌⊎◌, ◌≢◌, ℕ, ◌<◌, true, false, Some, None, List, refl, sym, ap, inl, inr, ⊎_elim, ◌∙◌, arith}
 use Rattle.sci_words.specs.declared.tags.Kind.{Kind}
 use Rattle.sci_words.specs.declared.tags.Tag.{Tag}
 use Rattle.sci_words.specs.declared.memory.MemState.{MemState}
@@ -7,12 +7,12 @@ use Rattle.sci_core.specs.declared.lines.Line.{Line}
 use Rattle.sci_core.specs.declared.pending.Pending.{Pending}
 use Rattle.sci_core.specs.State.{State}
 use Rattle.sci_core.specs.Shape.{Phase, shape, phase_of, flag_of, has_copy}
-use Rattle.sci_core.specs.Law.{Law, Witness, suits, has_dirty, is_dirty_front}
+use Rattle.sci_core.specs.Law.{Law, Witness, suits, has_attached, has_dirty, is_dirty_front}
 use Rattle.sci_core.specs.Copies.{kept_line}
 use Rattle.sci_core.specs.Mode.{is_dirty_step, is_turned, IsFreshList, IsDirtyFront, IsDirtyWaiting, IsGoneList, FitsMemoryWord}
 use Rattle.sci_core.proofs.ReadBack.Ranked.{Stands}
 use Rattle.sci_core.proofs.ReadBack.LastFront.{last_front_is, waiting_above}
-use Rattle.sci_core.proofs.ReadBack.Value.{kept_value, copy_kept}
+use Rattle.sci_core.proofs.ReadBack.Value.{kept_value, copy_kept, alone, writer_value}
 
 clean_step : (p : Pending) → (has_dirty (phase_of p) ≡ true → flag_of p ≡ false) → is_dirty_step p ≡ false
 clean_step (Pending.Fetching f d l) h = h refl
@@ -26,24 +26,34 @@ not_turned : (p : Pending) → (has_dirty (phase_of p) ≡ true → flag_of p �
 not_turned (Pending.Converting f t) h = h refl
 not_turned _ h = refl
 
-dirty_front : (t : Tag) (p : Pending) → suits (phase_of p) t.kind ≡ true → is_dirty_front t.kind (phase_of p) (flag_of p) ≡ true → IsDirtyFront t p
-dirty_front t Pending.Idle h e = grind (arith, h, e)
-dirty_front t (Pending.Holding w l) h e = grind (arith, h, e)
-dirty_front t (Pending.Queueing f) h e = grind (arith, h, e)
-dirty_front t (Pending.Fetching f d l) h e = grind (arith, h, e)
-dirty_front t (Pending.InQueue f d c) h e = grind (arith, h, e)
-dirty_front t (Pending.Copying f w l) h e = grind (arith, h, e)
-dirty_front t (Pending.Ready f d l) h e = grind (arith, h, e)
-dirty_front t (Pending.Converting f u) h e = grind (arith, h, e)
-dirty_front t (Pending.Purging l q) h e = grind (arith, h, e)
-dirty_front t (Pending.Advancing l v w) h e = grind (arith, h, e)
-dirty_front t (Pending.Clearing l v w) h e = grind (arith, h, e)
-dirty_front t (Pending.Leaving d l q) h e = grind (arith, h, e)
-dirty_front t (Pending.Promoted d l u) h e = grind (arith, h, e)
-dirty_front t (Pending.WritingBack l) h e = grind (arith, h, e)
-dirty_front t (Pending.Parted f) h e = grind (arith, h, e)
-dirty_front t (Pending.Rolling u q) h e = grind (arith, h, e)
-dirty_front t (Pending.Unlinked f b) h e = grind (arith, h, e)
+-- a writer that found HOME is alone, with the value
+abbrev pub IsAlone : Tag → Pending → Line → Type 0
+IsAlone t p v = (t.forw ≡ None) × (kept_line p ≡ Some v)
+
+writer : (t : Tag) (p : Pending) (v : Line) → t.kind ≡ Kind.Queued → is_dirty_step p ≡ true → IsAlone t p v → IsDirtyFront t p v
+writer t p v k d a = inr (inr (inr (inr (inr (inr (k, d, a.0, a.1))))))
+
+dirty_front : (t : Tag) (p : Pending) (v : Line) → suits (phase_of p) t.kind ≡ true → (t.kind ≡ Kind.Queued → (phase_of p ≡ Phase.Fetching) ⊎ (phase_of p ≡ Phase.InQueue) → IsAlone t p v) → is_dirty_front t.kind (phase_of p) (flag_of p) ≡ true → IsDirtyFront t p v
+dirty_front t Pending.Idle v h a e = grind (arith, h, e)
+dirty_front t (Pending.Holding w l) v h a e = grind (arith, h, e)
+dirty_front t (Pending.Queueing f) v h a e = grind (arith, h, e)
+dirty_front t (Pending.Fetching f d l) v h a e = let k : t.kind ≡ Kind.Queued = grind (arith, h) in writer t (Pending.Fetching f d l) v k (grind (arith, k, e)) (a k (inl refl))
+dirty_front t (Pending.InQueue f d c) v h a e = let k : t.kind ≡ Kind.Queued = grind (arith, h) in writer t (Pending.InQueue f d c) v k (grind (arith, k, e)) (a k (inr refl))
+dirty_front t (Pending.Copying f w l) v h a e = grind (arith, h, e)
+dirty_front t (Pending.Ready f d l) v h a e = grind (arith, h, e)
+dirty_front t (Pending.Converting f u) v h a e = grind (arith, h, e)
+dirty_front t (Pending.Purging l q) v h a e = grind (arith, h, e)
+dirty_front t (Pending.Advancing l x w) v h a e = grind (arith, h, e)
+dirty_front t (Pending.Clearing l x w) v h a e = grind (arith, h, e)
+dirty_front t (Pending.Leaving d l q) v h a e = grind (arith, h, e)
+dirty_front t (Pending.Promoted d l u) v h a e = grind (arith, h, e)
+dirty_front t (Pending.WritingBack l) v h a e = grind (arith, h, e)
+dirty_front t (Pending.Parted f) v h a e = grind (arith, h, e)
+dirty_front t (Pending.Rolling u q) v h a e = grind (arith, h, e)
+dirty_front t (Pending.Unlinked f b) v h a e = grind (arith, h, e)
+
+entering_alone : (p : Phase) → (p ≡ Phase.Fetching) ⊎ (p ≡ Phase.InQueue) → has_attached p ≡ false
+entering_alone p c = ⊎_elim (λ e. rw e refl) (λ e. rw e refl) c
 
 dirty_waiting : (p : Pending) → flag_of p ≡ true → (phase_of p ≢ Phase.Promoted → phase_of p ≡ Phase.InQueue) → (phase_of p ≡ Phase.InQueue → has_copy p ≡ false) → IsDirtyWaiting p
 dirty_waiting (Pending.InQueue f d None) h q c = (h, refl)
@@ -84,9 +94,15 @@ module _ (s : State) (g : Witness) (o : Law (shape s) g) (nodes : List ℕ) (r :
     promoted = λ i c. promoted i h (r.inside i c);
   }
 
-  gone_list : s.memory.state ≡ MemState.Gone → IsGoneList s nodes
+  last_alone : 0 < g.rank g.last_front → (s.tags g.last_front).kind ≡ Kind.Queued → (phase_of (s.steps g.last_front) ≡ Phase.Fetching) ⊎ (phase_of (s.steps g.last_front) ≡ Phase.InQueue) → IsAlone (s.tags g.last_front) (s.steps g.last_front) g.value
+  last_alone p k c = (alone s g o p k (entering_alone _ c), writer_value s g o p k c)
+
+  last_dirty : s.memory.state ≡ MemState.Gone → 0 < g.rank g.last_front → IsDirtyFront (s.tags g.last_front) (s.steps g.last_front) g.value
+  last_dirty h p = dirty_front (s.tags g.last_front) (s.steps g.last_front) g.value (o.own.suited g.last_front) (last_alone p) (o.mode.gone h)
+
+  gone_list : s.memory.state ≡ MemState.Gone → IsGoneList s nodes g.value
   gone_list h = record {
-    last = λ i l. let e = last_front_is s g o nodes r i l in rw e (dirty_front (s.tags g.last_front) (s.steps g.last_front) (o.own.suited g.last_front) (o.mode.gone h));
+    last = λ i l. let e = last_front_is s g o nodes r i l in rw e (last_dirty h (rw (sym e) (r.inside i l.0)));
     waiting = λ i w. let a = waiting_above s g o nodes r i w in dirty_waiting (s.steps i) (o.mode.gone_flag i h a) (o.mode.gone_queue i h a) (o.mode.gone_copy i h a);
   }
 

@@ -5,8 +5,8 @@ use Rattle.sci_words.specs.declared.memory.MemState.{MemState}
 use Rattle.sci_core.specs.declared.lines.Line.{Line}
 use Rattle.sci_core.specs.declared.pending.Pending.{Pending}
 use Rattle.sci_core.specs.State.{State}
-use Rattle.sci_core.specs.Shape.{Phase, shape, phase_of, line_of, has_copy}
-use Rattle.sci_core.specs.Law.{Law, Witness, suits, has_slot, has_memory_slot, is_valid, is_dirty_front}
+use Rattle.sci_core.specs.Shape.{Phase, shape, phase_of, kept_of, line_of, has_copy}
+use Rattle.sci_core.specs.Law.{Law, Witness, suits, has_attached, has_slot, has_memory_slot, is_valid, is_dirty_front}
 use Rattle.sci_core.specs.Sharers.{IsValidSharer}
 use Rattle.sci_core.specs.Copies.{HasInHand, IsCopy, IsMemoryCopy, kept_line}
 use Rattle.sci_core.specs.Value.{HasOneValue}
@@ -64,8 +64,12 @@ phase_keeps p q e h = rw e h
 phase_has_slot : (p q : Phase) → p ≡ q → has_slot q ≡ true → has_slot p ≡ true
 phase_has_slot p q e h = rw e h
 
-cases_dirty_front : (p : Phase) (k : Kind) (f : Bool) → is_dirty_front k p f ≡ true → (is_valid k ≡ true) ⊎ (k ≡ Kind.Leaving) ⊎ (p ≡ Phase.Copying) ⊎ (p ≡ Phase.Ready)
+cases_dirty_front : (p : Phase) (k : Kind) (f : Bool) → is_dirty_front k p f ≡ true → (is_valid k ≡ true) ⊎ (k ≡ Kind.Leaving) ⊎ (p ≡ Phase.Copying) ⊎ (p ≡ Phase.Ready) ⊎ ((k ≡ Kind.Queued) × ((p ≡ Phase.Fetching) ⊎ (p ≡ Phase.InQueue)))
 cases_dirty_front p k f h = grind (arith, h)
+
+no_link : (f : Option ℕ) → ((j : ℕ) → f ≡ Some j → ⊥) → f ≡ None
+no_link None n = refl
+no_link (Some j) n = absurd (n j refl)
 
 module _ (s : State) (g : Witness) (o : Law (shape s) g) where
   pub kept_value : (i : ℕ) → keeps_line (phase_of (s.steps i)) ≡ true → line_of (s.steps i) ≡ g.value → kept_line (s.steps i) ≡ Some g.value
@@ -92,12 +96,35 @@ module _ (s : State) (g : Witness) (o : Law (shape s) g) where
   leaving_value : (i : ℕ) → phase_of (s.steps i) ≡ Phase.Leaving → kept_line (s.steps i) ≡ Some g.value
   leaving_value i e = kept_value i (phase_keeps _ _ e refl) (o.values.leaving i e)
 
+  -- a last front that is Queued and has attached no entry is alone
+  pub alone : 0 < g.rank g.last_front → (s.tags g.last_front).kind ≡ Kind.Queued → has_attached (phase_of (s.steps g.last_front)) ≡ false → (s.tags g.last_front).forw ≡ None
+  alone p k h = no_link (s.tags g.last_front).forw (λ j e. let c = o.fronts.attached j p k e in grind (arith, c, h))
+
+  pub last_value : (i : ℕ) → (s.tags i).forw ≡ None → phase_of (s.steps i) ≡ Phase.InQueue → kept_line (s.steps i) ≡ Some g.value
+  last_value i f e =
+      let kept : kept_of (s.steps i) ≡ None = sym (o.own.as_kept i (rw e refl)) ∙ f in
+      copy_kept (s.steps i) e (o.mode.last_copy i e kept) ∙ ap (λ (l : Line). Some l) (o.mode.last_value i e kept)
+
+  -- a writer that found HOME keeps the value
+  pub writer_value : 0 < g.rank g.last_front → (s.tags g.last_front).kind ≡ Kind.Queued → (phase_of (s.steps g.last_front) ≡ Phase.Fetching) ⊎ (phase_of (s.steps g.last_front) ≡ Phase.InQueue) → kept_line (s.steps g.last_front) ≡ Some g.value
+  writer_value p k c =
+      let i = g.last_front in
+      ⊎_elim
+      (λ e. kept_value i (phase_keeps _ _ e refl) (o.values.lent_line i (rw e refl)))
+      (λ e. last_value i (alone p k (rw e refl)) e)
+      c
+
+  enters_with_slot : (q : Phase) → (q ≡ Phase.Fetching) ⊎ (q ≡ Phase.InQueue) → has_slot q ≡ true
+  enters_with_slot q c = ⊎_elim (λ e. rw e refl) (λ e. rw e refl) c
+
   keeper_copy : s.memory.state ≡ MemState.Gone → 0 < g.rank g.last_front → IsCopy s g.last_front g.value
   keeper_copy h p =
       let i = g.last_front in
       ⊎_elim (λ v. sharer_copy i (s.slots i) refl v)
       (λ b. ⊎_elim (λ k. let e = o.fronts.leaves p k in own_copy i _ e refl refl (o.values.leaving i e))
-      (λ c. ⊎_elim (λ e. own_copy i _ e refl refl (o.values.copying i e)) (λ e. own_copy i _ e refl refl (o.values.ready i e)) c) b)
+      (λ c. ⊎_elim (λ e. own_copy i _ e refl refl (o.values.copying i e))
+      (λ d. ⊎_elim (λ e. own_copy i _ e refl refl (o.values.ready i e))
+      (λ w. let m = enters_with_slot _ w.1 in inr (o.slots.in_hand i m, (i, inl (refl, m), writer_value p w.0 w.1))) d) c) b)
       (cases_dirty_front (phase_of (s.steps i)) (s.tags i).kind _ (o.mode.gone h))
 
   pub value_of_law : (fits : List ℕ → Type 0) → fits g.value.words → (nodes : List ℕ) → Stands g.rank nodes → HasOneValue fits s nodes g.value

@@ -10,7 +10,8 @@ use crate::rows::Place;
 use crate::stages::Stage;
 use crate::table::found;
 use crate::table::shorthand::{
-    gives, home_or_listed, lent_word, listed, memory, no_outline, queued_word, stays, tag, takes,
+    gives, home, home_or_listed, lent_word, listed, memory, no_outline, queued_word, stays, tag,
+    takes,
 };
 use sci_words::NodeId;
 
@@ -22,6 +23,7 @@ pub fn queueing_allows(nodes: u16, forw: &Option<NodeId>, event: &Event) -> bool
         Event::Requeue(next) => found::is_below(nodes, next),
         Event::PrependValid => true,
         Event::PrependGone => forw.is_some(),
+        Event::HomeWrite => forw.is_none(),
         _ => false,
     }
 }
@@ -53,6 +55,17 @@ pub fn queueing_outline(me: NodeId, forw: &Option<NodeId>, event: &Event) -> Out
                 stays(memory(listed(true, *head), listed(true, me)), after)
             }
             None => no_outline(),
+        },
+        Event::HomeWrite => match forw {
+            Some(_) => no_outline(),
+            None => {
+                let after = Stage::Fetching {
+                    forw: None,
+                    dirty: true,
+                };
+                let to_gone = memory(home(), lent_word(&listed(true, me)));
+                takes(to_gone, Place::Memory, after)
+            }
         },
         _ => no_outline(),
     }

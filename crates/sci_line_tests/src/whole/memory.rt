@@ -18,16 +18,16 @@ const NODES: u16 = 3;
 /// The most nodes that a line may have.
 const MOST: u16 = 64;
 
-const EVENTS: usize = 34;
+const EVENTS: usize = 35;
 
-const STEPS: u32 = 200_000;
+const STEPS: u32 = 600_000;
 
 /// The next number by chance.
 fn next(chance: u32) -> u32 {
     chance.wrapping_mul(1_664_525).wrapping_add(1_013_904_223)
 }
 
-/// The event of this number, of a node that has found this head and this tag. HomeWrite is none of them.
+/// The event of this number, of a node that has found this head and this tag.
 fn event(kind: usize, head: Option<NodeId>, found: Tag) -> Event {
     match kind {
         0 => Event::Look,
@@ -63,7 +63,8 @@ fn event(kind: usize, head: Option<NodeId>, found: Tag) -> Event {
         30 => Event::ReEnter,
         31 => Event::ReturnHomeFresh,
         32 => Event::ReturnHomeDirty,
-        _ => Event::Left,
+        33 => Event::Left,
+        _ => Event::HomeWrite,
     }
 }
 

@@ -64,29 +64,34 @@ module _ (n : ℕ) (fits : List ℕ → Type 0) (me : ℕ) where
   queueing_at_falls : (goal : Goal) (s t : State) (r : Turn) (x : ℕ) (d : Bool) → s.steps me ≡ Pending.Queueing (Some x) → OthersRest me s → Enters goal → s.memory ≡ listed d x → IsHead d (s.tags x) → Takes (on_line n fits me) (turn_in goal me (Pending.Queueing (Some x))) s r t → Falls n goal me s r t
   queueing_at_falls goal s t r x false is rest a mem head h =
       let p : Pending = Pending.Queueing (Some x) in
-      let plan : Takes (on_line n fits me) (move Event.PrependValid) s r t = rw (eq-eqb x x refl) at (subst (λ (m : Mem). Takes (on_line n fits me) (queueing_at (Some x) m) s r t) mem (of_mem n fits me h)) in
+      let plan : Takes (on_line n fits me) (move Event.PrependValid) s r t = rw (eq-eqb x x refl) at (subst (λ (m : Mem). Takes (on_line n fits me) (queueing_at goal (Some x) m) s r t) mem (of_mem n fits me h)) in
       let m = made n fits me p is refl mem (of_exchange n fits me plan) in
-      moves n goal me s s t r p (exchange_with m.taken (row_of me p Event.PrependValid)) is rest m.turn m.next (a, refl, refl, (head, refl)) (unchanged n me s) (omega arith)
+      moves n goal me s s t r p (exchange_with m.taken (row_of me p Event.PrependValid)) is rest m.turn m.next (a, refl, (head, refl)) (unchanged n me s) (omega arith)
   queueing_at_falls goal s t r x true is rest a mem head h =
       let p : Pending = Pending.Queueing (Some x) in
-      let plan : Takes (on_line n fits me) (move Event.PrependGone) s r t = rw (eq-eqb x x refl) at (subst (λ (m : Mem). Takes (on_line n fits me) (queueing_at (Some x) m) s r t) mem (of_mem n fits me h)) in
+      let plan : Takes (on_line n fits me) (move Event.PrependGone) s r t = rw (eq-eqb x x refl) at (subst (λ (m : Mem). Takes (on_line n fits me) (queueing_at goal (Some x) m) s r t) mem (of_mem n fits me h)) in
       let m = made n fits me p is refl mem (of_exchange n fits me plan) in
       moves n goal me s s t r p (exchange_with m.taken (row_of me p Event.PrependGone)) is rest m.turn m.next (a, (head, refl)) (unchanged n me s) (omega arith)
 
   pub queueing_falls : (goal : Goal) (s t : State) (r : Turn) (f : Option ℕ) → s.steps me ≡ Pending.Queueing f → OthersRest me s → AloneIn n goal me s (Pending.Queueing f) → Takes (on_line n fits me) (turn_in goal me (Pending.Queueing f)) s r t → Falls n goal me s r t
-  queueing_falls goal s t r None is rest a h =
+  queueing_falls Goal.Load s t r None is rest a h =
       let p : Pending = Pending.Queueing None in
-      let plan : Takes (on_line n fits me) (move Event.PrependValid) s r t = subst (λ (m : Mem). Takes (on_line n fits me) (queueing_at None m) s r t) a.1 (of_mem n fits me h) in
+      let plan : Takes (on_line n fits me) (move Event.PrependValid) s r t = subst (λ (m : Mem). Takes (on_line n fits me) (queueing_at Goal.Load None m) s r t) a.1 (of_mem n fits me h) in
       let m = made n fits me p is refl a.1 (of_exchange n fits me plan) in
-      moves n goal me s s t r p (exchange_with m.taken (row_of me p Event.PrependValid)) is rest m.turn m.next (a.0, refl, refl, tt) (unchanged n me s) (omega arith)
+      moves n Goal.Load me s s t r p (exchange_with m.taken (row_of me p Event.PrependValid)) is rest m.turn m.next (a.0, refl, tt) (unchanged n me s) (omega arith)
+  queueing_falls (Goal.Write write) s t r None is rest a h =
+      let p : Pending = Pending.Queueing None in
+      let plan : Takes (on_line n fits me) (move Event.HomeWrite) s r t = subst (λ (m : Mem). Takes (on_line n fits me) (queueing_at (Goal.Write write) None m) s r t) a.1 (of_mem n fits me h) in
+      let m = made n fits me p is refl a.1 (of_exchange n fits me plan) in
+      moves n (Goal.Write write) me s s t r p (exchange_with m.taken (row_of me p Event.HomeWrite)) is rest m.turn m.next (a.0, refl, tt) (unchanged n me s) (omega arith)
+  queueing_falls Goal.Evict s t r None is rest a h = absurd a.0
   queueing_falls goal s t r (Some x) is rest a h = queueing_at_falls goal s t r x a.1.0 is rest a.0 a.1.1 a.1.2 h
 
   pub fetching_falls : (goal : Goal) (s t : State) (r : Turn) (f : Option ℕ) (d : Bool) (l : Line) → s.steps me ≡ Pending.Fetching f d l → OthersRest me s → AloneIn n goal me s (Pending.Fetching f d l) → Takes (on_line n fits me) (turn_in goal me (Pending.Fetching f d l)) s r t → Falls n goal me s r t
-  fetching_falls goal s t r f false l is rest a h =
-      let p : Pending = Pending.Fetching f false l in
-      let m = made n fits me p is refl a.2 (of_exchange n fits me h) in
-      moves n goal me s s t r p (exchange_with m.taken (row_of me p Event.ReturnMemory)) is rest m.turn m.next (a.0, may_kept s (stepped s me (exchange_with m.taken (row_of me p Event.ReturnMemory))) refl f false (Some l) a.3) (unchanged n me s) (omega arith)
-  fetching_falls goal s t r f true l is rest a h = absurd (let q : true ≡ false = a.1 in cc)
+  fetching_falls goal s t r f d l is rest a h =
+      let p : Pending = Pending.Fetching f d l in
+      let m = made n fits me p is refl a.1 (of_exchange n fits me h) in
+      moves n goal me s s t r p (exchange_with m.taken (row_of me p Event.ReturnMemory)) is rest m.turn m.next (a.0, may_kept s (stepped s me (exchange_with m.taken (row_of me p Event.ReturnMemory))) refl f d (Some l) a.2) (unchanged n me s) (omega arith)
 
   pub in_queue_falls : (goal : Goal) (s t : State) (r : Turn) (f : Option ℕ) (d : Bool) (c : Option Line) → s.steps me ≡ Pending.InQueue f d c → OthersRest me s → AloneIn n goal me s (Pending.InQueue f d c) → Takes (on_line n fits me) (turn_in goal me (Pending.InQueue f d c)) s r t → Falls n goal me s r t
   in_queue_falls goal s t r None d None is rest a h =

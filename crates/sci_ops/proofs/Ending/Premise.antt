@@ -61,7 +61,7 @@ abbrev pub AloneIn : ℕ → Goal → ℕ → State → Pending → Type 0
 AloneIn n goal me s Pending.Idle = Unit {0}
 AloneIn n goal me s (Pending.Holding w l) = Loads goal
 AloneIn n goal me s (Pending.Queueing f) = Enters goal × FrontIs s f
-AloneIn n goal me s (Pending.Fetching f d l) = Enters goal × (d ≡ false) × (s.memory ≡ lent_word (listed false me)) × MayAttach s f false (Some l)
+AloneIn n goal me s (Pending.Fetching f d l) = Enters goal × (s.memory ≡ lent_word (listed d me)) × MayAttach s f d (Some l)
 AloneIn n goal me s (Pending.InQueue f d c) = Enters goal × MayAttach s f d c
 AloneIn n goal me s (Pending.Copying x w l) = Enters goal × (s.tags x ≡ w) × (is_listed w.kind ≡ true)
 AloneIn n goal me s (Pending.Ready f d l) = Enters goal

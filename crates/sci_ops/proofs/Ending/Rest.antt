@@ -158,8 +158,8 @@ rest_not_purging k h e = grind (arith, h, e)
 rest_told : (k : Kind) → is_at_rest k ≡ true → k ≢ Kind.Purged → (is_front k ≡ true) ⊎ (is_body k ≡ true) → can_be_told k ≡ true
 rest_told k h n f = grind (arith, h, n, f)
 
-fresh_not_gone : (t : Tag) (p : Pending) → t.kind ≡ Kind.Fresh → phase_of p ≡ Phase.Idle → IsDirtyFront t p → ⊥
-fresh_not_gone t p k e d = grind (arith, k, e, d)
+fresh_not_gone : (t : Tag) (p : Pending) (v : Line) → t.kind ≡ Kind.Fresh → phase_of p ≡ Phase.Idle → IsDirtyFront t p v → ⊥
+fresh_not_gone t p v k e d = grind (arith, k, e, d)
 
 dirty_head : (d : Bool) → is_dirty (cond d Kind.Dirty Kind.Fresh) ≡ d
 dirty_head true = refl
@@ -219,7 +219,7 @@ module _ (n : ℕ) (fits : List ℕ → Type 0) (s : State) (v : Line) (h : HasV
       (λ q. absurd (contains_none x (subst (λ (l : List ℕ). Contains l x) (h.lawful.chain.empty.0 q) c)))
       (λ z. ⊎_elim
       (λ q. ⊎_elim (λ k. (false, memory_is s.memory MemState.Fresh (Some x) q lent e, (k, free))) (λ k. absurd ((h.lawful.mode.fresh q).not_dirty x c k)) kind)
-      (λ q. ⊎_elim (λ k. absurd (fresh_not_gone (s.tags x) (s.steps x) k (ap phase_of (idle x)) ((h.lawful.mode.gone q).last x (last_front n fits s v h calm x c (front_word x e))))) (λ k. (true, memory_is s.memory MemState.Gone (Some x) q lent e, (k, free))) kind)
+      (λ q. ⊎_elim (λ k. absurd (fresh_not_gone (s.tags x) (s.steps x) v k (ap phase_of (idle x)) ((h.lawful.mode.gone q).last x (last_front n fits s v h calm x c (front_word x e))))) (λ k. (true, memory_is s.memory MemState.Gone (Some x) q lent e, (k, free))) kind)
       z)
       (state_cases s.memory.state)
 

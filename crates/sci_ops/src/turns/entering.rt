@@ -2,7 +2,7 @@
 ghost use Rattle.std.specs.Prelude.{◌≡◌, is_some};
 ghost use Rattle.sci_port.specs.Owes.{IsSoundStep};
 ghost use Rattle.sci_ops.specs.Plan.{Takes};
-ghost use Rattle.sci_ops.specs.Table.{queueing, in_queue, attach};
+ghost use Rattle.sci_ops.specs.Table.{home_event, queueing, in_queue, attach};
 
 use crate::answers::Turn;
 use crate::found::{may_attach_dirty, may_attach_fresh};
@@ -12,10 +12,20 @@ use sci_core::{Event, Pending};
 use sci_port::Port;
 use sci_words::{MemState, NodeId};
 
+// How it enters where there is no list: a writer dirty, so that memory turns to GONE at once.
+fn home_event(goal: Goal) -> Event
+    ensures { result ≡ home_event goal }
+{
+    match goal {
+        Goal::Write(_) => Event::HomeWrite,
+        Goal::Load | Goal::Evict => Event::PrependValid,
+    }
+}
+
 /// Queueing: it enters the list before the head that it found, or looks for the head again.
-pub fn queueing<P: Port>(port: &mut P, forw: Option<NodeId>) -> Turn
+pub fn queueing<P: Port>(port: &mut P, goal: Goal, forw: Option<NodeId>) -> Turn
     requires step { P.at_step port.old ≡ Pending.Queueing forw }
-    ensures calls { Takes P.gives (queueing forw) port.old result port.new }
+    ensures calls { Takes P.gives (queueing goal forw) port.old result port.new }
     ensures same_way { P.way port.new ≡ P.way port.old }
     ensures same_fact { P.keep port.new ≡ P.keep port.old }
 {
@@ -28,7 +38,8 @@ pub fn queueing<P: Port>(port: &mut P, forw: Option<NodeId>) -> Turn
         go_on(port, Event::Requeue(mem.forw))
     } else {
         match mem.state {
-            MemState::Home | MemState::Fresh => go_on(port, Event::PrependValid),
+            MemState::Home => go_on(port, home_event(goal)),
+            MemState::Fresh => go_on(port, Event::PrependValid),
             MemState::Gone => go_on(port, Event::PrependGone),
         }
     }

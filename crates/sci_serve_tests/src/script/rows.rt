@@ -120,6 +120,19 @@ pub const ROWS: &[Case] = &[
         "node 0 read 0 stamp 0\nnode 0 read 0 stamp 0\nline 0 HOME\nline 1 FRESH 0: 0 ONLY_FRESH\n\
          node 0 residents 1\n",
     ),
+    (
+        "memory 2 1\nstore 0 0 0 7\nturn 0\nturn 0\nlist 0\nload 1 0 0\nturn 1\nturn 1\nturn 0\nturn 1\n\
+         list 0\nturn 0\ndone 1\nlist 0\ndone 0\nlist 0\n",
+        None,
+        "line 0 GONE 0: 0 QUEUED\nnode 1 waits\nline 0 GONE 1: 1 QUEUED, 0 QUEUED\n\
+         node 1 read 0 stamp 0\nline 0 GONE 1: 1 HEAD_DIRTY, 0 TAIL_VALID\nnode 0 wrote stamp 1\n\
+         line 0 GONE 0: 0 ONLY_DIRTY\n",
+    ),
+    (
+        "memory 1 1\nstore 0 0 0 5\nturn 0\nturn 0\nturn 0\nturn 0\nturn 0\nturn 0\n",
+        None,
+        "node 0 wrote stamp 1\n",
+    ),
 ];
 
 #[test]

@@ -116,8 +116,8 @@ pub(crate) const EXITS: [Run; 4] = [
     ),
 ];
 
-/// Readers that come while a node leaves or writes.
-pub(crate) const LATE_COMERS: [Run; 3] = [
+/// Readers that come while a node leaves, writes, or has found HOME to write.
+pub(crate) const LATE_COMERS: [Run; 4] = [
     (
         2,
         1,
@@ -163,6 +163,21 @@ pub(crate) const LATE_COMERS: [Run; 3] = [
             (1, Load),
             (1, Turns(2)),
             (0, Turns(2)),
+            (1, Done),
+            (0, Done),
+        ],
+    ),
+    (
+        2,
+        0,
+        &[
+            (0, Store(7)),
+            (0, Turns(2)),
+            (1, Load),
+            (1, Turns(2)),
+            (0, Turns(1)),
+            (1, Turns(1)),
+            (0, Turns(1)),
             (1, Done),
             (0, Done),
         ],
@@ -248,17 +263,19 @@ pub(crate) fn at_once(alloc: Global) -> Result<Recorded, Fail> {
     })
 }
 
-/// The head loses the line to a reader while it converts: an exchange misses.
+/// Two exchanges miss: a node that means to write finds no HOME any more, and the head loses the line to it while it converts.
 pub(crate) fn missing(alloc: Global) -> Result<Recorded, Fail> {
     let zero = NodeId::new(0).ok_or("no node")?;
     let one = NodeId::new(1).ok_or("no node")?;
     let events = vec![in alloc;
         (zero, Event::Queue(None)),
+        (one, Event::Queue(None)),
         (zero, Event::PrependValid),
+        (one, Event::HomeWrite),
         (zero, Event::ReturnMemory),
         (zero, Event::Settle),
         (zero, Event::Convert(ONLY_FRESH)),
-        (one, Event::Queue(Some(zero))),
+        (one, Event::Requeue(Some(zero))),
         (one, Event::PrependValid),
         (zero, Event::FreshToGone),
         (zero, Event::Unconverted),

@@ -59,6 +59,7 @@ const EVENTS = {
   ReturnHomeFresh: memory(() => ({ state: "HOME", forw: null })),
   ReturnHomeDirty: memory(() => ({ state: "HOME", lent: true, forw: null })),
   Left: own(INVALID),
+  HomeWrite: memory(me => ({ state: "GONE", lent: true, forw: me })),
 };
 
 function put(line, node, change) {

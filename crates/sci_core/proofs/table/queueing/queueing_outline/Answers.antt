@@ -6,3 +6,6 @@ returns-in-Some c = search rules
 
 pub returns-in-PrependValid : goal.returns-in-PrependValid
 returns-in-PrependValid c = search rules
+
+pub returns-in-None-forw : goal.returns-in-None-forw
+returns-in-None-forw c = search rules
