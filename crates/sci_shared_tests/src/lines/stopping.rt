@@ -95,8 +95,9 @@ fn call_on<L: SharedLine>(line: &L, caller: &mut Caller<L::Seat>, number: u16, c
     ensures { L.is_seat line.now caller.new.seat }
 {
     let ends = match call {
-        Call::Load([one, two]) => {
+        Call::Load(loads) => {
             caller.begin(Op::load());
+            let [one, two] = loads;
             if number == 1 { one } else { two }
         }
         Call::Add(ends) => {
