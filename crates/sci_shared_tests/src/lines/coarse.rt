@@ -1,11 +1,13 @@
 //! A line under its lock word, as the tests of both lines use it.
-ghost use Rattle.std.specs.Prelude.{◌≡◌, All};
+ghost use Rattle.std.specs.Prelude.{◌≡◌, All, MatchOption};
 ghost use Rattle.sci_core.specs.declared.pending.Pending.TheVariants.{Idle};
+ghost use Rattle.sci_coarse.specs.Laws.{IsLogged};
 ghost use Rattle.sci_coarse.specs.Seats.{IsSeatOf};
+ghost use Rattle.sci_port.specs.declared.calls.Call.TheVariants.{Stepped};
 
 use super::SharedLine;
 use crossbeam_utils::Backoff;
-use sci_coarse::{CoarseLine, CoarsePort, Seat};
+use sci_coarse::{CoarseLine, CoarsePort, Seat, law_of_one_run};
 use sci_core::{AnyWords, Closed, Event, Line, OpenRefusal, Outcome, Pending};
 use sci_ops::{Answer, Op, Turn};
 use sci_port::Port;
@@ -13,12 +15,14 @@ use sci_words::{LineNo, Mem, NodeId, Tag};
 use std::alloc::Global;
 use std::sync::Wait;
 
-// An event through a port, if it is in turn.
+// An event through a port, if it is in turn: the seat's log then has this very call behind it, and nothing else.
 fn step(port: &mut CoarsePort<'_, AnyWords>, event: Event) -> Option<Outcome>
     ensures same_line { port.new.line ≡ port.old.line }
     ensures same_reference { port.new.seat.ghost_name ≡ port.old.seat.ghost_name }
+    ensures logged { MatchOption result (port.new.seat.now ≡ port.old.seat.now) (λ outcome. IsLogged port.old.seat.now.token.me.0 (Stepped event outcome) port.new.seat.now.token.me.0) }
 {
     if port.pending().allows(port.node(), port.nodes(), &event) {
+        law_of_one_run::<AnyWords>();
         Some(port.step(event))
     } else {
         None
