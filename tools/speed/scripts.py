@@ -53,6 +53,8 @@ class SharingList:
         if node in self.sharers[1:]:
             turns += self.roll_out(node)
         if node not in self.sharers:
+            # Where there is no list it enters dirty.
+            self.dirty = self.dirty or not self.sharers
             turns += self.enter(node)
         turns += 1 if self.dirty else 3
         turns += 3 * (len(self.sharers) - 1) + 1

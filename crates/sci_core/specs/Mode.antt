@@ -36,7 +36,7 @@ pub record IsFreshList (s : State) (nodes : List ℕ) (v : Line) : Type 0 where
   pub queued : (i : ℕ) → Contains nodes i → (s.tags i).kind ≡ Kind.Queued → kept_line (s.steps i) ≡ Some v
   pub promoted : (i : ℕ) → Contains nodes i → phase_of (s.steps i) ≡ Phase.Promoted → kept_line (s.steps i) ≡ Some v
 
--- alone in the list, on its way to write: it has memory's bytes, which are the value, and is dirty
+-- on its way to write, with nobody behind it: it has memory's bytes, which are the value, and is dirty. Others may be in front of it
 abbrev pub IsHomeWriter : Tag → Pending → Line → Type 0
 IsHomeWriter t p v = (t.kind ≡ Kind.Queued) × (is_dirty_step p ≡ true) × (t.forw ≡ None) × (kept_line p ≡ Some v)
 
