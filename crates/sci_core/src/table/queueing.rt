@@ -1,5 +1,6 @@
 //! The rows of a node that prepends itself and copies memory's bytes.
-ghost use Rattle.std.specs.Prelude.{◌≡◌};
+ghost use Rattle.std.specs.Prelude.{◌≡◌, None};
+ghost use Rattle.sci_core.specs.declared.events.Event.TheVariants.{HomeWrite};
 ghost use Rattle.sci_core.specs.declared.lines.Line as a_line;
 ghost use Rattle.sci_core.specs.Stage.{outline_of};
 ghost use Rattle.sci_core.specs.Table.Queueing.{queueing_allows, queueing_row, fetching_allows, fetching_row};
@@ -26,6 +27,19 @@ pub fn queueing_allows(nodes: u16, forw: &Option<NodeId>, event: &Event) -> bool
         Event::HomeWrite => forw.is_none(),
         _ => false,
     }
+}
+
+// It finds no list: memory's word turns to GONE with this node as the head, and memory's bytes are lent to it.
+#[inline(always)]
+fn home_write(me: NodeId) -> Outline
+    ensures { result ≡ outline_of (queueing_row me HomeWrite None) }
+{
+    let after = Stage::Fetching {
+        forw: None,
+        dirty: true,
+    };
+    let to_gone = memory(home(), lent_word(&listed(true, me)));
+    takes(to_gone, Place::Memory, after)
 }
 
 #[inline(always)]
@@ -58,14 +72,7 @@ pub fn queueing_outline(me: NodeId, forw: &Option<NodeId>, event: &Event) -> Out
         },
         Event::HomeWrite => match forw {
             Some(_) => no_outline(),
-            None => {
-                let after = Stage::Fetching {
-                    forw: None,
-                    dirty: true,
-                };
-                let to_gone = memory(home(), lent_word(&listed(true, me)));
-                takes(to_gone, Place::Memory, after)
-            }
+            None => home_write(me),
         },
         _ => no_outline(),
     }
