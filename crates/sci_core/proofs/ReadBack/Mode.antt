@@ -12,7 +12,7 @@ use Rattle.sci_core.specs.Copies.{kept_line}
 use Rattle.sci_core.specs.Mode.{is_dirty_step, is_turned, IsFreshList, IsDirtyFront, IsDirtyWaiting, IsGoneList, FitsMemoryWord}
 use Rattle.sci_core.proofs.ReadBack.Ranked.{Stands}
 use Rattle.sci_core.proofs.ReadBack.LastFront.{last_front_is, waiting_above}
-use Rattle.sci_core.proofs.ReadBack.Value.{kept_value, copy_kept, alone, writer_value}
+use Rattle.sci_core.proofs.ReadBack.Value.{kept_value, copy_kept, nobody_behind, writer_value}
 
 clean_step : (p : Pending) → (has_dirty (phase_of p) ≡ true → flag_of p ≡ false) → is_dirty_step p ≡ false
 clean_step (Pending.Fetching f d l) h = h refl
@@ -26,14 +26,14 @@ not_turned : (p : Pending) → (has_dirty (phase_of p) ≡ true → flag_of p �
 not_turned (Pending.Converting f t) h = h refl
 not_turned _ h = refl
 
--- a writer that found HOME is alone, with the value
-abbrev pub IsAlone : Tag → Pending → Line → Type 0
-IsAlone t p v = (t.forw ≡ None) × (kept_line p ≡ Some v)
+-- a writer that found HOME has nobody behind it, and keeps the value
+abbrev pub HasNobodyBehind : Tag → Pending → Line → Type 0
+HasNobodyBehind t p v = (t.forw ≡ None) × (kept_line p ≡ Some v)
 
-writer : (t : Tag) (p : Pending) (v : Line) → t.kind ≡ Kind.Queued → is_dirty_step p ≡ true → IsAlone t p v → IsDirtyFront t p v
+writer : (t : Tag) (p : Pending) (v : Line) → t.kind ≡ Kind.Queued → is_dirty_step p ≡ true → HasNobodyBehind t p v → IsDirtyFront t p v
 writer t p v k d a = inr (inr (inr (inr (inr (inr (k, d, a.0, a.1))))))
 
-dirty_front : (t : Tag) (p : Pending) (v : Line) → suits (phase_of p) t.kind ≡ true → (t.kind ≡ Kind.Queued → (phase_of p ≡ Phase.Fetching) ⊎ (phase_of p ≡ Phase.InQueue) → IsAlone t p v) → is_dirty_front t.kind (phase_of p) (flag_of p) ≡ true → IsDirtyFront t p v
+dirty_front : (t : Tag) (p : Pending) (v : Line) → suits (phase_of p) t.kind ≡ true → (t.kind ≡ Kind.Queued → (phase_of p ≡ Phase.Fetching) ⊎ (phase_of p ≡ Phase.InQueue) → HasNobodyBehind t p v) → is_dirty_front t.kind (phase_of p) (flag_of p) ≡ true → IsDirtyFront t p v
 dirty_front t Pending.Idle v h a e = grind (arith, h, e)
 dirty_front t (Pending.Holding w l) v h a e = grind (arith, h, e)
 dirty_front t (Pending.Queueing f) v h a e = grind (arith, h, e)
@@ -52,8 +52,8 @@ dirty_front t (Pending.Parted f) v h a e = grind (arith, h, e)
 dirty_front t (Pending.Rolling u q) v h a e = grind (arith, h, e)
 dirty_front t (Pending.Unlinked f b) v h a e = grind (arith, h, e)
 
-entering_alone : (p : Phase) → (p ≡ Phase.Fetching) ⊎ (p ≡ Phase.InQueue) → has_attached p ≡ false
-entering_alone p c = ⊎_elim (λ e. rw e refl) (λ e. rw e refl) c
+entering_without_link : (p : Phase) → (p ≡ Phase.Fetching) ⊎ (p ≡ Phase.InQueue) → has_attached p ≡ false
+entering_without_link p c = ⊎_elim (λ e. rw e refl) (λ e. rw e refl) c
 
 dirty_waiting : (p : Pending) → flag_of p ≡ true → (phase_of p ≢ Phase.Promoted → phase_of p ≡ Phase.InQueue) → (phase_of p ≡ Phase.InQueue → has_copy p ≡ false) → IsDirtyWaiting p
 dirty_waiting (Pending.InQueue f d None) h q c = (h, refl)
@@ -94,11 +94,11 @@ module _ (s : State) (g : Witness) (o : Law (shape s) g) (nodes : List ℕ) (r :
     promoted = λ i c. promoted i h (r.inside i c);
   }
 
-  last_alone : 0 < g.rank g.last_front → (s.tags g.last_front).kind ≡ Kind.Queued → (phase_of (s.steps g.last_front) ≡ Phase.Fetching) ⊎ (phase_of (s.steps g.last_front) ≡ Phase.InQueue) → IsAlone (s.tags g.last_front) (s.steps g.last_front) g.value
-  last_alone p k c = (alone s g o p k (entering_alone _ c), writer_value s g o p k c)
+  last_with_nobody_behind : 0 < g.rank g.last_front → (s.tags g.last_front).kind ≡ Kind.Queued → (phase_of (s.steps g.last_front) ≡ Phase.Fetching) ⊎ (phase_of (s.steps g.last_front) ≡ Phase.InQueue) → HasNobodyBehind (s.tags g.last_front) (s.steps g.last_front) g.value
+  last_with_nobody_behind p k c = (nobody_behind s g o p k (entering_without_link _ c), writer_value s g o p k c)
 
   last_dirty : s.memory.state ≡ MemState.Gone → 0 < g.rank g.last_front → IsDirtyFront (s.tags g.last_front) (s.steps g.last_front) g.value
-  last_dirty h p = dirty_front (s.tags g.last_front) (s.steps g.last_front) g.value (o.own.suited g.last_front) (last_alone p) (o.mode.gone h)
+  last_dirty h p = dirty_front (s.tags g.last_front) (s.steps g.last_front) g.value (o.own.suited g.last_front) (last_with_nobody_behind p) (o.mode.gone h)
 
   gone_list : s.memory.state ≡ MemState.Gone → IsGoneList s nodes g.value
   gone_list h = record {

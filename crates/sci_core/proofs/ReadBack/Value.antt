@@ -96,9 +96,9 @@ module _ (s : State) (g : Witness) (o : Law (shape s) g) where
   leaving_value : (i : ℕ) → phase_of (s.steps i) ≡ Phase.Leaving → kept_line (s.steps i) ≡ Some g.value
   leaving_value i e = kept_value i (phase_keeps _ _ e refl) (o.values.leaving i e)
 
-  -- a last front that is Queued and has attached no entry is alone
-  pub alone : 0 < g.rank g.last_front → (s.tags g.last_front).kind ≡ Kind.Queued → has_attached (phase_of (s.steps g.last_front)) ≡ false → (s.tags g.last_front).forw ≡ None
-  alone p k h = no_link (s.tags g.last_front).forw (λ j e. let c = o.fronts.attached j p k e in grind (arith, c, h))
+  -- a last front that is Queued and has attached no entry has nobody behind it
+  pub nobody_behind : 0 < g.rank g.last_front → (s.tags g.last_front).kind ≡ Kind.Queued → has_attached (phase_of (s.steps g.last_front)) ≡ false → (s.tags g.last_front).forw ≡ None
+  nobody_behind p k h = no_link (s.tags g.last_front).forw (λ j e. let c = o.fronts.attached j p k e in grind (arith, c, h))
 
   pub last_value : (i : ℕ) → (s.tags i).forw ≡ None → phase_of (s.steps i) ≡ Phase.InQueue → kept_line (s.steps i) ≡ Some g.value
   last_value i f e =
@@ -111,7 +111,7 @@ module _ (s : State) (g : Witness) (o : Law (shape s) g) where
       let i = g.last_front in
       ⊎_elim
       (λ e. kept_value i (phase_keeps _ _ e refl) (o.values.lent_line i (rw e refl)))
-      (λ e. last_value i (alone p k (rw e refl)) e)
+      (λ e. last_value i (nobody_behind p k (rw e refl)) e)
       c
 
   enters_with_slot : (q : Phase) → (q ≡ Phase.Fetching) ⊎ (q ≡ Phase.InQueue) → has_slot q ≡ true
