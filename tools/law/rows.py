@@ -191,20 +191,15 @@ def enter_rows():
         [('forw', LINK), ('old', LINK)],
         ('Queueing', 'old'), ('Queueing', 'forw'), before=own('Kind.Queued', 'old'), words=own('Kind.Queued', 'forw'),
         bounds=[FORW_BELOW], facts=[OUTSIDE])
-    row('prepend_valid_home', 'PrependValid',
-        'The home is HOME: the node is the only entry, with memory\'s slot in hand.',
-        [('line', LINE)],
-        ('Queueing', 'None'), ('Fetching', 'None', 'false', 'line'), memory_before=memory('MemState.Home', 'None'),
-        needs=[MEMORY_SLOT], memory=lent('MemState.Fresh', '(Some me)'), slots={'memory': 'None'},
-        witness={'rank': 'update g.rank me 1', 'last_front': 'me', 'borrower': 'me'}, facts=[link('None'), OUTSIDE],
-        special={'order': 'push_first me me_forw (rw memory_forw at o.order)'})
-    row('home_write', 'HomeWrite',
-        'The home is HOME: the node is the only entry, dirty, with memory\'s slot in hand.',
-        [('line', LINE)],
-        ('Queueing', 'None'), ('Fetching', 'None', 'true', 'line'), memory_before=memory('MemState.Home', 'None'),
-        needs=[MEMORY_SLOT], memory=lent('MemState.Gone', '(Some me)'), slots={'memory': 'None'},
-        witness={'rank': 'update g.rank me 1', 'last_front': 'me', 'borrower': 'me'}, facts=[link('None'), OUTSIDE],
-        special={'order': 'push_first me me_forw (rw memory_forw at o.order)'})
+    # a reader and a writer that find no list
+    for name, event, entry, dirty, state in (('prepend_valid_home', 'PrependValid', 'the only entry', 'false', 'Fresh'),
+                                             ('home_write', 'HomeWrite', 'the only entry, dirty', 'true', 'Gone')):
+        row(name, event, f'The home is HOME: the node is {entry}, with memory\'s slot in hand.',
+            [('line', LINE)],
+            ('Queueing', 'None'), ('Fetching', 'None', dirty, 'line'), memory_before=memory('MemState.Home', 'None'),
+            needs=[MEMORY_SLOT], memory=lent(f'MemState.{state}', '(Some me)'), slots={'memory': 'None'},
+            witness={'rank': 'update g.rank me 1', 'last_front': 'me', 'borrower': 'me'}, facts=[link('None'), OUTSIDE],
+            special={'order': 'push_first me me_forw (rw memory_forw at o.order)'})
     row('prepend_valid_listed', 'PrependValid',
         'The home is FRESH: the node is the head before the old one, with memory\'s slot in hand.',
         [('target', NODE), ('line', LINE)], ('Queueing', '(Some target)'), ('Fetching', '(Some target)', 'false', 'line'),
