@@ -1,6 +1,7 @@
 //! How a line is made, with its seats.
 ghost use Rattle.std.specs.Prelude.{◌≡◌, ◌<◌, ◌≤◌, ◌⊎◌, ◌↔◌, ℕ, Some, false, [], IfOk, vec_len, vec_capacity};
 ghost use Rattle.sci_core.specs.declared.pending.Pending.TheVariants.{Idle};
+ghost use Rattle.sci_core.specs.declared.whole.TheConstants.{MOST_NODES};
 ghost use Rattle.sci_coarse.specs.Rule.{IsLawfulWhole, opened_on};
 ghost use Rattle.sci_coarse.specs.Seats.{AreIdleFrom, AreNew, HasTerms};
 ghost use Rattle.sci_coarse.specs.Views.{first_view};
@@ -10,7 +11,7 @@ use crate::seats::{Seat, Token};
 use crate::standing::Standing;
 use crate::views::{Apart, Terms};
 use atomic_table::Table;
-use sci_core::{Keeps, Line, OpenRefusal, Whole};
+use sci_core::{Keeps, Line, MOST_NODES, OpenRefusal, Whole};
 use sci_words::{LineNo, NodeId};
 use std::alloc::{AllocError, Global};
 
@@ -33,7 +34,7 @@ fn idle_seat<K: Keeps>(token: Token<K>, node: NodeId, terms: Terms<K>) -> Seat<K
 
 // One of the first numbers is a node's.
 fn node_of(number: u16) -> NodeId
-    requires { number < 64 }
+    requires { number < MOST_NODES }
     ensures { result ≡ number }
 {
     match NodeId::new(number) {
@@ -44,7 +45,7 @@ fn node_of(number: u16) -> NodeId
 
 impl<K: Keeps> CoarseLine<K> {
     /// A line that nobody has used, HOME, with `line` in every slot, and its seats, node i's at place i. The refusals: 6 for
-    /// 0 or more than 64 nodes, then 7 where memory ran out.
+    /// 0 or more than 1,024 nodes, then 7 where memory ran out.
     pub fn new(
         alloc: Global,
         nodes: u16,
@@ -53,12 +54,12 @@ impl<K: Keeps> CoarseLine<K> {
         keep: K,
     ) -> Result<(CoarseLine<K>, Vec<Seat<K>>), OpenRefusal>
         requires { K.fits keep number line.words }
-        ensures nodes { (result ≡ Err OpenRefusal.BadNodes) ↔ ((nodes ≡ 0) ⊎ (64 < nodes)) }
+        ensures nodes { (result ≡ Err OpenRefusal.BadNodes) ↔ ((nodes ≡ 0) ⊎ (MOST_NODES < nodes)) }
         ensures terms { IfOk result (λ r. HasTerms r.0 nodes number line keep) }
         ensures seats { IfOk result (λ r. (vec_len r.1 ≡ nodes) × AreIdleFrom r.0 0 r.1.items) }
         ensures new { IfOk result (λ r. AreNew r.1.items) }
     {
-        if nodes == 0 || nodes > 64 {
+        if nodes == 0 || nodes > MOST_NODES {
             return Err(OpenRefusal::BadNodes);
         }
         let terms = Terms {
@@ -78,7 +79,7 @@ impl<K: Keeps> CoarseLine<K> {
     // A line that nobody has used, and the token of its first seat.
     fn open(alloc: Global, terms: Terms<K>) -> Result<(CoarseLine<K>, Token<K>), AllocError>
         requires fits { K.fits terms.keep terms.number terms.opening.words }
-        requires nodes { (0 < terms.nodes) × (terms.nodes ≤ 64) }
+        requires nodes { (0 < terms.nodes) × (terms.nodes ≤ MOST_NODES) }
         ensures { IfOk result (λ r. (r.0.terms ≡ terms) × (r.1.table_id ≡ r.0.table.shared.table_id) × (r.1.me ≡ (first_view terms, []))) }
     {
         let whole = CoarseLine::whole_of(alloc, terms)?;
@@ -93,7 +94,7 @@ impl<K: Keeps> CoarseLine<K> {
     // The whole line, as nobody has used it.
     fn whole_of(alloc: Global, terms: Terms<K>) -> Result<Whole<K>, AllocError>
         requires fits { K.fits terms.keep terms.number terms.opening.words }
-        requires nodes { (0 < terms.nodes) × (terms.nodes ≤ 64) }
+        requires nodes { (0 < terms.nodes) × (terms.nodes ≤ MOST_NODES) }
         ensures { IfOk result (λ whole. (whole ≡ opened_on terms) × IsLawfulWhole K.fits whole) }
     {
         let Ok(whole) = Whole::open(alloc, terms.nodes, terms.number, terms.opening, terms.keep)

@@ -13,6 +13,7 @@ use Rattle.sci_core.specs.declared.rows.Carry.{Carry}
 use Rattle.sci_core.specs.declared.rows.Exchange.{Exchange}
 use Rattle.sci_core.specs.declared.outlines.Motion.{Motion}
 use Rattle.sci_core.specs.declared.outlines.Outline.{Outline}
+use Rattle.sci_core.specs.declared.whole.TheConstants.{MOST_NODES}
 use Rattle.sci_core.specs.State.{State, update, invalid, blank, opened}
 use Rattle.sci_core.specs.Answers.{row_at, FitsEvent, Makes}
 use Rattle.sci_core.specs.Carrying.{hand_of, GivesLast, hand_after}
@@ -133,7 +134,7 @@ module _ {K : Type 0} (fits : List ℕ → Type 0) (keep : K) (number : ℕ) (me
         λ k. record { memory = em k; tags = et k; steps = step_laid stages lines; memory_slot = memory_slot_of (em k) bytes; slots = λ j. slot_of (et k j) (get_or stages j Stage.Idle) (get_or lines j blank) } in
         state_seen tags stages lines es el keep number memory bytes ∙ sym (shown_state t ruled.witness ruled.law (λ j. get_or stages j Stage.Idle) (λ j. get_or lines j blank) bytes shows ∙ words)
 
-    pub laid_as : 0 < length tags → length tags ≤ 64 → IsLaid fits keep number memory tags stages bytes lines
+    pub laid_as : 0 < length tags → length tags ≤ MOST_NODES → IsLaid fits keep number memory tags stages bytes lines
     laid_as some few = record {
       of_stages = es;
       of_lines = el;
@@ -334,7 +335,7 @@ module _ {K : Type 0} (fits : List ℕ → Type 0) (keep : K) (number n : ℕ) (
         slots = slots k;
       }
 
-  pub opened_laid : 0 < n → n ≤ 64 → fits line.words → IsLaid fits keep number (opened n line).memory (replicate n invalid) (replicate n Stage.Idle) line (replicate n line)
+  pub opened_laid : 0 < n → n ≤ MOST_NODES → fits line.words → IsLaid fits keep number (opened n line).memory (replicate n invalid) (replicate n Stage.Idle) line (replicate n line)
   opened_laid some few h =
       let e : length (replicate n invalid) ≡ n = length-replicate n invalid in
       laid_as fits keep number (opened n line).memory (replicate n invalid) (replicate n Stage.Idle) line (replicate n line) (omega (arith, e, length-replicate n Stage.Idle)) (omega (arith, e, length-replicate n line))

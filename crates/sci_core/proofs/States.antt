@@ -6,6 +6,7 @@ use mathlib.Core.Path.{fun_ext}
 use Rattle.sci_words.specs.declared.tags.Tag.{Tag}
 use Rattle.sci_core.specs.declared.lines.Line.{Line}
 use Rattle.sci_core.specs.declared.pending.Pending.{Pending}
+use Rattle.sci_core.specs.declared.whole.TheConstants.{MOST_NODES}
 use Rattle.sci_core.specs.State.{State, opened, update, invalid, blank}
 use Rattle.sci_core.specs.Whole.{state_of, opened_whole, IsSound, IsRuled}
 use Rattle.sci_core.proofs.Opening.{opened_witness, opened_is_lawful, opened_links}
@@ -58,7 +59,7 @@ opened_is_ruled n fits line h = record {
 }
 
 -- and it is sound
-pub opened_is_sound : {K : Type 0} (fits : List ℕ → Type 0) (keep : K) (number n : ℕ) (line : Line) → 0 < n → n ≤ 64 → fits line.words → IsSound fits (opened_whole keep number n line)
+pub opened_is_sound : {K : Type 0} (fits : List ℕ → Type 0) (keep : K) (number n : ℕ) (line : Line) → 0 < n → n ≤ MOST_NODES → fits line.words → IsSound fits (opened_whole keep number n line)
 opened_is_sound fits keep number n line some few h =
     let e : length (replicate n invalid) ≡ n = length-replicate n invalid in
     record {

@@ -6,6 +6,7 @@ use Rattle.sci_core.specs.declared.lines.Line.{Line}
 use Rattle.sci_core.specs.declared.pending.Pending.{Pending}
 use Rattle.sci_core.specs.declared.rows.Change.{Change}
 use Rattle.sci_words.specs.declared.memory.MemState.{MemState}
+use Rattle.sci_core.specs.declared.whole.TheConstants.{MOST_NODES}
 use Rattle.sci_core.specs.State.{State, invalid, blank, memory_word}
 use Rattle.sci_core.specs.Shape.{shape}
 use Rattle.sci_core.specs.Law.{Witness, Law, Below}
@@ -44,7 +45,7 @@ pub record IsRuled (n : ℕ) (fits : List ℕ → Type 0) (s : State) : Type 0 w
 -- what is true of each `Whole`
 pub record IsSound {K : Type 0} (fits : List ℕ → Type 0) (w : WholeLine K) : Type 0 where
   pub some : 0 < length w.tags
-  pub few : length w.tags ≤ 64
+  pub few : length w.tags ≤ MOST_NODES
   pub steps : length w.steps ≡ length w.tags
   pub slots : length w.slots ≡ length w.tags
   pub ruled : IsRuled (length w.tags) fits (state_of w)

@@ -27,4 +27,4 @@ pub use outlines::{Motion, Outline};
 pub use pending::Pending;
 pub use rows::{Carry, Change, Exchange, Place};
 pub use stages::Stage;
-pub use whole::Whole;
+pub use whole::{MOST_NODES, Whole};

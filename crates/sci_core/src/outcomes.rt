@@ -33,8 +33,8 @@ impl NotInTurn {
 /// Why a line was not opened.
 #[derive(Clone, Copy, Debug, PartialEq, Eq, thiserror::Error)]
 pub enum OpenRefusal {
-    /// 6: there are to be 1 to 64 nodes.
-    #[error("6: a line has 1 to 64 nodes")]
+    /// 6: there are to be 1 to 1,024 nodes.
+    #[error("6: a line has 1 to 1,024 nodes")]
     BadNodes,
     /// 7: memory ran out.
     #[error("7: out of memory")]

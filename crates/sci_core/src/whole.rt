@@ -4,6 +4,7 @@ ghost use Rattle.sci_words.specs.Tag.{tag_well_formed, tag_links_below};
 ghost use Rattle.sci_words.specs.Mem.{mem_well_formed, mem_links_below};
 ghost use Rattle.sci_core.specs.Run.{HasValue, IsLawfulLine};
 ghost use Rattle.sci_core.specs.Stage.{stage_of};
+ghost use Rattle.sci_core.specs.declared.whole.TheConstants.{MOST_NODES};
 ghost use Rattle.sci_core.specs.Whole.{nodes_of, state_of, opened_whole};
 
 use crate::keeps::Keeps;
@@ -15,7 +16,7 @@ use sci_words::{Kind, LineNo, Mem, MemState, NodeId, Tag};
 use std::alloc::Global;
 use std::marker::Model;
 
-/// The state of one line of 1 to 64 nodes: the memory word, each node's tag and pending step, and all slots. Between any
+/// The state of one line of 1 to 1,024 nodes: the memory word, each node's tag and pending step, and all slots. Between any
 /// two of its calls it is lawful.
 #[derive(Drop)]
 pub struct Whole<K: Keeps> {
@@ -40,17 +41,19 @@ impl<K: Keeps> Model for Whole<K> {
     ghost invariant = { λ w. IsLaid (K.fits w.keep w.number) w.keep w.number w.memory w.tags.items w.stages.items w.memory_bytes w.lines.items };
 }
 
-// A line has 1 to 64 nodes.
+/// A line has 1 to so many nodes.
+pub const MOST_NODES: u16 = 1024;
+
 fn is_node_count(nodes: u16) -> bool
-    ensures good { result ≡ true → (0 < nodes) × (nodes ≤ 64) }
-    ensures bad { result ≡ false → (nodes ≡ 0) ⊎ (64 < nodes) }
+    ensures good { result ≡ true → (0 < nodes) × (nodes ≤ MOST_NODES) }
+    ensures bad { result ≡ false → (nodes ≡ 0) ⊎ (MOST_NODES < nodes) }
 {
-    nodes != 0 && nodes <= 64
+    nodes != 0 && nodes <= MOST_NODES
 }
 
 impl<K: Keeps> Whole<K> {
     /// A line that nobody has used: HOME, all tags Invalid, and `line` in every slot. The refusals: 6 for 0 or more than
-    /// 64 nodes, then 7 where memory ran out. The line is lawful, and its value is `line`.
+    /// 1,024 nodes, then 7 where memory ran out. The line is lawful, and its value is `line`.
     pub fn open(
         alloc: Global,
         nodes: u16,
@@ -59,7 +62,7 @@ impl<K: Keeps> Whole<K> {
         keep: K,
     ) -> Result<Whole<K>, OpenRefusal>
         requires { K.fits keep number line.words }
-        ensures nodes { (result ≡ Err OpenRefusal.BadNodes) ↔ ((nodes ≡ 0) ⊎ (64 < nodes)) }
+        ensures nodes { (result ≡ Err OpenRefusal.BadNodes) ↔ ((nodes ≡ 0) ⊎ (MOST_NODES < nodes)) }
         ensures opened { IfOk result (λ w. w ≡ opened_whole keep number nodes line) }
         ensures value { IfOk result (λ w. HasValue nodes (K.fits keep number) (state_of w) line) }
     {
@@ -91,10 +94,10 @@ impl<K: Keeps> Whole<K> {
         })
     }
 
-    /// How many nodes there are, 1 to 64. What stands is lawful, here and between any two calls.
+    /// How many nodes there are, 1 to 1,024. What stands is lawful, here and between any two calls.
     pub fn nodes(&self) -> u16
         ensures nodes { result ≡ nodes_of self.now }
-        ensures range { (0 < result) × (result ≤ 64) }
+        ensures range { (0 < result) × (result ≤ MOST_NODES) }
         ensures lawful { IsLawfulLine (nodes_of self.now) (K.fits self.now.keep self.now.number) (state_of self.now) }
     {
         self.tags.len() as u16

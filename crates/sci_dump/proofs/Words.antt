@@ -1,13 +1,15 @@
 -- The word that is read has the code that was read, and the code of a word is read as that word.
-use Rattle.std.proofs.Common.{◌≡◌, ℕ, ◌+◌, ◌*◌, ◌/◌, ◌%◌, ◌^◌, ◌<◌, ◌≤◌, Bool, true, false, not, ◌==◌, Option, Some, None, refl, sym, ap, ◌∙◌, subst, arith, inl, inr, ltb-false, eqb-true}
+use Rattle.std.proofs.Common.{◌≡◌, ℕ, ◌+◌, ◌*◌, ◌/◌, ◌%◌, ◌^◌, ◌-◌, ◌<◌, ◌≤◌, Bool, true, false, not, ◌==◌, Option, Some, None, refl, sym, ap, ◌∙◌, subst, arith, inl, inr, ltb-false, eqb-true}
 use Rattle.std.proofs.lemmas.Bool.{and_parts, cases_Bool}
+use Rattle.sci_words.specs.declared.layouts.Layout.{Layout}
+use Rattle.sci_words.specs.declared.layouts.Layout.TheVariants.{One, Two}
 use Rattle.sci_words.specs.declared.tags.Tag.{Tag}
 use Rattle.sci_words.specs.declared.memory.Mem.{Mem}
 use Rattle.sci_words.specs.declared.refusals.WordRefusal.{WordRefusal}
 use Rattle.sci_words.specs.declared.refusals.WordRefusal.TheVariants.{UnknownKind, SpareBits, LinkMissing, LinkUnwanted, HeldNotValid}
-use Rattle.sci_words.specs.Refused.{tag_refused, mem_refused, lowest, tag_refusal, mem_refusal}
-use Rattle.sci_words.specs.Codes.{kind_number, kind_of, state_number, state_of, tag_in, mem_in, tag_code, mem_code}
-use Rattle.sci_words.specs.Layout.{layout1, bit, kind_field, held_field, forward_field, back_field, link_of, link_code, spare_bits_clear}
+use Rattle.sci_words.specs.Refused.{tag_refused, mem_refused, lowest, tag_refusal_in, mem_refusal_in}
+use Rattle.sci_words.specs.Codes.{kind_number, kind_of, state_number, state_of, tag_in, mem_in, tag_code_in, mem_code_in}
+use Rattle.sci_words.specs.Layout.{link_width, no_link, bit, kind_field, held_field, forward_field, back_field, link_of, link_code, spare_bits_clear}
 use Rattle.sci_words.specs.Tag.{is_invalid}
 use Rattle.sci_dump.specs.Reading.{mem_of, tag_of, sharer}
 use Rattle.sci_dump.proofs.Deciding.{each_more}
@@ -55,22 +57,25 @@ kind_number_of =
 bit_of : (n : ℕ) → n < 2 → bit (n == 1) ≡ n
 bit_of = let P : ℕ → Type 0 = λ n. bit (n == 1) ≡ n in each_more P 1 (each_below_1 P refl) refl
 
-link_code_of : (n : ℕ) → link_code layout1 (link_of layout1 n) ≡ n
-link_code_of n = elim (cases_Bool (n == 255)) [
-  | inl none ↦ let e : n ≡ 255 = eqb-true n 255 none in rw e refl
+link_code_of : (l : Layout) (n : ℕ) → link_code l (link_of l n) ≡ n
+link_code_of l n = elim (cases_Bool (n == no_link l)) [
+  | inl none ↦ rw none (sym (eqb-true n (no_link l) none))
   | inr some ↦ rw some refl
 ]
 
-spare_parts : (word end : ℕ) → not (spare_bits_clear layout1 end word) ≡ false → (word / 2 ^ 5 % 2 ^ 3 ≡ 0) × (word / 2 ^ end ≡ 0)
-spare_parts word end h =
-    let p = and_parts (word / 2 ^ 5 % 2 ^ 3 == 0) (word / 2 ^ end == 0) (not_false (spare_bits_clear layout1 end word) h) in
-    (eqb-true (word / 2 ^ 5 % 2 ^ 3) 0 p.0, eqb-true (word / 2 ^ end) 0 p.1)
+spare_parts : (l : Layout) (word end : ℕ) → not (spare_bits_clear l end word) ≡ false → (word / 2 ^ 5 % 2 ^ (link_width l - 5) ≡ 0) × (word / 2 ^ end ≡ 0)
+spare_parts l word end h =
+    let p = and_parts (word / 2 ^ 5 % 2 ^ (link_width l - 5) == 0) (word / 2 ^ end == 0) (not_false (spare_bits_clear l end word) h) in
+    (eqb-true (word / 2 ^ 5 % 2 ^ (link_width l - 5)) 0 p.0, eqb-true (word / 2 ^ end) 0 p.1)
 
-mem_fields : (w k b f : ℕ) → k ≡ kind_field w → b ≡ held_field w → f ≡ forward_field layout1 w → w / 2 ^ 5 % 2 ^ 3 ≡ 0 → w / 2 ^ 16 ≡ 0 → k + 2 ^ 4 * b + 2 ^ 8 * f ≡ w
-mem_fields w k b f p q r gap end = omega (arith, p, q, r, gap, end)
+mem_fields : (l : Layout) (w k b f : ℕ) → k ≡ kind_field w → b ≡ held_field w → f ≡ forward_field l w → w / 2 ^ 5 % 2 ^ (link_width l - 5) ≡ 0 → w / 2 ^ (2 * link_width l) ≡ 0 → k + 2 ^ 4 * b + 2 ^ link_width l * f ≡ w
+mem_fields One w k b f p q r gap end = omega (arith, p, q, r, gap, end)
+mem_fields Two w k b f p q r gap end = omega (arith, p, q, r, gap, end)
 
-tag_fields : (w k b f r : ℕ) → k ≡ kind_field w → b ≡ held_field w → f ≡ forward_field layout1 w → r ≡ back_field layout1 w → w / 2 ^ 5 % 2 ^ 3 ≡ 0 → w / 2 ^ 24 ≡ 0 → k + 2 ^ 4 * b + 2 ^ 8 * f + 2 ^ 16 * r ≡ w
-tag_fields w k b f r p q s t gap end = omega (arith, p, q, s, t, gap, end)
+tag_fields : (l : Layout) (w k b f r : ℕ) → k ≡ kind_field w → b ≡ held_field w → f ≡ forward_field l w → r ≡ back_field l w → w / 2 ^ 5 % 2 ^ (link_width l - 5) ≡ 0 → w / 2 ^ (3 * link_width l) ≡ 0
+    → k + 2 ^ 4 * b + 2 ^ link_width l * f + 2 ^ (2 * link_width l) * r ≡ w
+tag_fields One w k b f r p q s t gap end = omega (arith, p, q, s, t, gap, end)
+tag_fields Two w k b f r p q s t gap end = omega (arith, p, q, s, t, gap, end)
 
 below_2 : (w : ℕ) → held_field w < 2
 below_2 w = omega arith
@@ -79,13 +84,13 @@ mem_found : (r : Option WordRefusal) (x y : Mem) → elim r [ None ↦ Some x | 
 mem_found None x y h = (refl, some_of x y h)
 mem_found (Some e) x y h = absurd (not_none y h)
 
-pub mem_code_read : (word : ℕ) (m : Mem) → mem_of word ≡ Some m → mem_code m ≡ word
-mem_code_read word m h =
-    let (none, is) = mem_found (mem_refusal word) (mem_in layout1 word) m h in
-    let (known, spare, _, _, _) = found_none (mem_refused layout1 word) none in
-    let (gap, end) = spare_parts word 16 spare in
+pub mem_code_read : (l : Layout) (word : ℕ) (m : Mem) → mem_of l word ≡ Some m → mem_code_in l m ≡ word
+mem_code_read l word m h =
+    let (none, is) = mem_found (mem_refusal_in l word) (mem_in l word) m h in
+    let (known, spare, _, _, _) = found_none (mem_refused l word) none in
+    let (gap, end) = spare_parts l word (2 * link_width l) spare in
     let k = state_number_of (kind_field word) (let le : kind_field word ≤ 2 = ltb-false 2 (kind_field word) known in omega (arith, le)) in
-    ap mem_code (sym is) ∙ mem_fields word _ _ _ k (bit_of (held_field word) (below_2 word)) (link_code_of (forward_field layout1 word)) gap end
+    ap (mem_code_in l) (sym is) ∙ mem_fields l word _ _ _ k (bit_of (held_field word) (below_2 word)) (link_code_of l (forward_field l word)) gap end
 
 tag_found : (r : Option WordRefusal) (x y : Tag) → sharer r x ≡ Some y → (r ≡ None) × (is_invalid x.kind ≡ false) × (x ≡ y)
 tag_found None x y h = elim (cases_Bool (is_invalid x.kind)) [
@@ -94,13 +99,13 @@ tag_found None x y h = elim (cases_Bool (is_invalid x.kind)) [
 ]
 tag_found (Some e) x y h = absurd (not_none y h)
 
-pub tag_code_read : (word : ℕ) (t : Tag) → tag_of word ≡ Some t → (is_invalid t.kind ≡ false) × (tag_code t ≡ word)
+pub tag_code_read : (l : Layout) (word : ℕ) (t : Tag) → tag_of l word ≡ Some t → (is_invalid t.kind ≡ false) × (tag_code_in l t ≡ word)
 unfolding tag_of
-tag_code_read word t h =
-    let (none, other, is) = tag_found (tag_refusal word) (tag_in layout1 word) t h in
-    let (known, spare, _, _, _) = found_none (tag_refused layout1 word) none in
-    let (gap, end) = spare_parts word 24 spare in
+tag_code_read l word t h =
+    let (none, other, is) = tag_found (tag_refusal_in l word) (tag_in l word) t h in
+    let (known, spare, _, _, _) = found_none (tag_refused l word) none in
+    let (gap, end) = spare_parts l word (3 * link_width l) spare in
     let k = kind_number_of (kind_field word) (let le : kind_field word ≤ 9 = ltb-false 9 (kind_field word) known in omega (arith, le)) in (
       subst (λ (u : Tag). is_invalid u.kind ≡ false) is other,
-      ap tag_code (sym is) ∙ tag_fields word _ _ _ _ k (bit_of (held_field word) (below_2 word)) (link_code_of (forward_field layout1 word)) (link_code_of (back_field layout1 word)) gap end,
+      ap (tag_code_in l) (sym is) ∙ tag_fields l word _ _ _ _ k (bit_of (held_field word) (below_2 word)) (link_code_of l (forward_field l word)) (link_code_of l (back_field l word)) gap end,
     )

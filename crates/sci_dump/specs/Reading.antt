@@ -7,13 +7,15 @@ use Rattle.std.specs.Str.Parse.{digits_value}
 use Rattle.sci_words.specs.declared.memory.Mem.{Mem}
 use Rattle.sci_words.specs.declared.tags.Tag.{Tag}
 use Rattle.sci_words.specs.declared.refusals.WordRefusal.{WordRefusal}
-use Rattle.sci_words.specs.Refused.{tag_refusal, mem_refusal}
+use Rattle.sci_words.specs.declared.layouts.Layout.{Layout}
+use Rattle.sci_words.specs.declared.layouts.Layout.TheVariants.{One, Two}
+use Rattle.sci_words.specs.Refused.{tag_refusal_in, mem_refusal_in}
 use Rattle.sci_words.specs.Codes.{tag_in, mem_in}
-use Rattle.sci_words.specs.Layout.{layout1}
 use Rattle.sci_words.specs.Tag.{is_invalid}
 use Rattle.sci_core.specs.declared.lines.Line.{Line}
 use Rattle.sci_core.specs.Closed.{ClosedLine}
 use Rattle.sci_core.specs.State.{invalid, blank}
+use Rattle.sci_dump.specs.Text.{layout_label, nodes_in}
 use Rattle.sci_dump.specs.Dumps.{DumpLines}
 use Rattle.sci_dump.specs.declared.refusals.DumpRefusal.{DumpRefusal}
 use Rattle.sci_dump.specs.declared.refusals.DumpRefusal.TheVariants.{OutOfMemory, DumpFault}
@@ -82,15 +84,15 @@ content_at text = do
   Some (record { words = words.0; stamp = stamp.0 }, rest)
 
 -- the memory word with this code, and a tag that isn't Invalid
-abbrev pub mem_of : ℕ → Option Mem
-mem_of word = elim (mem_refusal word) [ None ↦ Some (mem_in layout1 word) | Some e ↦ None ]
+abbrev pub mem_of : Layout → ℕ → Option Mem
+mem_of l word = elim (mem_refusal_in l word) [ None ↦ Some (mem_in l word) | Some e ↦ None ]
 
 abbrev pub sharer : Option WordRefusal → Tag → Option Tag
 sharer None tag = if is_invalid tag.kind then None else Some tag
 sharer (Some e) tag = None
 
-unfoldable pub tag_of : ℕ → Option Tag
-tag_of word = sharer (tag_refusal word) (tag_in layout1 word)
+unfoldable pub tag_of : Layout → ℕ → Option Tag
+tag_of l word = sharer (tag_refusal_in l word) (tag_in l word)
 
 -- this number
 unfoldable pub numbered_at : ℕ → List ℕ → Option (List ℕ)
@@ -106,13 +108,13 @@ labelled_at label number text = do
   behind (codes " ") text
 
 -- `line L`, the memory word, and memory's line
-unfoldable pub memory_at : ℕ → List ℕ → Option (Mem × Line × List ℕ)
-memory_at number text = do
+unfoldable pub memory_at : Layout → ℕ → List ℕ → Option (Mem × Line × List ℕ)
+memory_at l number text = do
   text ← behind (codes "line ") text
   text ← numbered_at number text
   text ← behind (codes " ") text
   word ← word_at text
-  mem ← mem_of word.0
+  mem ← mem_of l word.0
   content ← content_at word.1
   Some (mem, content.0, content.1)
 
@@ -126,10 +128,10 @@ node_at number node text = do
   behind (codes " ") text
 
 -- a tag that isn't Invalid, and the node's line
-unfoldable pub tag_at : List ℕ → Option (Tag × Line × List ℕ)
-tag_at text = do
+unfoldable pub tag_at : Layout → List ℕ → Option (Tag × Line × List ℕ)
+tag_at l text = do
   word ← word_at text
-  tag ← tag_of word.0
+  tag ← tag_of l word.0
   content ← content_at word.1
   Some (tag, content.0, content.1)
 
@@ -145,15 +147,24 @@ counted_at label most text = do
   text ← behind label text
   count_at most text
 
--- `scidump 1 NODES LINES`
-unfoldable pub head_at : List ℕ → Option (ℕ × ℕ × List ℕ)
+-- the layout that a dump begins with, by what stands behind either label
+abbrev pub layout_by : Option (List ℕ) → Option (List ℕ) → Option (Layout × List ℕ)
+layout_by (Some rest) two = Some (One, rest)
+layout_by None (Some rest) = Some (Two, rest)
+layout_by None None = None
+
+unfoldable pub layout_at : List ℕ → Option (Layout × List ℕ)
+layout_at text = layout_by (behind (layout_label One) text) (behind (layout_label Two) text)
+
+-- `scidump LAYOUT NODES LINES`
+unfoldable pub head_at : List ℕ → Option (Layout × ℕ × ℕ × List ℕ)
 head_at text = do
-  text ← behind (codes "scidump 1 ") text
-  nodes ← count_at 64 text
+  layout ← layout_at text
+  nodes ← count_at (nodes_in layout.0) layout.1
   text ← behind (codes " ") nodes.1
   lines ← count_at 1024 text
   text ← behind (codes "\n") lines.1
-  Some (nodes.0, lines.0, text)
+  Some (layout.0, nodes.0, lines.0, text)
 
 -- one line of text after another: each gives a value, or the first fault
 infixl 10 ◌>>>◌
@@ -180,31 +191,31 @@ abbrev pub tag_on : ℕ → Option (Tag × Line × List ℕ) → Option (Tag × 
 tag_on n None = None
 tag_on n (Some found) = Some (found.0, found.1, n + 1, found.2)
 
-abbrev pub found_on : ℕ → List ℕ → Option (List ℕ) → Option (Tag × Line × ℕ × List ℕ)
-found_on n text None = Some (invalid, blank, n, text)
-found_on n text (Some rest) = tag_on n (tag_at rest)
+abbrev pub found_on : Layout → ℕ → List ℕ → Option (List ℕ) → Option (Tag × Line × ℕ × List ℕ)
+found_on l n text None = Some (invalid, blank, n, text)
+found_on l n text (Some rest) = tag_on n (tag_at l rest)
 
-unfoldable pub entry_at : ℕ → ℕ → ℕ → List ℕ → Option (Tag × Line × ℕ × List ℕ)
-entry_at number node n text = found_on n text (node_at number node text)
+unfoldable pub entry_at : Layout → ℕ → ℕ → ℕ → List ℕ → Option (Tag × Line × ℕ × List ℕ)
+entry_at l number node n text = found_on l n text (node_at number node text)
 
 -- the tags and the lines of so many nodes from this one on
-unfoldable pub entries_at : ℕ → ℕ → ℕ → ℕ → List ℕ → Result (List Tag × List Line × ℕ × List ℕ) DumpRefusal
-entries_at number node zero n text = Ok ([], [], n, text)
-entries_at number node (suc k) n text =
-    on_line n (entry_at number node n text) >>> λ entry. entries_at number (node + 1) k entry.2 entry.3
+unfoldable pub entries_at : Layout → ℕ → ℕ → ℕ → ℕ → List ℕ → Result (List Tag × List Line × ℕ × List ℕ) DumpRefusal
+entries_at l number node zero n text = Ok ([], [], n, text)
+entries_at l number node (suc k) n text =
+    on_line n (entry_at l number node n text) >>> λ entry. entries_at l number (node + 1) k entry.2 entry.3
     >>> λ more. Ok (entry.0 ∷ more.0, entry.1 ∷ more.1, more.2, more.3)
 
 -- a closed line
-unfoldable pub closed_at : ℕ → ℕ → ℕ → List ℕ → Result (ClosedLine × ℕ × List ℕ) DumpRefusal
-closed_at number nodes n text =
-    on_line n (memory_at number text) >>> λ home. entries_at number 0 nodes (n + 1) home.2
+unfoldable pub closed_at : Layout → ℕ → ℕ → ℕ → List ℕ → Result (ClosedLine × ℕ × List ℕ) DumpRefusal
+closed_at l number nodes n text =
+    on_line n (memory_at l number text) >>> λ home. entries_at l number 0 nodes (n + 1) home.2
     >>> λ found. Ok (record { mem = home.0; memory = home.1; tags = found.0; lines = found.1 }, found.2, found.3)
 
 -- so many closed lines from this one on
-unfoldable pub lines_at : ℕ → ℕ → ℕ → ℕ → List ℕ → Result (List ClosedLine × ℕ × List ℕ) DumpRefusal
-lines_at number zero nodes n text = Ok ([], n, text)
-lines_at number (suc k) nodes n text =
-    closed_at number nodes n text >>> λ line. lines_at (number + 1) k nodes line.1 line.2
+unfoldable pub lines_at : Layout → ℕ → ℕ → ℕ → ℕ → List ℕ → Result (List ClosedLine × ℕ × List ℕ) DumpRefusal
+lines_at l number zero nodes n text = Ok ([], n, text)
+lines_at l number (suc k) nodes n text =
+    closed_at l number nodes n text >>> λ line. lines_at l (number + 1) k nodes line.1 line.2
     >>> λ more. Ok (line.0 ∷ more.0, more.1, more.2)
 
 -- `end`, and nothing behind it
@@ -218,6 +229,6 @@ end_at n text = on_line n (behind (codes "end\n") text) >>> ended n
 -- a whole dump
 unfoldable pub dump_of : List ℕ → Result DumpLines DumpRefusal
 dump_of text =
-    on_line 1 (head_at text) >>> λ head. lines_at 0 head.1 head.0 2 head.2
+    on_line 1 (head_at text) >>> λ head. lines_at head.0 0 head.2 head.1 2 head.3
     >>> λ found. end_at found.1 found.2
-    >>> λ _. Ok (record { nodes = head.0; lines = found.0 })
+    >>> λ _. Ok (record { nodes = head.1; lines = found.0 })

@@ -11,7 +11,7 @@ pub(crate) const INVALID: Tag = Tag {
     back: None,
 };
 
-/// The closed lines of a memory, from line 0 on: 1 to 1,024 lines, each of the same 1 to 64 nodes.
+/// The closed lines of a memory, from line 0 on: 1 to 1,024 lines, each of the same 1 to 1,024 nodes.
 #[derive(Drop, Debug)]
 pub struct Dump {
     /// How many nodes each line has.

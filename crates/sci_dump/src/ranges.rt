@@ -4,6 +4,7 @@
 ghost use Rattle.std.specs.Prelude.{◌≡◌, ◌<◌, ◌^◌, true, length, All};
 ghost use Rattle.sci_words.specs.Tag.{tag_links_below};
 ghost use Rattle.sci_words.specs.Mem.{mem_links_below};
+ghost use Rattle.sci_words.specs.declared.layouts.Layout.TheVariants.{Two};
 ghost use Rattle.sci_dump.specs.ReadBack.{IsContent, IsLineOf};
 
 use sci_core::{Closed, Line};
@@ -33,7 +34,7 @@ fn show_contents(lines: &[Line])
 }
 
 fn show_tag(tag: Tag)
-    ensures { tag_links_below 255 tag ≡ true }
+    ensures { tag_links_below 65535 tag ≡ true }
 {
     if let Some(node) = tag.forw {
         let _below = node.get();
@@ -44,7 +45,7 @@ fn show_tag(tag: Tag)
 }
 
 fn show_tags(tags: &[Tag])
-    ensures { All (λ tag. tag_links_below 255 tag ≡ true) tags.now }
+    ensures { All (λ tag. tag_links_below 65535 tag ≡ true) tags.now }
 {
     for tag in tags {
         show_tag(*tag);
@@ -52,7 +53,7 @@ fn show_tags(tags: &[Tag])
 }
 
 fn show_mem(mem: Mem)
-    ensures { mem_links_below 255 mem ≡ true }
+    ensures { mem_links_below 65535 mem ≡ true }
 {
     if let Some(node) = mem.forw {
         let _below = node.get();
@@ -61,7 +62,7 @@ fn show_mem(mem: Mem)
 
 /// A closed line can be dumped.
 fn show_closed(closed: &Closed)
-    ensures { IsLineOf (length closed.now.tags) closed.now }
+    ensures { IsLineOf Two (length closed.now.tags) closed.now }
 {
     show_mem(closed.mem);
     show_content(&closed.memory);
@@ -71,7 +72,7 @@ fn show_closed(closed: &Closed)
 
 /// Lines of the same number of nodes can be dumped.
 pub fn show_lines(lines: &[Closed])
-    ensures { All (λ c. IsLineOf (length c.tags) c) lines.now }
+    ensures { All (λ c. IsLineOf Two (length c.tags) c) lines.now }
 {
     for closed in lines {
         show_closed(closed);

@@ -1,20 +1,49 @@
 //! The lines of text of a dump.
 
-ghost use Rattle.std.specs.Prelude.{◌≡◌, ◌≤◌, true, IfSome};
+ghost use Rattle.std.specs.Prelude.{◌≡◌, ◌≤◌, true, IfSome, IfOk};
 ghost use Rattle.sci_words.specs.Mem.{mem_well_formed};
 ghost use Rattle.sci_words.specs.Tag.{is_invalid, tag_well_formed};
-ghost use Rattle.sci_dump.specs.Reading.{Reads, mem_of, tag_of, labelled_at, memory_at, node_at, tag_at, counted_at, head_at};
+ghost use Rattle.sci_dump.specs.Reading.{Reads, mem_of, tag_of, labelled_at, memory_at, node_at, tag_at, counted_at, layout_at, head_at};
+ghost use Rattle.sci_dump.specs.Text.{nodes_in};
+ghost use Rattle.sci_core.specs.declared.whole.TheConstants.{MOST_NODES};
+ghost use Rattle.sci_words.specs.Codes.{mem_code_in, tag_code_in, fits_mem_in, fits_tag_in};
+ghost use Rattle.sci_words.specs.Refused.{mem_refusal_in, tag_refusal_in};
+ghost use Rattle.std.specs.Result.{result_err};
 
 use crate::fields::{behind, content, count, numbered, word};
-use sci_core::Line;
-use sci_words::{Kind, Mem, Tag, read_mem, read_tag};
+use sci_core::{Line, MOST_NODES};
+use sci_words::{Kind, Layout, Mem, Tag, WordRefusal, layout1, read_mem, read_tag};
+
+/// The memory word of this number in a layout.
+fn read_mem_in(layout: Layout, word: u64) -> Result<Mem, WordRefusal>
+    ensures refusal { result_err result ≡ mem_refusal_in layout word }
+    ensures code { IfOk result (λ m. mem_code_in layout m ≡ word) }
+    ensures fits { IfOk result (λ m. fits_mem_in layout m ≡ true) }
+{
+    match layout {
+        Layout::One => layout1::read_mem(word),
+        Layout::Two => read_mem(word),
+    }
+}
+
+/// The tag of this number in a layout.
+fn read_tag_in(layout: Layout, word: u64) -> Result<Tag, WordRefusal>
+    ensures refusal { result_err result ≡ tag_refusal_in layout word }
+    ensures code { IfOk result (λ t. tag_code_in layout t ≡ word) }
+    ensures fits { IfOk result (λ t. fits_tag_in layout t ≡ true) }
+{
+    match layout {
+        Layout::One => layout1::read_tag(word),
+        Layout::Two => read_tag(word),
+    }
+}
 
 /// The memory word with this code.
-fn mem(word: u64) -> Option<Mem>
-    ensures exact { result ≡ mem_of word }
+fn mem(layout: Layout, word: u64) -> Option<Mem>
+    ensures exact { result ≡ mem_of layout word }
     ensures well_formed { IfSome result (λ m. mem_well_formed m ≡ true) }
 {
-    match read_mem(word) {
+    match read_mem_in(layout, word) {
         Ok(mem) => Some(mem),
         Err(_) => None,
     }
@@ -29,11 +58,11 @@ fn is_invalid(kind: Kind) -> bool
 
 /// The tag with this code, if it isn't Invalid.
 #[tactic(auto, using(crate::proofs::Tags::tag_read, crate::proofs::Tags::invalid_read, crate::proofs::Tags::refused_read))]
-fn tag(word: u64) -> Option<Tag>
-    ensures exact { Reads (λ t. t) result (tag_of word) }
+fn tag(layout: Layout, word: u64) -> Option<Tag>
+    ensures exact { Reads (λ t. t) result (tag_of layout word) }
     ensures well_formed { IfSome result (λ t. tag_well_formed t ≡ true) }
 {
-    match read_tag(word) {
+    match read_tag_in(layout, word) {
         Err(_) => None,
         Ok(tag) => {
             if is_invalid(tag.kind) {
@@ -55,13 +84,13 @@ fn labelled<'a>(label: &[u8], number: u64, text: &'a [u8]) -> Option<&'a [u8]>
 }
 
 /// `line L`, the memory word, and memory's line.
-pub fn memory_row(number: u64, text: &[u8]) -> Option<(Mem, Line, &[u8])>
-    ensures exact { Reads (λ x. (x.0, x.1, x.2.now)) result (memory_at number text.now) }
+pub fn memory_row(layout: Layout, number: u64, text: &[u8]) -> Option<(Mem, Line, &[u8])>
+    ensures exact { Reads (λ x. (x.0, x.1, x.2.now)) result (memory_at layout number text.now) }
     ensures well_formed { IfSome result (λ x. mem_well_formed x.0 ≡ true) }
 {
     let text = labelled(b"line ", number, text)?;
     let (word, text) = word(text)?;
-    let mem = mem(word)?;
+    let mem = mem(layout, word)?;
     let (line, rest) = content(text)?;
     Some((mem, line, rest))
 }
@@ -77,12 +106,12 @@ pub fn behind_node(number: u64, node: u64, text: &[u8]) -> Option<&[u8]>
 
 /// A tag that isn't Invalid, and the node's line.
 #[tactic(auto, unfolding(crate::specs::Reading::tag_at))]
-pub fn tag_row(text: &[u8]) -> Option<(Tag, Line, &[u8])>
-    ensures exact { Reads (λ x. (x.0, x.1, x.2.now)) result (tag_at text.now) }
+pub fn tag_row(layout: Layout, text: &[u8]) -> Option<(Tag, Line, &[u8])>
+    ensures exact { Reads (λ x. (x.0, x.1, x.2.now)) result (tag_at layout text.now) }
     ensures well_formed { IfSome result (λ x. tag_well_formed x.0 ≡ true) }
 {
     let (word, text) = word(text)?;
-    let tag = tag(word)?;
+    let tag = tag(layout, word)?;
     let (line, rest) = content(text)?;
     Some((tag, line, rest))
 }
@@ -96,13 +125,35 @@ fn counted<'a>(label: &[u8], most: u64, text: &'a [u8]) -> Option<(u64, &'a [u8]
     count(most, text)
 }
 
-/// `scidump 1 NODES LINES`.
-pub fn head_row(text: &[u8]) -> Option<(u16, u16, &[u8])>
-    ensures exact { Reads (λ x. (x.0, x.1, x.2.now)) result (head_at text.now) }
-    ensures range { IfSome result (λ x. (1 ≤ x.0) × (x.0 ≤ 64) × (1 ≤ x.1) × (x.1 ≤ 1024)) }
+/// The layout that a dump begins with.
+fn layout(text: &[u8]) -> Option<(Layout, &[u8])>
+    ensures exact { Reads (λ x. (x.0, x.1.now)) result (layout_at text.now) }
 {
-    let (nodes, text) = counted(b"scidump 1 ", 64, text)?;
+    if let Some(rest) = behind(b"scidump 1 ", text) {
+        return Some((Layout::One, rest));
+    }
+    let rest = behind(b"scidump 2 ", text)?;
+    Some((Layout::Two, rest))
+}
+
+/// How many nodes a dump in this layout may have.
+fn nodes_in(layout: Layout) -> u64
+    ensures { result ≡ nodes_in layout }
+{
+    match layout {
+        Layout::One => 64,
+        Layout::Two => u64::from(MOST_NODES),
+    }
+}
+
+/// `scidump LAYOUT NODES LINES`.
+pub fn head_row(text: &[u8]) -> Option<(Layout, u16, u16, &[u8])>
+    ensures exact { Reads (λ x. (x.0, x.1, x.2, x.3.now)) result (head_at text.now) }
+    ensures range { IfSome result (λ x. (1 ≤ x.1) × (x.1 ≤ MOST_NODES) × (1 ≤ x.2) × (x.2 ≤ 1024)) }
+{
+    let (layout, text) = layout(text)?;
+    let (nodes, text) = count(nodes_in(layout), text)?;
     let (lines, text) = counted(b" ", 1024, text)?;
     let rest = behind(b"\n", text)?;
-    Some((nodes as u16, lines as u16, rest))
+    Some((layout, nodes as u16, lines as u16, rest))
 }

@@ -2,6 +2,8 @@
 
 ghost use Rattle.std.specs.Prelude.{◌≡◌, ◌≤◌, ◌++◌, ℕ, true, Ok, IfOk, OnOk, string_bytes, length, All};
 ghost use Rattle.sci_words.specs.Tag.{tag_well_formed};
+ghost use Rattle.sci_words.specs.declared.layouts.Layout.TheVariants.{Two};
+ghost use Rattle.sci_core.specs.declared.whole.TheConstants.{MOST_NODES};
 ghost use Rattle.sci_dump.specs.ReadBack.{dump_read};
 ghost use Rattle.sci_dump.specs.Reading.{dump_of};
 ghost use Rattle.sci_dump.specs.Text.{content_text, memory_text, node_text, tag_text, nodes_text, closed_text, head_text, lines_text, dump_text, hexadecimal, values_text};
@@ -42,7 +44,7 @@ fn push_content(text: &mut String, word: u64, line: &Line) -> Result<(), AllocEr
 /// `line L`, the memory word, and memory's line.
 #[tactic(auto, unfolding(crate::specs::Text::memory_text))]
 fn push_memory(text: &mut String, number: usize, closed: &Closed) -> Result<(), AllocError>
-    ensures { OnOk result (string_bytes text.new ≡ string_bytes text.old ++ memory_text number closed.now.mem closed.now.memory) }
+    ensures { OnOk result (string_bytes text.new ≡ string_bytes text.old ++ memory_text Two number closed.now.mem closed.now.memory) }
 {
     write!(text, "line {number} ")?;
     push_content(text, write_mem(closed.mem), &closed.memory)
@@ -58,7 +60,7 @@ fn push_tag(
     line: &Line,
 ) -> Result<(), AllocError>
     requires { tag_well_formed tag ≡ true }
-    ensures { OnOk result (string_bytes text.new ≡ string_bytes text.old ++ tag_text number node tag line.now) }
+    ensures { OnOk result (string_bytes text.new ≡ string_bytes text.old ++ tag_text Two number node tag line.now) }
 {
     write!(text, "tag {number} {node} ")?;
     push_content(text, write_tag(tag), line)
@@ -74,7 +76,7 @@ fn push_node(
     line: &Line,
 ) -> Result<(), AllocError>
     requires { tag_well_formed tag ≡ true }
-    ensures { OnOk result (string_bytes text.new ≡ string_bytes text.old ++ node_text number node tag line.now) }
+    ensures { OnOk result (string_bytes text.new ≡ string_bytes text.old ++ node_text Two number node tag line.now) }
 {
     if matches!(tag.kind, Kind::Invalid) {
         return Ok(());
@@ -84,7 +86,7 @@ fn push_node(
 
 /// The nodes of a line.
 fn push_nodes(text: &mut String, number: usize, closed: &Closed) -> Result<(), AllocError>
-    ensures { OnOk result (string_bytes text.new ≡ string_bytes text.old ++ nodes_text number 0 closed.now.tags closed.now.lines) }
+    ensures { OnOk result (string_bytes text.new ≡ string_bytes text.old ++ nodes_text Two number 0 closed.now.tags closed.now.lines) }
 {
     for node in 0..closed.tags.len() {
         push_node(text, number, node, closed.tags[node], &closed.lines[node])?;
@@ -95,7 +97,7 @@ fn push_nodes(text: &mut String, number: usize, closed: &Closed) -> Result<(), A
 /// A closed line.
 #[tactic(auto, unfolding(crate::specs::Text::closed_text))]
 fn push_closed(text: &mut String, number: usize, closed: &Closed) -> Result<(), AllocError>
-    ensures { OnOk result (string_bytes text.new ≡ string_bytes text.old ++ closed_text number closed.now) }
+    ensures { OnOk result (string_bytes text.new ≡ string_bytes text.old ++ closed_text Two number closed.now) }
 {
     push_memory(text, number, closed)?;
     push_nodes(text, number, closed)
@@ -103,7 +105,7 @@ fn push_closed(text: &mut String, number: usize, closed: &Closed) -> Result<(), 
 
 /// The closed lines.
 fn push_lines(text: &mut String, lines: &[Closed]) -> Result<(), AllocError>
-    ensures { OnOk result (string_bytes text.new ≡ string_bytes text.old ++ lines_text 0 lines.now) }
+    ensures { OnOk result (string_bytes text.new ≡ string_bytes text.old ++ lines_text Two 0 lines.now) }
 {
     for number in 0..lines.len() {
         push_closed(text, number, &lines[number])?;
@@ -115,23 +117,23 @@ fn push_lines(text: &mut String, lines: &[Closed]) -> Result<(), AllocError>
 #[tactic(auto, unfolding(crate::specs::Text::dump_text, crate::specs::Text::head_text))]
 fn write_dump(alloc: Global, lines: &[Closed]) -> Result<String, AllocError>
     requires lines { (1 ≤ length lines.now) × (length lines.now ≤ 1024) }
-    requires nodes { (nodes : ℕ) × (1 ≤ nodes) × (nodes ≤ 64) × All (λ c. length c.tags ≡ nodes) lines.now }
-    ensures { IfOk result (λ text. (nodes : ℕ) → All (λ c. length c.tags ≡ nodes) lines.now → string_bytes text ≡ dump_text nodes lines.now) }
+    requires nodes { (nodes : ℕ) × (1 ≤ nodes) × (nodes ≤ MOST_NODES) × All (λ c. length c.tags ≡ nodes) lines.now }
+    ensures { IfOk result (λ text. (nodes : ℕ) → All (λ c. length c.tags ≡ nodes) lines.now → string_bytes text ≡ dump_text Two nodes lines.now) }
 {
     let first = &lines[0];
     let nodes = first.tags.len();
     let count = lines.len();
-    let mut text = format!(in alloc; "scidump 1 {nodes} {count}\n")?;
+    let mut text = format!(in alloc; "scidump 2 {nodes} {count}\n")?;
     push_lines(&mut text, lines)?;
     text.push_str("end\n")?;
     Ok(text)
 }
 
-/// The dump of closed lines, from line 0 on: 1 to 1,024 lines of the same 1 to 64 nodes. Err: memory ran out.
+/// The dump of closed lines, from line 0 on: 1 to 1,024 lines of the same 1 to 1,024 nodes. Err: memory ran out.
 pub fn dump(alloc: Global, lines: &[Closed]) -> Result<String, AllocError>
     requires lines { (1 ≤ length lines.now) × (length lines.now ≤ 1024) }
-    requires nodes { (nodes : ℕ) × (1 ≤ nodes) × (nodes ≤ 64) × All (λ c. length c.tags ≡ nodes) lines.now }
-    ensures text { IfOk result (λ text. (nodes : ℕ) → All (λ c. length c.tags ≡ nodes) lines.now → string_bytes text ≡ dump_text nodes lines.now) }
+    requires nodes { (nodes : ℕ) × (1 ≤ nodes) × (nodes ≤ MOST_NODES) × All (λ c. length c.tags ≡ nodes) lines.now }
+    ensures text { IfOk result (λ text. (nodes : ℕ) → All (λ c. length c.tags ≡ nodes) lines.now → string_bytes text ≡ dump_text Two nodes lines.now) }
     // What is read of it are these lines, with zeros as the content of nodes that are Invalid.
     ensures read_back { IfOk result (λ text. (nodes : ℕ) → All (λ c. length c.tags ≡ nodes) lines.now → dump_of (string_bytes text) ≡ Ok (dump_read nodes lines.now)) }
 {

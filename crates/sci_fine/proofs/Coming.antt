@@ -58,11 +58,11 @@ allowed_row n me p Event.Look h = refl
 allowed_row n me p _ h = h
 
 -- a word that stands is read
-pub mem_reads : (n : ℕ) (fits : List ℕ → Type 0) (a : State) → IsRuled n fits a → n ≤ 255 → (mem_well_formed a.memory ≡ true) × (mem_links_below 255 a.memory ≡ true)
-mem_reads n fits a r small = (r.words.memory, link_further n 255 a.memory.forw small (memory_links n a r.links))
+pub mem_reads : (n : ℕ) (fits : List ℕ → Type 0) (a : State) → IsRuled n fits a → n ≤ 65535 → (mem_well_formed a.memory ≡ true) × (mem_links_below 65535 a.memory ≡ true)
+mem_reads n fits a r small = (r.words.memory, link_further n 65535 a.memory.forw small (memory_links n a r.links))
 
-pub tag_reads : (n : ℕ) (fits : List ℕ → Type 0) (a : State) → IsRuled n fits a → n ≤ 255 → (x : ℕ) → (tag_well_formed (a.tags x) ≡ true) × (tag_links_below 255 (a.tags x) ≡ true)
-tag_reads n fits a r small x = (r.words.tags x, tag_links_further n 255 (a.tags x) small (tag_links n a r.links x))
+pub tag_reads : (n : ℕ) (fits : List ℕ → Type 0) (a : State) → IsRuled n fits a → n ≤ 65535 → (x : ℕ) → (tag_well_formed (a.tags x) ≡ true) × (tag_links_below 65535 (a.tags x) ≡ true)
+tag_reads n fits a r small x = (r.words.tags x, tag_links_further n 65535 (a.tags x) small (tag_links n a r.links x))
 
 -- a step of a seat with the view v, and the slots ks in hand, and what is so after it
 pub record Comes {K : Type 0} (fits : K → ℕ → List ℕ → Type 0) (t : Terms K) (v : View K) (ks : List ℕ) (call : Call) (u : View K) (ls : List ℕ) : Type 0 where

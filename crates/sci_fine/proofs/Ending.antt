@@ -12,6 +12,7 @@ use Rattle.sci_words.specs.Mem.{mem_well_formed, mem_links_below}
 use Rattle.sci_words.specs.Tag.{tag_well_formed, tag_links_below}
 use Rattle.sci_words.specs.declared.memory.Mem.{Mem}
 use Rattle.sci_words.specs.declared.tags.Tag.{Tag}
+use Rattle.sci_words.specs.declared.layouts.Layout.TheVariants.{Two}
 use Rattle.sci_words.proofs.Codes.{one_tag, one_mem}
 use Rattle.sci_core.specs.declared.lines.Line.{Line}
 use Rattle.sci_core.specs.declared.pending.Pending.{Pending}
@@ -91,7 +92,7 @@ pub left_as : {K : Type 0} (fits : K → ℕ → List ℕ → Type 0) (t key : T
 left_as {K} fits t key id v ws xs is live first joined idle count f = left fits t id v ws xs live first joined idle count (subst (λ (k : Terms K). Final (Seen (Stands fits k) id v) ws xs) is f)
 
 -- one more was read
-pub reads_on : (ws : List ℕ) (xs : List Line) (i : ℕ) (tags : List Tag) (lines : List Line) (w : Tag) (l : Line) → HasRead ws xs i tags lines → tag_well_formed w ≡ true → tag_links_below 255 w ≡ true → get_elem? ws (lies_at (suc i)) ≡ some (tag_code w) → get_elem? xs (suc i) ≡ some l
+pub reads_on : (ws : List ℕ) (xs : List Line) (i : ℕ) (tags : List Tag) (lines : List Line) (w : Tag) (l : Line) → HasRead ws xs i tags lines → tag_well_formed w ≡ true → tag_links_below 65535 w ≡ true → get_elem? ws (lies_at (suc i)) ≡ some (tag_code w) → get_elem? xs (suc i) ≡ some l
     → HasRead ws xs (i + 1) (tags ++ w ∷ []) (lines ++ l ∷ [])
 reads_on ws xs i tags lines w l old form links word line =
     let count = old.tag_count in let count' = old.line_count in
@@ -115,16 +116,16 @@ reads_on ws xs i tags lines w l old form links word line =
 all_of : (P : Tag → Type 0) (l : List Tag) → ((x : ℕ) → x < length l → (w : Tag) × (get_elem? l x ≡ some w) × P w) → All P l
 all_of P l h = λ k d near. let w = h k near in subst P (sym (get_at l k w.0 d w.1)) w.2
 
-module _ {K : Type 0} (fits : K → ℕ → List ℕ → Type 0) (t : Terms K) (small : t.nodes ≤ 255) (logs : List (List (ℕ × Call))) (ws : List ℕ) (xs : List Line) (rest : IsAtRest fits t logs ws xs) where
-  pub mem_stands : (m : Mem) (found : ℕ) → get_elem? ws 0 ≡ some found → mem_links_below 255 m ≡ true → mem_code m ≡ found → m ≡ rest.state.memory
+module _ {K : Type 0} (fits : K → ℕ → List ℕ → Type 0) (t : Terms K) (small : t.nodes ≤ 65535) (logs : List (List (ℕ × Call))) (ws : List ℕ) (xs : List Line) (rest : IsAtRest fits t logs ws xs) where
+  pub mem_stands : (m : Mem) (found : ℕ) → get_elem? ws 0 ≡ some found → mem_links_below 65535 m ≡ true → mem_code m ≡ found → m ≡ rest.state.memory
   mem_stands m found at links code =
       let k = mem_reads t.nodes (fits t.keep t.number) rest.state rest.ruled small in
-      one_mem m rest.state.memory links k.1 (code ∙ some-injective found (mem_code rest.state.memory) (sym at ∙ rest.words 0 (omega arith)))
+      one_mem Two m rest.state.memory links k.1 (code ∙ some-injective found (mem_code rest.state.memory) (sym at ∙ rest.words 0 (omega arith)))
 
-  pub mem_found : (found : ℕ) → get_elem? ws 0 ≡ some found → (mem_well_formed rest.state.memory ≡ true) × (mem_links_below 255 rest.state.memory ≡ true) × (mem_code rest.state.memory ≡ found)
+  pub mem_found : (found : ℕ) → get_elem? ws 0 ≡ some found → (mem_well_formed rest.state.memory ≡ true) × (mem_links_below 65535 rest.state.memory ≡ true) × (mem_code rest.state.memory ≡ found)
   mem_found found at = let k = mem_reads t.nodes (fits t.keep t.number) rest.state rest.ruled small in (k.0, k.1, some-injective (mem_code rest.state.memory) found (sym (rest.words 0 (omega arith)) ∙ at))
 
-  pub tag_found : (x found : ℕ) → x < t.nodes → get_elem? ws (lies_at (suc x)) ≡ some found → (tag_well_formed (rest.state.tags x) ≡ true) × (tag_links_below 255 (rest.state.tags x) ≡ true) × (tag_code (rest.state.tags x) ≡ found)
+  pub tag_found : (x found : ℕ) → x < t.nodes → get_elem? ws (lies_at (suc x)) ≡ some found → (tag_well_formed (rest.state.tags x) ≡ true) × (tag_links_below 65535 (rest.state.tags x) ≡ true) × (tag_code (rest.state.tags x) ≡ found)
   tag_found x found near at = let k = tag_reads t.nodes (fits t.keep t.number) rest.state rest.ruled small x in (k.0, k.1, some-injective (tag_code (rest.state.tags x)) found (sym (rest.words (suc x) (omega arith)) ∙ at))
 
   module _ (m : Mem) (l : Line) (tags : List Tag) (lines : List Line) (mem_is : m ≡ rest.state.memory) (memory_is : get_elem? xs 0 ≡ some l) (read : HasRead ws xs t.nodes tags lines) where
@@ -134,7 +135,7 @@ module _ {K : Type 0} (fits : K → ℕ → List ℕ → Type 0) (t : Terms K) (
     tag_at : (x : ℕ) → x < t.nodes → get_elem? tags x ≡ some (rest.state.tags x)
     tag_at x near =
         let o = read.tag x near in let k = tag_reads t.nodes (fits t.keep t.number) rest.state rest.ruled small x in
-        o.1 ∙ ap (λ (w : Tag). some w) (one_tag o.0 (rest.state.tags x) o.3 k.1 (some-injective (tag_code o.0) (tag_code (rest.state.tags x)) (sym o.4 ∙ rest.words (suc x) (omega arith))))
+        o.1 ∙ ap (λ (w : Tag). some w) (one_tag Two o.0 (rest.state.tags x) o.3 k.1 (some-injective (tag_code o.0) (tag_code (rest.state.tags x)) (sym o.4 ∙ rest.words (suc x) (omega arith))))
 
     line_at : (x : ℕ) → x < t.nodes → (y : Line) × (get_elem? lines x ≡ some y) × (rest.state.slots x ≡ Some y)
     line_at x near = let o = rest.lines (suc x) (omega arith) in (o.0, sym (read.line x near) ∙ o.2, o.1)

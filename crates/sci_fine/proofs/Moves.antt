@@ -186,7 +186,7 @@ module _ {K : Type 0} (fits : K → ℕ → List ℕ → Type 0) (t : Terms K) w
   Ends s id me place told z = (w : View K) × (act : Act Line) × Valid s.homes me.1 act × Stands fits t (stepped s place z id me.1 w act) × told (w, carried_after me.1 act)
 
   -- an exchange by a row: one lemma for all of them
-  row_kind : (slots id : ℕ) (me : Seated K) (e : Event) → t.nodes ≤ 255 → me.0.of ≡ Some t → has_row t.nodes me.0.node me.0.pending e ≡ true → FitsEvent (fits t.keep t.number) e
+  row_kind : (slots id : ℕ) (me : Seated K) (e : Event) → t.nodes ≤ 65535 → me.0.of ≡ Some t → has_row t.nodes me.0.node me.0.pending e ≡ true → FitsEvent (fits t.keep t.number) e
       → HasLinks (row_of me.0.node me.0.pending e).change → Carries (row_of me.0.node me.0.pending e).carry me.1
       → Allows (Stands fits t) slots id me (lies_at (place_of (row_of me.0.node me.0.pending e).change))
       (λ z. either (eqb z (before_of (row_of me.0.node me.0.pending e).change)) (after_of (row_of me.0.node me.0.pending e).change) z)
@@ -251,7 +251,7 @@ module _ {K : Type 0} (fits : K → ℕ → List ℕ → Type 0) (t : Terms K) w
       )
 
 -- The same, where the table's key and the row's parts go by other names
-module _ {K : Type 0} (fits : K → ℕ → List ℕ → Type 0) (t key : Terms K) (slots id : ℕ) (me : Seated K) (is : key ≡ t) (small : t.nodes ≤ 255) (live : me.0.of ≡ Some t) where
+module _ {K : Type 0} (fits : K → ℕ → List ℕ → Type 0) (t key : Terms K) (slots id : ℕ) (me : Seated K) (is : key ≡ t) (small : t.nodes ≤ 65535) (live : me.0.of ≡ Some t) where
   pub exchanges : (e event : Event) (c : Change) (k : Carry) (i place old new : ℕ) → event ≡ e → c ≡ (row_of me.0.node me.0.pending e).change → k ≡ (row_of me.0.node me.0.pending e).carry → has_row t.nodes me.0.node me.0.pending e ≡ true → FitsEvent (fits t.keep t.number) e
       → HasLinks c → Carries k me.1 → i ≡ place_of c → place ≡ lies_at i → old ≡ before_of c → new ≡ after_of c
       → Allows (Stands fits key) slots id me place (λ z. either (eqb z old) new z) (exchanged fits event old me)

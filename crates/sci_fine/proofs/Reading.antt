@@ -22,15 +22,15 @@ same_ok r a b h k = cc
 
 -- how numbers are read as words
 abbrev pub ReadsMem : {W : Type 0} → ℕ → Result Mem W → Type 0
-ReadsMem found r = (m : Mem) → mem_well_formed m ≡ true → mem_links_below 255 m ≡ true → mem_code m ≡ found → r ≡ Ok m
+ReadsMem found r = (m : Mem) → mem_well_formed m ≡ true → mem_links_below 65535 m ≡ true → mem_code m ≡ found → r ≡ Ok m
 
 abbrev pub ReadsTag : {W : Type 0} → ℕ → Result Tag W → Type 0
-ReadsTag found r = (t : Tag) → tag_well_formed t ≡ true → tag_links_below 255 t ≡ true → tag_code t ≡ found → r ≡ Ok t
+ReadsTag found r = (t : Tag) → tag_well_formed t ≡ true → tag_links_below 65535 t ≡ true → tag_code t ≡ found → r ≡ Ok t
 
 next_is : (i node : ℕ) → i ≡ node + 1 → i ≡ suc node
 next_is i node e = omega arith
 
-module _ {K W : Type 0} (fits : K → ℕ → List ℕ → Type 0) (t : Terms K) (v : View K) (found : ℕ) (small : t.nodes ≤ 255) where
+module _ {K W : Type 0} (fits : K → ℕ → List ℕ → Type 0) (t : Terms K) (v : View K) (found : ℕ) (small : t.nodes ≤ 65535) where
   pub mem_read : (f : Finds fits t v 0 found) (r : Result Mem W) → ReadsMem found r → r ≡ Ok f.state.memory
   mem_read f r reads = let k = mem_reads t.nodes (fits t.keep t.number) f.state f.ruled small in reads f.state.memory k.0 k.1 (sym f.word)
 
@@ -44,7 +44,7 @@ module _ {K : Type 0} (fits : K → ℕ → List ℕ → Type 0) (t : Terms K) (
   tag_linked : (node : ℕ) (x : Tag) → x ≡ f.state.tags node → (tag_well_formed x ≡ true) × (tag_links_below t.nodes x ≡ true)
   tag_linked node x is = subst (λ (y : Tag). (tag_well_formed y ≡ true) × (tag_links_below t.nodes y ≡ true)) (sym is) (f.ruled.words.tags node, tag_links t.nodes f.state f.ruled.links node)
 
-module _ {K W : Type 0} (fits : K → ℕ → List ℕ → Type 0) (t : Terms K) (m n : Seated K) (found : ℕ) (small : t.nodes ≤ 255) (below : m.0.node < t.nodes) where
+module _ {K W : Type 0} (fits : K → ℕ → List ℕ → Type 0) (t : Terms K) (m n : Seated K) (found : ℕ) (small : t.nodes ≤ 65535) (below : m.0.node < t.nodes) where
   pub mem_came : IsSeen fits t (load_of 0) 0 m found n → (r : Result Mem W) → ReadsMem found r → (x : Mem) → r ≡ Ok x → Comes fits t m.0 (slots_in m.1) (MemWas (Some x)) n.0 (slots_in n.1)
   mem_came h r reads x is =
       let same : x ≡ h.finds.state.memory = same_ok r h.finds.state.memory x (mem_read fits t m.0 found small h.finds r reads) is in

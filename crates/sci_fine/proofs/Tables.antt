@@ -8,6 +8,7 @@ use lib.ListN.{get_elem?}
 use Rattle.atomic_table.specs.Table.{Act, keeps, takes, gives, homes_after, carried_after, Valid}
 use Rattle.atomic_table.proofs.Lists.{set_here, set_else}
 use Rattle.sci_words.specs.Codes.{tag_code, mem_code}
+use Rattle.sci_words.specs.declared.layouts.Layout.TheVariants.{Two}
 use Rattle.sci_words.proofs.Codes.{one_tag, one_mem, link_further, tag_links_further}
 use Rattle.sci_core.specs.declared.lines.Line.{Line}
 use Rattle.sci_core.specs.declared.rows.Change.{Change}
@@ -111,6 +112,6 @@ module _ (n : ℕ) (a : State) where
       slots (Gives (Node x) l) g = update_else a.slots x (Some l) i (λ e. absurd (omega arith)) ∙ (old i far).1
 
   -- the word found is the word before, where their codes are equal
-  pub finds : (small : n ≤ 255) → Below n (shape a) → (c : Change) → HasLinks c → word_at a (place_of c) ≡ before_of c → core.Finds a c
-  finds small b (OfMemory before after) h e = one_mem a.memory before (link_further n 255 a.memory.forw small (memory_links n a b)) h e
-  finds small b (OfTag x before after) h e = one_tag (a.tags x) before (tag_links_further n 255 (a.tags x) small (tag_links n a b x)) h e
+  pub finds : (small : n ≤ 65535) → Below n (shape a) → (c : Change) → HasLinks c → word_at a (place_of c) ≡ before_of c → core.Finds a c
+  finds small b (OfMemory before after) h e = one_mem Two a.memory before (link_further n 65535 a.memory.forw small (memory_links n a b)) h e
+  finds small b (OfTag x before after) h e = one_tag Two (a.tags x) before (tag_links_further n 65535 (a.tags x) small (tag_links n a b x)) h e

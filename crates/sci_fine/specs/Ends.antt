@@ -43,7 +43,7 @@ pub record IsAtRest {K : Type 0} (fits : K → ℕ → List ℕ → Type 0) (t :
 pub record HasRead (ws : List ℕ) (xs : List Line) (i : ℕ) (tags : List Tag) (lines : List Line) : Type 0 where
   pub tag_count : length tags ≡ i
   pub line_count : length lines ≡ i
-  pub tag : (x : ℕ) → x < i → (t : Tag) × (get_elem? tags x ≡ some t) × (tag_well_formed t ≡ true) × (tag_links_below 255 t ≡ true) × (get_elem? ws (lies_at (suc x)) ≡ some (tag_code t))
+  pub tag : (x : ℕ) → x < i → (t : Tag) × (get_elem? tags x ≡ some t) × (tag_well_formed t ≡ true) × (tag_links_below 65535 t ≡ true) × (get_elem? ws (lies_at (suc x)) ≡ some (tag_code t))
   pub line : (x : ℕ) → x < i → get_elem? xs (suc x) ≡ get_elem? lines x
 
 -- what is closed is this state's: its words, and the lines in its slots, which are all at home

@@ -48,8 +48,8 @@ after_of (OfTag x before after) = tag_code after
 
 -- the links of the word before are links of words
 abbrev pub HasLinks : Change → Type 0
-HasLinks (OfMemory before after) = mem_links_below 255 before ≡ true
-HasLinks (OfTag x before after) = tag_links_below 255 before ≡ true
+HasLinks (OfMemory before after) = mem_links_below 65535 before ≡ true
+HasLinks (OfTag x before after) = tag_links_below 65535 before ≡ true
 
 -- what is given lies in the slot that was taken last
 abbrev pub Carries : Carry → List (ℕ × Line) → Type 0

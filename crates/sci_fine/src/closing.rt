@@ -1,4 +1,5 @@
 //! How a line is closed, and its seats with it.
+ghost use Rattle.sci_core.specs.declared.whole.TheConstants.{MOST_NODES};
 ghost use Rattle.std.specs.Prelude.{◌≡◌, ℕ, ◌↔◌, ◌+◌, ◌<◌, ◌≤◌, Some, List, ◌∷◌, length, IsTrue, IfOk, IfErr, vec_len, vec_capacity};
 ghost use Rattle.sci_port.specs.declared.calls.Call as a_call;
 ghost use Rattle.std.specs.Slots.{slots_items, slots_len, IsFull};
@@ -47,7 +48,7 @@ fn read_out<K: Keeps>(
     mut tags: Vec<Tag>,
     mut lines: Vec<Line>,
 ) -> Closed
-    requires nodes { terms.nodes ≤ 64 }
+    requires nodes { terms.nodes ≤ MOST_NODES }
     requires counts { (slots_len table.words ≡ lies_at (terms.nodes + 1)) × (slots_len table.slots ≡ terms.nodes + 1) }
     requires full { IsFull table.words × IsFull table.slots }
     requires rest { (logs : List (List (ℕ × a_call.Call))) × IsAtRest K.fits terms logs (slots_items table.words) (slots_items table.slots) }

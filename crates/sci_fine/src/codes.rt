@@ -3,7 +3,7 @@ ghost use Rattle.std.specs.Prelude.{◌≡◌, ◌+◌, ◌<◌, true, IsTrue};
 ghost use Rattle.sci_core.specs.WellFormed.{FindsWellFormed, LeavesWellFormed};
 ghost use Rattle.sci_words.specs.Codes.{tag_code, mem_code};
 ghost use Rattle.sci_words.specs.Mem.{mem_well_formed, mem_links_below};
-ghost use Rattle.sci_words.specs.Tag.{tag_well_formed, tag_links_below, link_below};
+ghost use Rattle.sci_words.specs.Tag.{tag_well_formed, tag_links_below};
 ghost use Rattle.sci_fine.specs.Rule.{slot_number, lies_at};
 ghost use Rattle.sci_fine.specs.Steps.{place_of, before_of, after_of, HasLinks};
 
@@ -15,7 +15,7 @@ pub(crate) const WORDS_APART: usize = 8;
 
 // Where the word with this number lies.
 pub(crate) fn lies_at(number: usize) -> usize
-    requires { number < 256 }
+    requires { number < 65536 }
     ensures { result ≡ lies_at number }
 {
     number * WORDS_APART
@@ -24,7 +24,7 @@ pub(crate) fn lies_at(number: usize) -> usize
 // The number of a node's word and slot; 0 is that of memory's.
 pub(crate) fn number_of(node: NodeId) -> usize
     ensures value { result ≡ node + 1 }
-    ensures below { result < 256 }
+    ensures below { result < 65536 }
 {
     usize::from(node.get()) + 1
 }
@@ -39,31 +39,19 @@ pub(crate) fn slot_of(place: &Place) -> usize
     }
 }
 
-// A link names one of the first 255 nodes, or none.
-fn look_at_link(link: &Option<NodeId>)
-    ensures { link_below 255 link.now ≡ true }
-{
-    if let Some(node) = link {
-        let _ = node.get();
-    }
-}
-
 fn code_of_tag(tag: &Tag) -> u64
     requires { IsTrue (tag_well_formed tag.now) }
     ensures code { result ≡ tag_code tag.now }
-    ensures links { tag_links_below 255 tag.now ≡ true }
+    ensures links { tag_links_below 65535 tag.now ≡ true }
 {
-    look_at_link(&tag.forw);
-    look_at_link(&tag.back);
     write_tag(*tag)
 }
 
 fn code_of_mem(mem: &Mem) -> u64
     requires { IsTrue (mem_well_formed mem.now) }
     ensures code { result ≡ mem_code mem.now }
-    ensures links { mem_links_below 255 mem.now ≡ true }
+    ensures links { mem_links_below 65535 mem.now ≡ true }
 {
-    look_at_link(&mem.forw);
     write_mem(*mem)
 }
 

@@ -4,6 +4,7 @@ ghost use Rattle.sci_words.specs.Codes.{tag_code, mem_code};
 ghost use Rattle.sci_words.specs.declared.memory.MemState.TheVariants.{Home};
 ghost use Rattle.sci_core.specs.State.{invalid, memory_word};
 ghost use Rattle.sci_core.specs.declared.pending.Pending.TheVariants.{Idle};
+ghost use Rattle.sci_core.specs.declared.whole.TheConstants.{MOST_NODES};
 ghost use Rattle.sci_fine.specs.Rule.{lies_at};
 ghost use Rattle.sci_fine.specs.Seats.{AreIdleFrom, AreNew, HasTerms};
 ghost use Rattle.sci_fine.specs.Views.{first_view};
@@ -14,7 +15,7 @@ use crate::seats::{Seat, Token};
 use crate::standing::Standing;
 use crate::views::{Apart, Terms};
 use atomic_table::Table;
-use sci_core::{Keeps, Line, OpenRefusal};
+use sci_core::{Keeps, Line, MOST_NODES, OpenRefusal};
 use sci_words::{Kind, LineNo, Mem, MemState, NodeId, Tag, write_mem, write_tag};
 use std::alloc::{AllocError, Global};
 
@@ -36,7 +37,7 @@ fn idle_seat<K: Keeps>(token: Token<K>, node: NodeId, terms: Terms<K>) -> Seat<K
 
 // One of the first numbers is a node's.
 fn node_of(number: u16) -> NodeId
-    requires { number < 64 }
+    requires { number < MOST_NODES }
     ensures { result ≡ number }
 {
     match NodeId::new(number) {
@@ -47,7 +48,7 @@ fn node_of(number: u16) -> NodeId
 
 // The words of a line of this many nodes that nobody has used.
 fn home_words(alloc: Global, nodes: u16) -> Result<Vec<u64>, AllocError>
-    requires { nodes ≤ 64 }
+    requires { nodes ≤ MOST_NODES }
     ensures { IfOk result (λ words. words.items ≡ set (replicate (lies_at (nodes + 1)) (tag_code invalid)) 0 (mem_code (memory_word Home None))) }
 {
     let invalid = Tag {
@@ -69,7 +70,7 @@ fn home_words(alloc: Global, nodes: u16) -> Result<Vec<u64>, AllocError>
 
 impl<K: Keeps> FineLine<K> {
     /// A line that nobody has used, HOME, with `line` in every slot, and its seats, node i's at place i. The refusals: 6 for
-    /// 0 or more than 64 nodes, then 7 where memory ran out.
+    /// 0 or more than 1,024 nodes, then 7 where memory ran out.
     pub fn new(
         alloc: Global,
         nodes: u16,
@@ -78,12 +79,12 @@ impl<K: Keeps> FineLine<K> {
         keep: K,
     ) -> Result<(FineLine<K>, Vec<Seat<K>>), OpenRefusal>
         requires { K.fits keep number line.words }
-        ensures nodes { (result ≡ Err OpenRefusal.BadNodes) ↔ ((nodes ≡ 0) ⊎ (64 < nodes)) }
+        ensures nodes { (result ≡ Err OpenRefusal.BadNodes) ↔ ((nodes ≡ 0) ⊎ (MOST_NODES < nodes)) }
         ensures terms { IfOk result (λ r. HasTerms r.0 nodes number line keep) }
         ensures seats { IfOk result (λ r. (vec_len r.1 ≡ nodes) × AreIdleFrom r.0 0 r.1.items) }
         ensures new { IfOk result (λ r. AreNew r.1.items) }
     {
-        if nodes == 0 || nodes > 64 {
+        if nodes == 0 || nodes > MOST_NODES {
             return Err(OpenRefusal::BadNodes);
         }
         let terms = Terms {
@@ -103,7 +104,7 @@ impl<K: Keeps> FineLine<K> {
     // A line that nobody has used, and the token of its first seat.
     fn open(alloc: Global, terms: Terms<K>) -> Result<(FineLine<K>, Token<K>), AllocError>
         requires fits { K.fits terms.keep terms.number terms.opening.words }
-        requires nodes { (0 < terms.nodes) × (terms.nodes ≤ 64) }
+        requires nodes { (0 < terms.nodes) × (terms.nodes ≤ MOST_NODES) }
         ensures { IfOk result (λ r. (r.0.terms ≡ terms) × (r.1.table_id ≡ r.0.table.shared.table_id) × (r.1.me ≡ (first_view terms, []))) }
     {
         let words = home_words(alloc, terms.nodes)?;

@@ -101,10 +101,28 @@ fn fault_with(alloc: Global, text: &str, old: &str, new: &str) -> Option<u64> {
     fault_of(alloc, changed.as_bytes())
 }
 
-// Whether a dump is written as this text.
+// Whether two dumps have the same lines.
+fn has_lines(one: &Dump, other: &Dump) -> bool {
+    one.nodes == other.nodes
+        && one.lines.len() == other.lines.len()
+        && one.lines.iter().zip(other.lines.iter()).all(|(a, b)| {
+            a.mem == b.mem
+                && a.memory == b.memory
+                && a.tags.as_slice() == b.tags.as_slice()
+                && a.lines.as_slice() == b.lines.as_slice()
+        })
+}
+
+// Whether a dump is written as this text; or, where the text has layout 1, as one that is read as the same lines.
 fn is_written_as(alloc: Global, lines: &Dump, text: &[u8]) -> bool {
-    match text_of(alloc, lines) {
-        Ok(written) => written.as_bytes() == text,
+    let Ok(written) = text_of(alloc, lines) else {
+        return false;
+    };
+    if !text.starts_with(b"scidump 1 ") {
+        return written.as_bytes() == text;
+    }
+    match read_dump(alloc, written.as_bytes()) {
+        Ok(again) => has_lines(lines, &again),
         Err(_) => false,
     }
 }
@@ -139,6 +157,42 @@ fn verdicts(rt: HostRuntime) {
         let judged = judged_with(rt.alloc(), SHARED, old, new);
         same_at(&rt, new, &judged, &Some((3, *verdict)));
     }
+}
+
+/// The dump of the same line in layout 2.
+const SHARED_2: &str = "scidump 2 3 1\n\
+    line 0 0000000000020001 0 0 0 0 0 0 0 0 0\n\
+    tag 0 0 00000001ffff0007 0 0 0 0 0 0 0 0 0\n\
+    tag 0 1 0000000200000007 0 0 0 0 0 0 0 0 0\n\
+    tag 0 2 0000ffff00010002 0 0 0 0 0 0 0 0 0\n\
+    end\n";
+
+/// A dump of layout 1 is written again in layout 2.
+#[test]
+fn layout_1_is_written_in_layout_2(rt: HostRuntime) -> Result<(), Fail> {
+    for text in [SHARED, SHARED_2] {
+        let read = read_dump(rt.alloc(), text.as_bytes())?;
+        let written = text_of(rt.alloc(), &read)?;
+        same(&rt, &written.as_str(), &SHARED_2);
+    }
+    same(
+        &rt,
+        &judged(rt.alloc(), SHARED_2),
+        &Some((3, Verdict::Lawful)),
+    );
+    for (new, fault) in [
+        ("scidump 2 1024 1", 0),
+        ("scidump 2 1025 1", 1),
+        ("scidump 2 0 1", 1),
+    ] {
+        let found = fault_with(rt.alloc(), SHARED_2, "scidump 2 3 1", new);
+        if fault == 1 {
+            same_at(&rt, &new, &found, &Some(1));
+        } else {
+            same_at(&rt, &new, &found, &None);
+        }
+    }
+    Ok(())
 }
 
 /// Two lines of two nodes: the first is unused, the second is node 1's alone, dirty.
@@ -178,8 +232,9 @@ fn cut_at_each_byte(rt: HostRuntime) -> Result<(), Fail> {
 }
 
 /// Texts that are no dumps, and the line of the first fault.
-const FAULTS: [(&str, &str, u64); 16] = [
-    ("scidump 1 3 1", "scidump 2 3 1", 1),
+const FAULTS: [(&str, &str, u64); 17] = [
+    ("scidump 1 3 1", "scidump 3 3 1", 1),
+    ("scidump 1 3 1", "scidump 2 3 1", 2),
     ("scidump 1 3 1", "scidump 1 65 1", 1),
     ("scidump 1 3 1", "scidump 1 0 1", 1),
     ("scidump 1 3 1", "scidump 1 3 1025", 1),
@@ -213,6 +268,8 @@ fn faults(rt: HostRuntime) {
 /// node's number stands that might be right. Then a later line is the first that can't be.
 fn fault_behind(place: usize, line: u64, byte: u8) -> u64 {
     match (place, byte) {
+        // the words are of the other layout
+        (8, b'2') => 2,
         // one node or two: the next node's tag stands where `end` must
         (10, b'1') => 4,
         (10, b'2') => 5,
@@ -313,9 +370,9 @@ fn is_read(rt: &impl Abort, lines: &[Closed], read: &Dump) {
     same_line(rt, line, back);
 }
 
-// The text is SHARED, and is read as this one line of three nodes.
+// The text is that of layout 2, and is read as this one line of three nodes.
 fn is_read_back(rt: &impl Abort, alloc: Global, lines: &[Closed], text: &str) -> Result<(), Fail> {
-    assert!(rt; text == SHARED);
+    assert!(rt; text == SHARED_2);
     let read = read_dump(alloc, text.as_bytes())?;
     is_read(rt, lines, &read);
     Ok(())

@@ -18,7 +18,7 @@ const LINE: Line = Line {
 };
 
 fn node(number: u16) -> NodeId
-    requires { number < 255 }
+    requires { number < 65535 }
     ensures { result ≡ number }
 {
     match NodeId::new(number) {
@@ -88,7 +88,7 @@ fn two_readers() -> [Row; 8] {
         (0, Event::Convert(fresh(None)), Some(Outcome::Done(None))),
         (1, Event::Queue(Some(node(0))), Some(Outcome::Done(None))),
         (1, Event::PrependValid, Some(Outcome::Done(None))),
-        (0, Event::FreshToGone, Some(Outcome::Missed(0x111))),
+        (0, Event::FreshToGone, Some(Outcome::Missed(0x10011))),
     ]
 }
 

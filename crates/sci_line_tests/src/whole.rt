@@ -6,6 +6,7 @@ ghost use Rattle.sci_core.specs.Whole.{nodes_of, state_of};
 mod answers;
 mod closing;
 mod growths;
+mod layout1_words;
 mod memory;
 mod texts;
 mod words;
@@ -23,7 +24,7 @@ const LINE: Line = Line {
 };
 
 pub(crate) fn node(number: u16) -> NodeId
-    requires { number < 255 }
+    requires { number < 65535 }
     ensures { result ≡ number }
 {
     match NodeId::new(number) {
@@ -129,14 +130,14 @@ fn opens(rt: &impl Abort, alloc: Global, nodes: u16, number: LineNo, want: Opene
 }
 
 #[test]
-fn opens_with_1_to_64_nodes(rt: HostRuntime) {
-    for nodes in 1..65 {
+fn opens_with_1_to_1024_nodes(rt: HostRuntime) {
+    for nodes in 1..1025 {
         for number in NUMBERS {
             let opened = Ok((nodes, number, MemState::Home));
             opens(&rt, rt.alloc(), nodes, number, opened);
         }
     }
-    for nodes in [0, 65, u16::MAX] {
+    for nodes in [0, 1025, u16::MAX] {
         opens(&rt, rt.alloc(), nodes, 7, Err(6));
     }
 }
@@ -167,8 +168,8 @@ fn lists_all(
 }
 
 #[test]
-fn closes_and_lists_1_to_64_nodes(rt: HostRuntime) -> Result<(), Fail> {
-    for nodes in 1..65 {
+fn closes_and_lists_1_to_1024_nodes(rt: HostRuntime) -> Result<(), Fail> {
+    for nodes in 1..1025 {
         let mut whole = opened(rt.alloc(), nodes, 7, LINE)?;
         let closed = whole.closed(rt.alloc())?;
         same(&rt, &closed.tags.len(), &usize::from(nodes));
@@ -203,7 +204,7 @@ fn comes_to(rt: &impl Abort, whole: &mut Whole<AnyWords>, row: &Row) {
 // What further events come to, after those.
 fn then() -> [Row; 4] {
     [
-        (0, Event::FreshToGone, Ok(Outcome::Missed(0x111))),
+        (0, Event::FreshToGone, Ok(Outcome::Missed(0x10011))),
         (1, Event::Settle, Err(NotInTurn)),
         (0, Event::Unconverted, Ok(Outcome::Done(None))),
         (0, Event::Look, Ok(Outcome::Done(None))),

@@ -3,6 +3,7 @@ use Rattle.std.specs.Prelude.{◌≡◌, ℕ, ◌+◌, ◌-◌, ◌^◌, List, [
 use Rattle.std.specs.List.{list_all}
 use Rattle.std.specs.Str.{bytes_eq}
 use Rattle.std.specs.Str.Lines.{lines}
+use Rattle.sci_core.specs.declared.whole.TheConstants.{MOST_NODES}
 use Rattle.sci_script.specs.declared.commands.Size.{Size}
 use Rattle.sci_script.specs.declared.commands.Opening.{Opening}
 use Rattle.sci_script.specs.declared.commands.Step.{Step}
@@ -58,7 +59,7 @@ unfoldable pub size_at : ℕ → List (List ℕ) → Result Size ScriptRefusal
 size_at n (name ∷ nodes ∷ lines ∷ []) =
     if bytes_eq name (codes "memory")
     then (do
-      nodes ← number_at n 1 64 nodes
+      nodes ← number_at n 1 MOST_NODES nodes
       lines ← number_at n 1 1024 lines
       Ok (record { nodes = nodes; lines = lines }))
     else Err (BadCommand n)

@@ -1,5 +1,6 @@
 -- What the commands that begin a call ask for. This project's profile.
 use Rattle.std.specs.Prelude.{ℕ, List, slice_set, replicate}
+use Rattle.sci_core.specs.declared.whole.TheConstants.{MOST_NODES}
 use Rattle.sci_cache.specs.declared.requests.Request as a_request
 use Rattle.sci_script.specs.declared.commands.Request.{Request}
 use Rattle.sci_script.specs.declared.commands.Request.TheVariants.{Load, Store, Add, Evict}
@@ -15,7 +16,7 @@ asked line Evict = a_request.Request.Evict line
 
 -- for each node the word that its last load is to show, before any load
 abbrev pub no_words : List ℕ
-no_words = replicate 64 0
+no_words = replicate MOST_NODES 0
 
 -- and after a command
 abbrev pub words_after : List ℕ → Command → List ℕ

@@ -1,6 +1,7 @@
 -- What a script's memory has, and which commands fit it. This project's profile.
 use Rattle.std.specs.Prelude.{◌≡◌, ◌≤◌, ℕ, Bool, true, ◌&&◌, nat_lt, List}
 use Rattle.std.specs.List.{list_all}
+use Rattle.sci_core.specs.declared.whole.TheConstants.{MOST_NODES}
 use Rattle.sci_script.specs.declared.commands.Size.{Size}
 use Rattle.sci_script.specs.declared.commands.Request.{Request}
 use Rattle.sci_script.specs.declared.commands.Request.TheVariants.{Load, Store, Add, Evict}
@@ -8,10 +9,10 @@ use Rattle.sci_script.specs.declared.commands.Step.{Step}
 use Rattle.sci_script.specs.declared.commands.Command.{Command}
 use Rattle.sci_script.specs.declared.commands.Command.TheVariants.{Begin, Turn, Done, List as ListLine, Tag as ShowTag, Residents}
 
--- 1 to 64 nodes, 1 to 1,024 lines
+-- 1 to 1,024 nodes, 1 to 1,024 lines
 pub record IsSize (size : Size) : Type 0 where
   pub some_nodes : 1 ≤ size.nodes
-  pub few_nodes : size.nodes ≤ 64
+  pub few_nodes : size.nodes ≤ MOST_NODES
   pub some_lines : 1 ≤ size.lines
   pub few_lines : size.lines ≤ 1024
 

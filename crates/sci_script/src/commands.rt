@@ -118,13 +118,14 @@ pub struct Script {
 }
 
 impl Script {
+    ghost use Rattle.sci_core.specs.declared.whole.TheConstants.{MOST_NODES};
     ghost use Rattle.std.specs.Prelude.{◌≡◌, ◌≤◌};
     ghost use Rattle.sci_script.specs.Openings.{content_of, zeros};
 
-    /// How many nodes its memory has, 1 to 64.
+    /// How many nodes its memory has, 1 to 1,024.
     pub fn nodes(&self) -> u16
         ensures value { result ≡ self.now.size.nodes }
-        ensures range { (1 ≤ result) × (result ≤ 64) }
+        ensures range { (1 ≤ result) × (result ≤ MOST_NODES) }
     {
         self.size.nodes
     }

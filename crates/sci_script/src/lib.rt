@@ -22,7 +22,7 @@ pub use commands::{Command, Script, Size, Step};
 pub use desk::Desk;
 pub use reader::read_script;
 pub use refusals::ScriptRefusal;
-pub use running::{note, perform};
+pub use running::{NODES, note, perform};
 pub use texts::{list_text, tag_text};
 pub use watching::{Ending, Load, Passed};
 pub use wholes::WholeDesk;

@@ -7,7 +7,7 @@ ghost use Rattle.sci_script.specs.Format.{Gives, node_at, line_at, value_at, val
 use crate::commands::{Command, Opening, Request, Size};
 use crate::numbers::number_within;
 use crate::refusals::ScriptRefusal;
-use sci_core::Line;
+use sci_core::{Line, MOST_NODES};
 use sci_words::{LineNo, NodeId};
 
 /// `memory NODES LINES`
@@ -18,7 +18,7 @@ pub fn size(number: u64, words: &[&[u8]]) -> Result<Size, ScriptRefusal>
 {
     match words {
         [name, nodes, lines] if *name == b"memory".as_slice() => {
-            let nodes = number_within(number, 1, 64, nodes)? as u16;
+            let nodes = number_within(number, 1, u64::from(MOST_NODES), nodes)? as u16;
             let lines = number_within(number, 1, 1024, lines)? as u16;
             Ok(Size { nodes, lines })
         }

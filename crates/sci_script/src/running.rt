@@ -1,4 +1,5 @@
 //! Runs a script.
+ghost use Rattle.sci_core.specs.declared.whole.TheConstants.{MOST_NODES};
 ghost use Rattle.std.specs.Prelude.{◌≡◌, ◌<◌, ◌≤◌, ℕ, [], true, Some, string_bytes, IfOk, IfErr, OnOk, All, MatchBool, MatchOption};
 ghost use Rattle.sci_script.specs.declared.commands.Command.TheVariants.{Begin as BeginCall, Turn as TurnOnce, Done, List as ListLine, Tag as ShowTag, Residents};
 ghost use Rattle.sci_script.specs.Size.{IsIn};
@@ -16,6 +17,9 @@ use sci_ops::Turn;
 use sci_words::{LineNo, NodeId};
 use std::alloc::Global;
 use std::io::Write;
+
+/// How many nodes a script may have.
+pub const NODES: usize = 1024;
 
 /// How many turns a call may take under `done`.
 const TURNS: u32 = 100_000;
@@ -49,13 +53,13 @@ fn done<D: Desk>(
     text: &mut String,
     desk: &mut D,
     nodes: u16,
-    words: &[u8; 64],
+    words: &[u8; NODES],
     number: u64,
     node: NodeId,
 ) -> Result<(), ScriptRefusal>
     requires empty { string_bytes text.old ≡ [] }
     requires node { node < (D.size desk.old).nodes }
-    requires few { (D.size desk.old).nodes ≤ 64 }
+    requires few { (D.size desk.old).nodes ≤ MOST_NODES }
     requires words { All (λ w. w < 8) words.now }
     ensures ok { OnOk result (Prints D.is_open D.does words.now desk.old (Done node) (string_bytes text.new) desk.new) }
     ensures err { IfErr result (λ e. StopsAt D.is_open D.does nodes desk.old (record { number = number; command = Done node }) e desk.new) }
@@ -159,13 +163,13 @@ fn turn<D: Desk>(
     text: &mut String,
     desk: &mut D,
     nodes: u16,
-    words: &[u8; 64],
+    words: &[u8; NODES],
     number: u64,
     node: NodeId,
 ) -> Result<(), ScriptRefusal>
     requires empty { string_bytes text.old ≡ [] }
     requires node { node < (D.size desk.old).nodes }
-    requires few { (D.size desk.old).nodes ≤ 64 }
+    requires few { (D.size desk.old).nodes ≤ MOST_NODES }
     requires words { All (λ w. w < 8) words.now }
     ensures ok { OnOk result (Prints D.is_open D.does words.now desk.old (TurnOnce node) (string_bytes text.new) desk.new) }
     ensures err { IfErr result (λ e. StopsAt D.is_open D.does nodes desk.old (record { number = number; command = TurnOnce node }) e desk.new) }
@@ -184,12 +188,12 @@ pub fn perform<D: Desk>(
     text: &mut String,
     desk: &mut D,
     nodes: u16,
-    words: &[u8; 64],
+    words: &[u8; NODES],
     step: Step,
 ) -> Result<(), ScriptRefusal>
     requires empty { string_bytes text.old ≡ [] }
     requires command { IsIn (D.size desk.old) step.command }
-    requires few { (D.size desk.old).nodes ≤ 64 }
+    requires few { (D.size desk.old).nodes ≤ MOST_NODES }
     requires words { All (λ w. w < 8) words.now }
     ensures ok { OnOk result (Prints D.is_open D.does words.now desk.old step.command (string_bytes text.new) desk.new) }
     ensures err { IfErr result (λ e. StopsAt D.is_open D.does nodes desk.old step e desk.new) }
@@ -211,8 +215,8 @@ pub fn perform<D: Desk>(
 }
 
 /// The words that the nodes' last loads are to show, after a command.
-pub fn note(words: &mut [u8; 64], size: Size, command: Command)
-    requires few { size.nodes ≤ 64 }
+pub fn note(words: &mut [u8; NODES], size: Size, command: Command)
+    requires few { size.nodes ≤ MOST_NODES }
     requires command { IsIn size command }
     requires words { All (λ w. w < 8) words.old }
     ensures words { words.new ≡ words_after words.old command }
@@ -250,7 +254,7 @@ impl Script {
             × Appends (W.contents out.old) (W.contents out.new) written) }
         ensures size { D.size desk.new ≡ D.size desk.old }
     {
-        let mut words = [0; 64];
+        let mut words = [0; NODES];
         // one text for all commands, so that not each takes memory
         let mut text = String::new(alloc);
         for step in &self.steps {

@@ -2,6 +2,7 @@
 use Rattle.std.specs.Prelude.{◌≡◌, ℕ, ◌+◌, ◌*◌, ◌/◌, ◌<◌, ◌≤◌, List, [], ◌++◌, length, take, codes, Some, Bool, IsUtf8, if◌then◌else◌}
 use Rattle.sci_core.specs.Closed.{ClosedLine}
 use Rattle.sci_script.specs.declared.refusals.ScriptRefusal.TheVariants.{OutOfMemory, BadCommand, BadNumber, NotDone, WriteFailed}
+use Rattle.sci_words.specs.declared.layouts.Layout.TheVariants.{Two}
 use Rattle.sci_dump.specs.Text.{dump_text}
 use Rattle.sci_work.specs.declared.refusals.WorkRefusal.{WorkRefusal}
 use Rattle.sci_work.specs.Ended.{AreClosed, HaveNodes, IsCounted, IsCountSize}
@@ -27,7 +28,7 @@ AreWithin (Count nodes adds capacity dump) = IsCountSize nodes adds capacity
 
 -- the dump of closed lines of so many nodes, where it is wanted
 abbrev pub dump_part : Bool → ℕ → List ClosedLine → List ℕ
-dump_part wanted nodes closed = if wanted then dump_text nodes closed else []
+dump_part wanted nodes closed = if wanted then dump_text Two nodes closed else []
 
 -- the result of these settings, and the dump of the lines on which it was made
 abbrev pub IsTextOf : Settings → List ℕ → Type 0

@@ -87,7 +87,7 @@ fn add_list(text: &mut String, last: u16) -> Result<(), AllocError> {
 }
 
 fn node(number: u16) -> NodeId
-    requires { number < 255 }
+    requires { number < 65535 }
     ensures { result ≡ number }
 {
     match NodeId::new(number) {

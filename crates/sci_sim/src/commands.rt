@@ -20,7 +20,7 @@ pages, `scisim run --help` the keys of settings, and `scisim check --help` the f
 const SCRIPTS: &str = "\
 One command a line. N is a node, L a line, W a word of it (0 to 7), V a number below 2^64. A line that begins with # is a comment.
 
-  memory NODES LINES        first, once: 1 to 64 nodes, 1 to 1024 lines of zeros
+  memory NODES LINES        first, once: 1 to 1024 nodes, 1 to 1024 lines of zeros
   capacity C                directly behind it, at most once: a node names up to C lines, 1 to 1024; else 1024
   open L S V V V V V V V V  before all below: line L opens with stamp S and these eight words
   load N L W                node N begins a load
@@ -129,10 +129,12 @@ const DUMPS: &str = "\
 A dump is the text of a memory at rest. For each line, from 0 on, it has the memory word and memory's content, and then, for each
 node in order whose tag isn't Invalid, its tag and content. A word is 16 hexadecimal digits, a content a stamp and eight words.
 
-  scidump 1 NODES LINES
+  scidump 2 NODES LINES
   line L WORD STAMP V V V V V V V V
   tag L N WORD STAMP V V V V V V V V
   end
+
+A dump of layout 1, `scidump 1 ..`, is read too.
 
 Prints each line's sharing list and `lawful`, or `line L breaks CN` and status 3: the first line that is no exact sharing list, and
 the first rule that it breaks.
@@ -150,11 +152,11 @@ Refusals, on standard error; nothing is printed:
 `cannot read` and `cannot write` are faults of FILE, of the input, or of the output.
 
 Example: a line that three nodes share.
-  scidump 1 3 1
-  line 0 0000000000000201 0 0 0 0 0 0 0 0 0
-  tag 0 0 000000000001ff07 0 0 0 0 0 0 0 0 0
-  tag 0 1 0000000000020007 0 0 0 0 0 0 0 0 0
-  tag 0 2 0000000000ff0102 0 0 0 0 0 0 0 0 0
+  scidump 2 3 1
+  line 0 0000000000020001 0 0 0 0 0 0 0 0 0
+  tag 0 0 00000001ffff0007 0 0 0 0 0 0 0 0 0
+  tag 0 1 0000000200000007 0 0 0 0 0 0 0 0 0
+  tag 0 2 0000ffff00010002 0 0 0 0 0 0 0 0 0
   end";
 
 const SCRIPT_FILE: &str = "the script; without it standard input is read";

@@ -1,6 +1,6 @@
 //! A desk that says of each turn what it did.
 
-ghost use Rattle.std.specs.Prelude.{◌≡◌, ◌<◌, ◌≤◌, ◌⊎◌, ◌++◌, true, IfOk};
+ghost use Rattle.std.specs.Prelude.{◌≡◌, ◌<◌, ◌≤◌, ◌⊎◌, ◌++◌, true, IfOk, vec_len};
 ghost use Rattle.sci_trace.specs.NoteText.{note_bytes};
 ghost use Rattle.sci_core.specs.Stage.{stage_of};
 ghost use Rattle.sci_script.specs.Wholes.{shared_of};
@@ -14,18 +14,15 @@ use sci_script::{Desk, Passed, Script, Size, WholeDesk};
 use sci_words::{LineNo, Mem, NodeId, Tag};
 use std::alloc::{AllocError, Global};
 
-/// How many nodes a script may have.
-const NODES: usize = 64;
-
 /// A desk of whole lines, what each node was asked for last, and the lines of the turns that were taken since they were dropped last.
 #[derive(Drop)]
 pub struct TraceDesk {
     pub(crate) size: Size,
     desk: WholeDesk,
-    asked: [Option<Request>; NODES],
+    asked: Vec<Option<Request>>,
     pub(crate) notes: Notes,
     ghost same: { desk.size ≡ size },
-    ghost few: { size.nodes ≤ 64 },
+    ghost each: { vec_len asked ≡ size.nodes },
 }
 
 impl TraceDesk {
@@ -41,11 +38,12 @@ impl TraceDesk {
             nodes: script.nodes(),
             lines: script.lines(),
         };
+        let asked = vec![in alloc; None; usize::from(size.nodes)]?;
         let desk = WholeDesk::open(alloc, script)?;
         Ok(TraceDesk {
             size,
             desk,
-            asked: [None; NODES],
+            asked,
             notes: Notes::new(alloc),
         })
     }

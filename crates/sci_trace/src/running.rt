@@ -12,7 +12,7 @@ ghost use Rattle.sci_trace.specs.Traces.{Traces, NotesLeft, TraceLeaves, FormLea
 use crate::coding::{Coding, put_coded};
 use crate::desk::TraceDesk;
 use crate::notes::Notes;
-use sci_script::{Script, ScriptRefusal, note, perform};
+use sci_script::{NODES, Script, ScriptRefusal, note, perform};
 use std::alloc::Global;
 use std::io::Write;
 
@@ -65,7 +65,7 @@ pub(crate) fn trace_as<W: Write>(
     let size = desk.size;
     // what was told before is no part of this run
     desk.notes = Notes::new(alloc);
-    let mut words = [0; 64];
+    let mut words = [0; NODES];
     // one text for all commands, so that not each takes memory
     let mut text = String::new(alloc);
     for step in script.steps() {

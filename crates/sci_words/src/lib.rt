@@ -5,6 +5,8 @@
 #![tactic(auto)]
 
 mod codec;
+pub mod layout1;
+mod layout2;
 mod layouts;
 mod memory;
 mod names;
@@ -13,7 +15,8 @@ mod numbers;
 mod refusals;
 mod tags;
 
-pub use codec::{read_mem, read_tag, write_mem, write_tag};
+pub use layout2::{read_mem, read_tag, write_mem, write_tag};
+pub use layouts::Layout;
 pub use memory::{Mem, MemState};
 pub use names::{mem_name, name};
 pub use nodes::{LineNo, NodeId};

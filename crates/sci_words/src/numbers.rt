@@ -1,10 +1,10 @@
 //! The numbers that kinds, states, bits and links have in their fields.
-ghost use Rattle.std.specs.Prelude.{◌≡◌, ◌<◌, ltb, Some, None, IfSome, IsTrue, if◌then◌else◌};
+ghost use Rattle.std.specs.Prelude.{◌≡◌, ◌^◌, ◌<◌, ltb, Some, None, IfSome, IsTrue, if◌then◌else◌};
 ghost use Rattle.sci_words.specs.Codes.{kind_number, kind_of, state_number, state_of};
-ghost use Rattle.sci_words.specs.Layout.{layout1, link_code, link_of, bit};
+ghost use Rattle.sci_words.specs.Layout.{link_width, no_link, link_code, link_of, bit};
 ghost use Rattle.sci_words.specs.Tag.{link_below};
 
-use crate::layouts::LAYOUT_1;
+use crate::layouts::Layout;
 use crate::memory::MemState;
 use crate::nodes::NodeId;
 use crate::tags::Kind;
@@ -81,25 +81,28 @@ pub(crate) fn number_of_bit(is_set: bool) -> u64
     if is_set { 1 } else { 0 }
 }
 
-/// The number of a link in its field.
-pub(crate) fn number_of_link(link: Option<NodeId>) -> u64
-    ensures number { result ≡ link_code layout1 link }
-    ensures below { result < 256 }
+/// The number of a link in its field, where the layout has room for that node.
+#[inline(always)]
+pub(crate) fn number_of_link(layout: Layout, link: Option<NodeId>) -> u64
+    requires { IsTrue (link_below (no_link layout) link) }
+    ensures number { result ≡ link_code layout link }
+    ensures below { result < 2 ^ link_width layout }
 {
     match link {
         Some(node) => node.get() as u64,
-        None => LAYOUT_1.no_link,
+        None => layout.no_link(),
     }
 }
 
 /// The link with this number in its field.
-pub(crate) fn link_numbered(number: u64) -> Option<NodeId>
-    requires { number < 256 }
-    ensures link { result ≡ link_of layout1 number }
-    ensures number { link_code layout1 result ≡ number }
-    ensures below { IsTrue (link_below 255 result) }
+#[inline(always)]
+pub(crate) fn link_numbered(layout: Layout, number: u64) -> Option<NodeId>
+    requires { number < 2 ^ link_width layout }
+    ensures link { result ≡ link_of layout number }
+    ensures number { link_code layout result ≡ number }
+    ensures below { IsTrue (link_below (no_link layout) result) }
 {
-    if number == LAYOUT_1.no_link {
+    if number == layout.no_link() {
         None
     } else {
         NodeId::new(number as u16)

@@ -1,7 +1,7 @@
 //! Each growth may be refused: its call then answers 7 or an `AllocError`, and a second try has the memory. With ample memory
 //! this test passes. tools/allocations runs it once for each growth of its table, with that one refused, and the test ends by
 //! saying which call answered it.
-use super::{SHARED, is_written_as, text_of};
+use super::{SHARED, SHARED_2, is_written_as, text_of};
 use crate::checks::same;
 use sci_dump::{Dump, DumpRefusal, Verdict, check, read_dump};
 use std::alloc::Global;
@@ -23,7 +23,7 @@ fn reads(rt: &impl Abort, alloc: Global) -> Result<Dump, Fail> {
 fn writes(rt: &impl Abort, alloc: Global, read: &Dump) -> Result<(), Fail> {
     match text_of(alloc, read) {
         Ok(text) => {
-            assert!(rt; text.as_str() == SHARED);
+            assert!(rt; text.as_str() == SHARED_2);
             Ok(())
         }
         Err(_) => {

@@ -1,4 +1,4 @@
-//! Words worked out by hand from the table of layout 1.
+//! Words worked out by hand from the table of layout 2.
 use crate::checks::{same, same_at};
 use sci_words::*;
 use std::process::Abort;
@@ -29,31 +29,31 @@ fn reads_and_writes_tags(rt: HostRuntime) {
     let node = NodeId::new;
     is_tag(
         &rt,
-        0xffff00,
+        0xffffffff0000,
         tag(Kind::Invalid, false, None, None),
         "INVALID",
     );
     is_tag(
         &rt,
-        0xff0102,
+        0xffff00010002,
         tag(Kind::Fresh, false, node(1), None),
         "HEAD_FRESH",
     );
     is_tag(
         &rt,
-        0x20007,
+        0x200000007,
         tag(Kind::Valid, false, node(0), node(2)),
         "MID_VALID",
     );
     is_tag(
         &rt,
-        0x20017,
+        0x200000017,
         tag(Kind::Valid, true, node(0), node(2)),
         "MID_VALID",
     );
     is_tag(
         &rt,
-        0x1ff07,
+        0x1ffff0007,
         tag(Kind::Valid, false, None, node(1)),
         "TAIL_VALID",
     );
@@ -64,9 +64,10 @@ fn refuses_tags(rt: HostRuntime) {
     for (word, refusal, number) in [
         (0, WordRefusal::LinkUnwanted, 4),
         (0xf, WordRefusal::UnknownKind, 1),
-        (0x800000000000ff00, WordRefusal::SpareBits, 2),
-        (0xff0007, WordRefusal::LinkMissing, 3),
-        (0xffff11, WordRefusal::HeldNotValid, 5),
+        (0x8000ffffffff0000, WordRefusal::SpareBits, 2),
+        (0xffffffff0020, WordRefusal::SpareBits, 2),
+        (0xffff00000007, WordRefusal::LinkMissing, 3),
+        (0xffffffff0011, WordRefusal::HeldNotValid, 5),
     ] {
         same(&rt, &read_tag(word), &Err(refusal));
         same(&rt, &refusal.number(), &number);
@@ -84,16 +85,16 @@ fn is_mem(rt: &impl Abort, word: u64, want: Mem, text: &str) {
 #[test]
 fn reads_and_writes_memory_words(rt: HostRuntime) {
     let node = NodeId::new;
-    is_mem(&rt, 0xff00, mem(MemState::Home, false, None), "HOME");
-    is_mem(&rt, 0x201, mem(MemState::Fresh, false, node(2)), "FRESH");
-    is_mem(&rt, 0x211, mem(MemState::Fresh, true, node(2)), "FRESH");
-    is_mem(&rt, 0x102, mem(MemState::Gone, false, node(1)), "GONE");
+    is_mem(&rt, 0xffff0000, mem(MemState::Home, false, None), "HOME");
+    is_mem(&rt, 0x20001, mem(MemState::Fresh, false, node(2)), "FRESH");
+    is_mem(&rt, 0x20011, mem(MemState::Fresh, true, node(2)), "FRESH");
+    is_mem(&rt, 0x10002, mem(MemState::Gone, false, node(1)), "GONE");
 }
 
 #[test]
 fn refuses_memory_words(rt: HostRuntime) {
     for (word, refusal, number) in [
-        (0xff01, WordRefusal::LinkMissing, 3),
+        (0xffff0001, WordRefusal::LinkMissing, 3),
         (0, WordRefusal::LinkUnwanted, 4),
         (3, WordRefusal::UnknownKind, 1),
     ] {
@@ -104,6 +105,6 @@ fn refuses_memory_words(rt: HostRuntime) {
 
 #[test]
 fn numbers_nodes(rt: HostRuntime) {
-    same(&rt, &NodeId::new(254).map(NodeId::get), &Some(254));
-    same(&rt, &NodeId::new(255), &None);
+    same(&rt, &NodeId::new(65534).map(NodeId::get), &Some(65534));
+    same(&rt, &NodeId::new(65535), &None);
 }

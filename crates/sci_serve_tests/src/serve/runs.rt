@@ -11,9 +11,9 @@ use std::thread::Threads;
 pub const ALONE: &str = "work = \"count\"\nnodes = 1\nadds = 3\ncapacity = 1\ndump = true\n";
 
 pub const ALONE_COUNTED: &str = "count 3\n\
-    scidump 1 1 1\n\
+    scidump 2 1 1\n\
     line 0 0000000000000002 0 0 0 0 0 0 0 0 0\n\
-    tag 0 0 0000000000ffff03 3 3 0 0 0 0 0 0 0\n\
+    tag 0 0 0000ffffffff0003 3 3 0 0 0 0 0 0 0\n\
     end\n";
 
 // The fault of settings that come byte by byte, and what is written.

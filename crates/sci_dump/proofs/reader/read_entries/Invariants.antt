@@ -8,7 +8,7 @@ use Rattle.sci_dump.proofs.reader.read_entries.Given as goal
 abbrev pub invariant-loop-node : goal.invariant-loop-node
 invariant-loop-node l =
     record {
-      left : with_nodes l.tags.items l.lines.items (entries_at l.line l.node (l.nodes - l.node) l.at l.rest) ≡ entries_at l.line 0 l.nodes l.number l.text;
+      left : with_nodes l.layout l.tags.items l.lines.items (entries_at l.layout l.line l.node (l.nodes - l.node) l.at l.rest) ≡ entries_at l.layout l.line 0 l.nodes l.number l.text;
       well_formed : All (λ t. tag_well_formed t ≡ true) l.tags.items;
       tags : length l.tags.items ≡ l.node;
       lines : length l.lines.items ≡ l.node;

@@ -7,8 +7,8 @@ use Rattle.sci_dump.proofs.reader.read_lines.Given as goal
 abbrev pub invariant-loop-line : goal.invariant-loop-line
 invariant-loop-line l =
     record {
-      left : with_lines l.lines.items (lines_at l.line (l.count - l.line) l.nodes l.number l.rest) ≡ lines_at 0 l.count l.nodes 2 l.text;
+      left : with_lines l.layout l.lines.items (lines_at l.layout l.line (l.count - l.line) l.nodes l.number l.rest) ≡ lines_at l.layout 0 l.count l.nodes 2 l.text;
       each : All (λ c. length c.tags ≡ l.nodes) l.lines.items;
       count : length l.lines.items ≡ l.line;
-      near : l.number ≤ 2 + 65 * l.line;
+      near : l.number ≤ 2 + 1025 * l.line;
     }

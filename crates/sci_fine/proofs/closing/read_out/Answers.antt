@@ -16,7 +16,7 @@ word-requires g c = (omega (arith, c.requires.counts.0), c.requires.full.0)
 
 pub unreachable-requires : goal.unreachable-requires
 unreachable-requires g c =
-    let t = c.args.terms in let small : t.nodes ≤ 255 = omega (arith, c.requires.nodes) in
+    let t = c.args.terms in let small : t.nodes ≤ 65535 = omega (arith, c.requires.nodes) in
     let k = mem_found g.K.Keeps.fits t small c.requires.rest.0 (slots_items c.args.table.words) (slots_items c.args.table.slots) c.requires.rest.1 c.word.result c.word.ensures in
     ok_err c.read_mem.result c.requires.rest.1.state.memory c.in-Err.field-0 (c.read_mem.ensures.of_code c.requires.rest.1.state.memory k.0 k.1 k.2) c.in-Err.is
 
@@ -51,7 +51,7 @@ word-requires-in-loop-node g c =
 
 pub unreachable-requires-in-Err-read_tag : goal.unreachable-requires-in-Err-read_tag
 unreachable-requires-in-Err-read_tag g c =
-    let t = c.args.terms in let small : t.nodes ≤ 255 = omega (arith, c.requires.nodes) in
+    let t = c.args.terms in let small : t.nodes ≤ 65535 = omega (arith, c.requires.nodes) in
     let i = c.loop-node.invariant in let w = i.words ∙ c.take-memory.ensures.others.3 in let n : ℕ = c.loop-node.node in
     let one : suc n ≡ n + 1 = omega arith in let next : lies_at (suc n) ≡ c.lies_at.result = ap lies_at one ∙ sym c.lies_at.ensures in
     let at : get_elem? (slots_items c.args.table.words) (lies_at (suc n)) ≡ some c.word-in-loop-node.result = ap (λ z. get_elem? (slots_items z) (lies_at (suc n))) (sym w) ∙ (ap (get_elem? (slots_items c.loop-node.table.words)) next ∙ c.word-in-loop-node.ensures) in
@@ -95,7 +95,7 @@ free-requires g c = λ k near. let i = c.loop-node.invariant in i.taken k (omega
 pub invariant_of-result : goal.invariant_of-result
 invariant_of-result g c =
     let i = c.loop-node.invariant in let t = c.take-memory.ensures in let ws = slots_items c.args.table.words in let xs = slots_items c.args.table.slots in
-    let small : c.args.terms.nodes ≤ 255 = omega (arith, c.requires.nodes) in let end : c.loop-node.node ≡ c.args.terms.nodes = omega arith in
+    let small : c.args.terms.nodes ≤ 65535 = omega (arith, c.requires.nodes) in let end : c.loop-node.node ≡ c.args.terms.nodes = omega arith in
     let read = subst (λ (z : List ℕ × List Line × ℕ). HasRead z.0 z.1 z.2 c.loop-node.tags.items c.loop-node.lines.items) (λ k. (ap slots_items t.others.3 k, t.others.0 k, end k)) i.read in
     let mem = mem_stands g.K.Keeps.fits c.args.terms small c.requires.rest.0 ws xs c.requires.rest.1 c.in-Ok.mem c.word.result c.word.ensures c.in-Ok.ensures.links c.in-Ok.ensures.code in
     closed_well g.K.Keeps.fits c.args.terms small c.requires.rest.0 ws xs c.requires.rest.1 c.in-Ok.mem c.take-memory.result c.loop-node.tags.items c.loop-node.lines.items mem t.value read
@@ -103,7 +103,7 @@ invariant_of-result g c =
 pub returns : goal.returns
 returns g c = λ logs rest.
     let i = c.loop-node.invariant in let t = c.take-memory.ensures in let ws = slots_items c.args.table.words in let xs = slots_items c.args.table.slots in
-    let small : c.args.terms.nodes ≤ 255 = omega (arith, c.requires.nodes) in let end : c.loop-node.node ≡ c.args.terms.nodes = omega arith in
+    let small : c.args.terms.nodes ≤ 65535 = omega (arith, c.requires.nodes) in let end : c.loop-node.node ≡ c.args.terms.nodes = omega arith in
     let read = subst (λ (z : List ℕ × List Line × ℕ). HasRead z.0 z.1 z.2 c.loop-node.tags.items c.loop-node.lines.items) (λ k. (ap slots_items t.others.3 k, t.others.0 k, end k)) i.read in
     let mem = mem_stands g.K.Keeps.fits c.args.terms small logs ws xs rest c.in-Ok.mem c.word.result c.word.ensures c.in-Ok.ensures.links c.in-Ok.ensures.code in
     ends g.K.Keeps.fits c.args.terms small logs ws xs rest c.in-Ok.mem c.take-memory.result c.loop-node.tags.items c.loop-node.lines.items mem t.value read

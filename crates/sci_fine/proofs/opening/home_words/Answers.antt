@@ -7,4 +7,4 @@ laid ws k k' tag tag' mem mem' filled long same_tag same_mem = (λ i. set (fille
 
 pub returns : goal.returns
 returns c =
-    laid c.in_ok-words.words.items _ _ _ _ _ _ (c.in_ok-words.ensures.items_if_clones_equal (λ y e. e)) (c.lies_at-count.ensures ∙ ap (λ (z : ℕ). lies_at (z + 1)) c.from.ensures) c.write_tag.ensures c.write_mem.ensures
+    laid c.in_ok-words.words.items _ _ _ _ _ _ (c.in_ok-words.ensures.items_if_clones_equal (λ y e. e)) (c.lies_at-count.ensures ∙ ap (λ (z : ℕ). lies_at (z + 1)) c.from.ensures) c.write_tag.ensures.code c.write_mem.ensures.code

@@ -4,6 +4,7 @@ use borrow.Author.Count.{falls}
 use Rattle.std.proofs.lemmas.List.{take_all}
 use Rattle.std.proofs.lemmas.List.Elements.{All-replicate}
 use Rattle.std.proofs.lemmas.Result.{err_from_is_err_and}
+use Rattle.sci_core.specs.declared.whole.TheConstants.{MOST_NODES}
 use Rattle.sci_script.specs.declared.commands.Size.{Size}
 use Rattle.sci_script.specs.declared.commands.Step.{Step}
 use Rattle.sci_script.specs.declared.wholes.WholeDesk.{WholeDesk}
@@ -28,7 +29,7 @@ loop-step-init g c =
     record {
       size = c.requires;
       noted = refl;
-      range = All-replicate (λ (w : ℕ). w < 8) 64 0 (omega arith);
+      range = All-replicate (λ (w : ℕ). w < 8) MOST_NODES 0 (omega arith);
       empty = c.new.ensures.empty;
       whole = c.new.ensures.whole;
       written = ([], traces_none (shared_of c.args.desk.now.desk), tells_none no_words (shared_of c.args.desk.now.desk), coded_nil c.args.coding _);
@@ -40,7 +41,7 @@ perform-performed-requires g c =
     record {
       empty = c.clear.ensures.bytes;
       command = command_fits script.size c.loop-step.desk.size c.steps-step-items.result.now script.steps.items c.loop-step.step-index c.step-item.result script.fits c.steps-step-items.ensures c.loop-step-test.true c.step-item.is c.loop-step.invariant.size;
-      few = c.loop-step.desk.few;
+      few = subst (λ (size : Size). size.nodes ≤ MOST_NODES) (sym c.loop-step.invariant.size) script.is_size.few_nodes;
       words = c.loop-step.invariant.range;
     }
 
@@ -48,7 +49,7 @@ pub note-requires : goal.note-requires
 note-requires g c =
     let script = c.args.script.now in
     record {
-      few = c.args.desk.now.few;
+      few = subst (λ (size : Size). size.nodes ≤ MOST_NODES) (sym c.requires) script.is_size.few_nodes;
       command = command_fits script.size c.args.desk.now.size c.steps-step-items.result.now script.steps.items c.loop-step.step-index c.step-item.result script.fits c.steps-step-items.ensures c.loop-step-test.true c.step-item.is c.requires;
       words = c.loop-step.invariant.range;
     }

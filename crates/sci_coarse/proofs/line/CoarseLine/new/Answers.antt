@@ -14,11 +14,11 @@ returns-then-nodes-eq0 g c = record {
 }
 
 pub open-requires : goal.open-requires
-open-requires g c = record { fits = c.requires; nodes = (pos_of_ne-zero c.if-nodes-eq0.false, c.if-nodes-gt64.false) }
+open-requires g c = record { fits = c.requires; nodes = (pos_of_ne-zero c.if-nodes-eq0.false, c.if-nodes-gt-MOST_NODES.false) }
 
 pub returns-in_default : goal.returns-in_default
 returns-in_default g c = record {
-  nodes = ((λ e. absurd (other_refusal e)), ⊎_elim (λ none. absurd (c.if-nodes-eq0.false none)) (λ many. absurd (not-le_of_lt many c.if-nodes-gt64.false)));
+  nodes = ((λ e. absurd (other_refusal e)), ⊎_elim (λ none. absurd (c.if-nodes-eq0.false none)) (λ many. absurd (not-le_of_lt many c.if-nodes-gt-MOST_NODES.false)));
   terms = tt;
   seats = tt;
   new = tt;
@@ -37,7 +37,7 @@ pub returns : goal.returns
 returns g c =
     let terms = c.in-Ok.ensures.0 in let made = c.seat_all.ensures in
     record {
-      nodes = ((λ e. absurd (no_refusal _ e)), ⊎_elim (λ none. absurd (c.if-nodes-eq0.false none)) (λ many. absurd (not-le_of_lt many c.if-nodes-gt64.false)));
+      nodes = ((λ e. absurd (no_refusal _ e)), ⊎_elim (λ none. absurd (c.if-nodes-eq0.false none)) (λ many. absurd (not-le_of_lt many c.if-nodes-gt-MOST_NODES.false)));
       terms = record { nodes = ap (λ t. t.nodes) terms; number = ap (λ t. t.number) terms; opening = ap (λ t. t.opening) terms; keep = ap (λ t. t.keep) terms };
       seats = (made.len ∙ ap (λ t. t.nodes) terms, made.seats);
       new = made.new;

@@ -20,14 +20,14 @@ look-found-requires g c =
 pub unreachable-requires : goal.unreachable-requires
 unreachable-requires g c =
     let s = c.args.self.now in let t = s.standing.terms in
-    let sized = c.args.line.now.sized in let nodes = ap (λ z. z.nodes) c.requires.of.1 in let small : t.nodes ≤ 255 = omega (arith, nodes, sized.4) in
+    let sized = c.args.line.now.sized in let nodes = ap (λ z. z.nodes) c.requires.of.1 in let small : t.nodes ≤ 65535 = omega (arith, nodes, sized.4) in
     let below : s.token.me.0.node < t.nodes = subst (λ (z : ℕ). z < t.nodes) (sym s.seen.0) s.below in
     reading.own_never g.K.Keeps.fits t s.token.me c.look-found.new.token.me c.look-found.result small below c.in-Err.field-0 _ (c.look-found.ensures.looked t s.of) _ c.read_tag.ensures.of_code c.in-Err.is
 
 pub look-requires : goal.look-requires
 look-requires g c =
     let s = c.args.self.now in let t = s.standing.terms in let x : ℕ = s.standing.node in let p : Pending = s.standing.pending in
-    let sized = c.args.line.now.sized in let nodes = ap (λ z. z.nodes) c.requires.of.1 in let small : t.nodes ≤ 255 = omega (arith, nodes, sized.4) in
+    let sized = c.args.line.now.sized in let nodes = ap (λ z. z.nodes) c.requires.of.1 in let small : t.nodes ≤ 65535 = omega (arith, nodes, sized.4) in
     let below : s.token.me.0.node < t.nodes = subst (λ (z : ℕ). z < t.nodes) (sym s.seen.0) s.below in
     let looks = c.look-found.ensures.looked t s.of in
     let came = reading.own_came g.K.Keeps.fits t s.token.me c.look-found.new.token.me c.look-found.result small below _ c.requires.note looks _ c.read_tag.ensures.of_code c.in-Ok.tag c.in-Ok.is in
@@ -37,7 +37,7 @@ look-requires g c =
 pub invariant_of-self : goal.invariant_of-self
 invariant_of-self g c =
     let s = c.args.self.now in let t = s.standing.terms in let x : ℕ = s.standing.node in let p : Pending = s.standing.pending in
-    let sized = c.args.line.now.sized in let nodes = ap (λ z. z.nodes) c.requires.of.1 in let small : t.nodes ≤ 255 = omega (arith, nodes, sized.4) in
+    let sized = c.args.line.now.sized in let nodes = ap (λ z. z.nodes) c.requires.of.1 in let small : t.nodes ≤ 65535 = omega (arith, nodes, sized.4) in
     let below : s.token.me.0.node < t.nodes = subst (λ (z : ℕ). z < t.nodes) (sym s.seen.0) s.below in
     let looks = c.look-found.ensures.looked t s.of in
     let came = reading.own_came g.K.Keeps.fits t s.token.me c.look-found.new.token.me c.look-found.result small below _ c.requires.note looks _ c.read_tag.ensures.of_code c.in-Ok.tag c.in-Ok.is in
@@ -54,7 +54,7 @@ invariant_of-self g c =
 pub returns : goal.returns
 returns g c =
     let s = c.args.self.now in let t = s.standing.terms in let x : ℕ = s.standing.node in let p : Pending = s.standing.pending in
-    let sized = c.args.line.now.sized in let nodes = ap (λ z. z.nodes) c.requires.of.1 in let small : t.nodes ≤ 255 = omega (arith, nodes, sized.4) in
+    let sized = c.args.line.now.sized in let nodes = ap (λ z. z.nodes) c.requires.of.1 in let small : t.nodes ≤ 65535 = omega (arith, nodes, sized.4) in
     let below : s.token.me.0.node < t.nodes = subst (λ (z : ℕ). z < t.nodes) (sym s.seen.0) s.below in
     let looks = c.look-found.ensures.looked t s.of in
     let came = reading.own_came g.K.Keeps.fits t s.token.me c.look-found.new.token.me c.look-found.result small below _ c.requires.note looks _ c.read_tag.ensures.of_code c.in-Ok.tag c.in-Ok.is in

@@ -19,14 +19,14 @@ invariant_of-self g c =
 pub unreachable-requires : goal.unreachable-requires
 unreachable-requires g c =
     let s = c.args.self.now in let t = s.standing.terms in let x : ℕ = s.standing.node in let p : Pending = s.standing.pending in
-    let sized = c.args.line.now.sized in let nodes = ap (λ z. z.nodes) c.requires.of.1 in let small : t.nodes ≤ 255 = omega (arith, nodes, sized.4) in
+    let sized = c.args.line.now.sized in let nodes = ap (λ z. z.nodes) c.requires.of.1 in let small : t.nodes ≤ 65535 = omega (arith, nodes, sized.4) in
     let below : s.token.me.0.node < t.nodes = subst (λ (z : ℕ). z < t.nodes) (sym s.seen.0) s.below in
     reading.mem_never g.K.Keeps.fits t s.token.me c.load-found.new.token.me c.load-found.result small below c.in-Err.field-0 (c.load-found.ensures.loaded t s.of) _ c.read_mem.ensures.of_code c.in-Err.is
 
 pub returns : goal.returns
 returns g c =
     let s = c.args.self.now in let t = s.standing.terms in let x : ℕ = s.standing.node in let p : Pending = s.standing.pending in
-    let sized = c.args.line.now.sized in let nodes = ap (λ z. z.nodes) c.requires.of.1 in let small : t.nodes ≤ 255 = omega (arith, nodes, sized.4) in
+    let sized = c.args.line.now.sized in let nodes = ap (λ z. z.nodes) c.requires.of.1 in let small : t.nodes ≤ 65535 = omega (arith, nodes, sized.4) in
     let below : s.token.me.0.node < t.nodes = subst (λ (z : ℕ). z < t.nodes) (sym s.seen.0) s.below in
     let came = reading.mem_came g.K.Keeps.fits t s.token.me c.load-found.new.token.me c.load-found.result small below (c.load-found.ensures.loaded t s.of) _ c.read_mem.ensures.of_code c.in-Ok.mem c.in-Ok.is in
     let q = sits g.K.Keeps.fits t x p (MemWas (Some c.in-Ok.mem)) s.token.me.0 c.load-found.new.token.me.0 _ _ p s.of s.seen s.hand came (ap (λ u. u.pending) (c.load-found.ensures.loaded t s.of).view ∙ s.seen.1) in

@@ -4,6 +4,7 @@ use Rattle.std.proofs.lemmas.List.{length-append}
 use Rattle.std.proofs.KnownBytes.{Appends-nil, Appends-trans}
 use Rattle.std.proofs.lemmas.List.Elements.{All-replicate}
 use Rattle.std.proofs.lemmas.Result.{err_from_is_err_and}
+use Rattle.sci_core.specs.declared.whole.TheConstants.{MOST_NODES}
 use Rattle.sci_script.specs.declared.commands.Size.{Size}
 use Rattle.sci_script.specs.declared.commands.Step.{Step}
 use Rattle.sci_script.specs.Request.{no_words, words_after}
@@ -16,7 +17,7 @@ loop-step-init g c =
     record {
       size = c.requires;
       noted = refl;
-      range = All-replicate (λ (w : ℕ). w < 8) 64 0 (omega arith);
+      range = All-replicate (λ (w : ℕ). w < 8) MOST_NODES 0 (omega arith);
       written = ([], prints_none g.D.Desk.is_open g.D.Desk.does no_words c.args.desk.now, Appends-nil _);
     }
 
@@ -30,7 +31,7 @@ perform-requires-clause-command g c =
     c.loop-step-test.true c.step-item.is c.loop-step.invariant.size
 
 pub perform-requires-clause-few : goal.perform-requires-clause-few
-perform-requires-clause-few g c = let script = c.args.self.now in subst (λ (size : Size). size.nodes ≤ 64) (sym c.loop-step.invariant.size) script.is_size.few_nodes
+perform-requires-clause-few g c = let script = c.args.self.now in subst (λ (size : Size). size.nodes ≤ MOST_NODES) (sym c.loop-step.invariant.size) script.is_size.few_nodes
 
 pub perform-requires-clause-words : goal.perform-requires-clause-words
 perform-requires-clause-words g c = c.loop-step.invariant.range
