@@ -3,8 +3,8 @@
 A row names calls, as `read_tag` or `Whole::{mem, tag}`; whether they take memory, `yes` or `none`; whether they may wait, `may` or
 `no`; and where that is seen: tests, as `sci_line_tests::whole::growths::refused_growths`, or `in` calls that are made of these.
 
-A public call is a `pub fn` or a trait's `fn` that lib.rt hands on by its name or by the name of its type. Each must stand in one row,
-and each name of a row must be one. A call that takes memory must be in the growths of a test that its row names, or be `in` calls
+A public call is a `pub fn` or a trait's `fn` that lib.rt hands on by its name or by the name of its type, or that a public module has:
+a function of a public module is named with it, as `layout1::read_tag`. Each must stand in one row, and each name of a row must be one. A call that takes memory must be in the growths of a test that its row names, or be `in` calls
 that are. Where an allocator comes in, and the call takes no memory, a test must say so. A call may wait where a bound says `Wait`.
 """
 
@@ -19,13 +19,14 @@ GROWING = re.compile(r"\bof (\w+)")
 
 
 def handed_on(crate):
-    """The names that a crate's lib.rt hands on, with those of the modules that are public themselves."""
+    """The names that a crate's lib.rt hands on, with those of types of the modules that are public themselves; and these modules."""
     text = (crate / "src/lib.rt").read_text(encoding="utf-8")
     names = {name.strip() for many, one in USES.findall(text) for name in (many or one).split(",") if name.strip()}
-    for module in re.findall(r"(?m)^pub mod (\w+);", text):
+    modules = re.findall(r"(?m)^pub mod (\w+);", text)
+    for module in modules:
         inner = (crate / f"src/{module}.rt").read_text(encoding="utf-8")
-        names |= set(re.findall(r"(?m)^pub (?:struct|enum|trait|fn) (\w+)", inner))
-    return names
+        names |= set(re.findall(r"(?m)^pub (?:struct|enum|trait) (\w+)", inner))
+    return names, modules
 
 
 def signature(text, start):
@@ -46,18 +47,19 @@ def type_of(head):
 
 def calls_of(crate):
     """The public calls of a crate, each with whether an allocator comes in and whether it may wait."""
-    public, found = handed_on(crate), {}
+    (public, modules), found = handed_on(crate), {}
     for file in sorted(crate.glob("src/**/*.rt")):
         text, owner, is_trait = file.read_text(encoding="utf-8"), None, False
+        module = file.stem if file.parent.name == "src" and file.stem in modules else None
         for item in ITEM.finditer(text):
             kind, head, indent, is_public, name = item.groups()
             if kind:
                 owner, is_trait = (type_of(head) if kind in ("impl", "pub trait") else None), kind == "pub trait"
                 continue
-            holder = owner if indent else name
-            if holder in public and (is_public or (is_trait and indent)):
+            is_handed_on = (owner if indent else name) in public or (module and not indent)
+            if is_handed_on and (is_public or (is_trait and indent)):
                 text_of = signature(text, item.end())
-                call = f"{owner}::{name}" if indent else name
+                call = f"{owner if indent else module}::{name}" if indent or module else name
                 found[call] = (bool(re.search(r"\b(Global|AllocGlobal)\b", text_of)), bool(re.search(r"\bWait\b", text_of)))
     return found
 

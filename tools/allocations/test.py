@@ -61,14 +61,17 @@ CASES = [
 ]
 
 
-# a crate of two calls that are handed on, of which one takes memory, and of two that aren't; its table, and a crate of its tests
+# a crate of two calls that are handed on, of which one takes memory, of two that aren't, and of one in a public module; its table, and
+# a crate of its tests
 CRATE = {
-    "crates/one/src/lib.rt": "mod calls;\npub use calls::{Line, read};\n",
+    "crates/one/src/lib.rt": "mod calls;\npub mod old;\npub use calls::{Line, read};\n",
+    "crates/one/src/old.rt": "fn inner(word: u64) {\n}\n\npub fn read(word: u64) -> u64 {\n}\n",
     "crates/one/src/calls.rt": "pub fn read(word: u64) -> u64 {\n}\n\npub fn inner(alloc: Global) {\n}\n\nimpl<K: Keeps> Line<K> {\n"
     "    pub fn open(\n        alloc: Global,\n    ) -> Line {\n    }\n\n    fn own(alloc: Global) {\n    }\n}\n",
     "crates/one_tests/src/lib.rt": "",
     "crates/one_tests/src/lines/growths.rt": "/// Growths: 2 of open.\n#[test]\nfn growths() {\n}\n",
     "docs/MEMORY.md": "## one\n\n| calls | memory | waits | seen in |\n|---|---|---|---|\n"
+    "| `old::{read}` | none | no | its signature |\n"
     "| `read` | none | no | its signature |\n| `Line::{open}` | yes | no | `one_tests::lines::growths::growths` |\n",
 }
 OPEN, READ = CRATE["docs/MEMORY.md"].splitlines()[-1], CRATE["docs/MEMORY.md"].splitlines()[-2]
@@ -78,6 +81,8 @@ TABLES = [
     ("the table as it is", "docs/MEMORY.md", "", "", None),
     ("a missing row", "docs/MEMORY.md", READ + "\n", "", "read stands in no row"),
     ("a missing row of a call with an allocator", "docs/MEMORY.md", OPEN + "\n", "", "Line::open stands in no row"),
+    ("a missing row of a public module's call", "docs/MEMORY.md", "| `old::{read}` | none | no | its signature |\n", "", "old::read stands in no row"),
+    ("a row of a public module's own", "docs/MEMORY.md", "`old::{read}`", "`old::{read, inner}`", "there is no public call old::inner"),
     ("a stale row", "docs/MEMORY.md", "`read`", "`read`, `write`", "there is no public call write"),
     ("a row of a call that isn't handed on", "docs/MEMORY.md", "`read`", "`read`, `inner`", "there is no public call inner"),
     ("two rows of a call", "docs/MEMORY.md", READ, READ + "\n" + READ, "read stands in 2 rows"),

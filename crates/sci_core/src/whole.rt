@@ -16,6 +16,9 @@ use sci_words::{Kind, LineNo, Mem, MemState, NodeId, Tag};
 use std::alloc::Global;
 use std::marker::Model;
 
+/// How many nodes a line has at the most.
+pub const MOST_NODES: u16 = 1024;
+
 /// The state of one line of 1 to 1,024 nodes: the memory word, each node's tag and pending step, and all slots. Between any
 /// two of its calls it is lawful.
 #[derive(Drop)]
@@ -41,9 +44,7 @@ impl<K: Keeps> Model for Whole<K> {
     ghost invariant = { λ w. IsLaid (K.fits w.keep w.number) w.keep w.number w.memory w.tags.items w.stages.items w.memory_bytes w.lines.items };
 }
 
-/// A line has 1 to so many nodes.
-pub const MOST_NODES: u16 = 1024;
-
+// A line has at least one node, and no more than the most.
 fn is_node_count(nodes: u16) -> bool
     ensures good { result ≡ true → (0 < nodes) × (nodes ≤ MOST_NODES) }
     ensures bad { result ≡ false → (nodes ≡ 0) ⊎ (MOST_NODES < nodes) }

@@ -197,8 +197,9 @@ fn parse(alloc: Global, text: &[u8]) -> Result<Dump, DumpRefusal>
     Ok(Dump { nodes, lines })
 }
 
-/// Reads a dump: Ok with the value that the definition of reading (`specs/Reading.antt`) reads, whose dump in one of the layouts is this very text; else
-/// refusal 21 at the line of text that it names, counted from 1. Refusal 7: a growth of memory was refused.
+/// Reads a dump of either layout: of layout 1 with 1 to 64 nodes, of layout 2 with 1 to 1,024. Ok with the value that the definition
+/// of reading (`specs/Reading.antt`) reads, whose dump in that layout is this very text; else refusal 21 at the line of text that it
+/// names, counted from 1. Refusal 7: a growth of memory was refused.
 pub fn read_dump(alloc: Global, text: &[u8]) -> Result<Dump, DumpRefusal>
     ensures exact { Gives (λ d. d) result (dump_of text.now) }
     // What was read is written as the text that was read, in the layout that the text begins with.

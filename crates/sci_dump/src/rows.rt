@@ -1,20 +1,20 @@
 //! The lines of text of a dump.
 
 ghost use Rattle.std.specs.Prelude.{◌≡◌, ◌≤◌, true, IfSome, IfOk};
+ghost use Rattle.std.specs.Result.{result_err};
+ghost use Rattle.sci_words.specs.Codes.{mem_code_in, tag_code_in, fits_mem_in, fits_tag_in};
 ghost use Rattle.sci_words.specs.Mem.{mem_well_formed};
+ghost use Rattle.sci_words.specs.Refused.{mem_refusal_in, tag_refusal_in};
 ghost use Rattle.sci_words.specs.Tag.{is_invalid, tag_well_formed};
+ghost use Rattle.sci_core.specs.declared.whole.TheConstants.{MOST_NODES};
 ghost use Rattle.sci_dump.specs.Reading.{Reads, mem_of, tag_of, labelled_at, memory_at, node_at, tag_at, counted_at, layout_at, head_at};
 ghost use Rattle.sci_dump.specs.Text.{nodes_in};
-ghost use Rattle.sci_core.specs.declared.whole.TheConstants.{MOST_NODES};
-ghost use Rattle.sci_words.specs.Codes.{mem_code_in, tag_code_in, fits_mem_in, fits_tag_in};
-ghost use Rattle.sci_words.specs.Refused.{mem_refusal_in, tag_refusal_in};
-ghost use Rattle.std.specs.Result.{result_err};
 
 use crate::fields::{behind, content, count, numbered, word};
 use sci_core::{Line, MOST_NODES};
 use sci_words::{Kind, Layout, Mem, Tag, WordRefusal, layout1, read_mem, read_tag};
 
-/// The memory word of this number in a layout.
+/// The memory word with this code in a layout, or why there is none.
 fn read_mem_in(layout: Layout, word: u64) -> Result<Mem, WordRefusal>
     ensures refusal { result_err result ≡ mem_refusal_in layout word }
     ensures code { IfOk result (λ m. mem_code_in layout m ≡ word) }
@@ -26,7 +26,7 @@ fn read_mem_in(layout: Layout, word: u64) -> Result<Mem, WordRefusal>
     }
 }
 
-/// The tag of this number in a layout.
+/// The tag with this code in a layout, or why there is none.
 fn read_tag_in(layout: Layout, word: u64) -> Result<Tag, WordRefusal>
     ensures refusal { result_err result ≡ tag_refusal_in layout word }
     ensures code { IfOk result (λ t. tag_code_in layout t ≡ word) }
@@ -125,7 +125,7 @@ fn counted<'a>(label: &[u8], most: u64, text: &'a [u8]) -> Option<(u64, &'a [u8]
     count(most, text)
 }
 
-/// The layout that a dump begins with.
+/// The layout that a dump begins with, and what stands behind it.
 fn layout(text: &[u8]) -> Option<(Layout, &[u8])>
     ensures exact { Reads (λ x. (x.0, x.1.now)) result (layout_at text.now) }
 {
@@ -136,7 +136,7 @@ fn layout(text: &[u8]) -> Option<(Layout, &[u8])>
     Some((Layout::Two, rest))
 }
 
-/// How many nodes a dump in this layout may have.
+/// How many nodes a dump in this layout has at the most.
 fn nodes_in(layout: Layout) -> u64
     ensures { result ≡ nodes_in layout }
 {

@@ -1,6 +1,6 @@
 //! How a line is closed, and its seats with it.
-ghost use Rattle.sci_core.specs.declared.whole.TheConstants.{MOST_NODES};
 ghost use Rattle.std.specs.Prelude.{◌≡◌, ℕ, ◌↔◌, ◌+◌, ◌<◌, ◌≤◌, Some, List, ◌∷◌, length, IsTrue, IfOk, IfErr, vec_len, vec_capacity};
+ghost use Rattle.sci_core.specs.declared.whole.TheConstants.{MOST_NODES};
 ghost use Rattle.sci_port.specs.declared.calls.Call as a_call;
 ghost use Rattle.std.specs.Slots.{slots_items, slots_len, IsFull};
 ghost use Rattle.sci_core.specs.declared.pending.Pending.TheVariants.{Idle};

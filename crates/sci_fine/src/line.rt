@@ -1,7 +1,7 @@
 //! The line on its words.
 ghost use Rattle.std.specs.Prelude.{◌≡◌, ◌+◌, ◌<◌, ◌≤◌};
-ghost use Rattle.sci_fine.specs.Rule.{lies_at};
 ghost use Rattle.sci_core.specs.declared.whole.TheConstants.{MOST_NODES};
+ghost use Rattle.sci_fine.specs.Rule.{lies_at};
 
 use crate::views::{Sharing, Terms, View};
 use atomic_table::Table;

@@ -1,5 +1,5 @@
 //! Dumps that are read, checked and written again, and texts that are none.
-ghost use Rattle.std.specs.Prelude.{◌<◌};
+ghost use Rattle.std.specs.Prelude.{◌<◌, ◌+◌, ◌^◌};
 
 mod growths;
 mod memory;
@@ -13,12 +13,20 @@ use std::alloc::{AllocError, Global};
 use std::process::Abort;
 use std::test::Fail;
 
-/// The dump of one line that nodes 0, 1 and 2 have loaded, in this order.
+/// The dump of one line that nodes 0, 1 and 2 have loaded, in this order, in layout 1.
 const SHARED: &str = "scidump 1 3 1\n\
     line 0 0000000000000201 0 0 0 0 0 0 0 0 0\n\
     tag 0 0 000000000001ff07 0 0 0 0 0 0 0 0 0\n\
     tag 0 1 0000000000020007 0 0 0 0 0 0 0 0 0\n\
     tag 0 2 0000000000ff0102 0 0 0 0 0 0 0 0 0\n\
+    end\n";
+
+/// The same dump in layout 2.
+const SHARED_2: &str = "scidump 2 3 1\n\
+    line 0 0000000000020001 0 0 0 0 0 0 0 0 0\n\
+    tag 0 0 00000001ffff0007 0 0 0 0 0 0 0 0 0\n\
+    tag 0 1 0000000200000007 0 0 0 0 0 0 0 0 0\n\
+    tag 0 2 0000ffff00010002 0 0 0 0 0 0 0 0 0\n\
     end\n";
 
 /// SHARED with one change, and its verdict.
@@ -159,40 +167,33 @@ fn verdicts(rt: HostRuntime) {
     }
 }
 
-/// The dump of the same line in layout 2.
-const SHARED_2: &str = "scidump 2 3 1\n\
-    line 0 0000000000020001 0 0 0 0 0 0 0 0 0\n\
-    tag 0 0 00000001ffff0007 0 0 0 0 0 0 0 0 0\n\
-    tag 0 1 0000000200000007 0 0 0 0 0 0 0 0 0\n\
-    tag 0 2 0000ffff00010002 0 0 0 0 0 0 0 0 0\n\
-    end\n";
-
-/// A dump of layout 1 is written again in layout 2.
+/// A dump of either layout is written again in layout 2.
 #[test]
-fn layout_1_is_written_in_layout_2(rt: HostRuntime) -> Result<(), Fail> {
+fn writes_layout_2(rt: HostRuntime) -> Result<(), Fail> {
     for text in [SHARED, SHARED_2] {
         let read = read_dump(rt.alloc(), text.as_bytes())?;
-        let written = text_of(rt.alloc(), &read)?;
-        same(&rt, &written.as_str(), &SHARED_2);
-    }
-    same(
-        &rt,
-        &judged(rt.alloc(), SHARED_2),
-        &Some((3, Verdict::Lawful)),
-    );
-    for (new, fault) in [
-        ("scidump 2 1024 1", 0),
-        ("scidump 2 1025 1", 1),
-        ("scidump 2 0 1", 1),
-    ] {
-        let found = fault_with(rt.alloc(), SHARED_2, "scidump 2 3 1", new);
-        if fault == 1 {
-            same_at(&rt, &new, &found, &Some(1));
-        } else {
-            same_at(&rt, &new, &found, &None);
-        }
+        same_at(&rt, &text, &check(&read), &Verdict::Lawful);
+        same_at(&rt, &text, &text_of(rt.alloc(), &read)?.as_str(), &SHARED_2);
     }
     Ok(())
+}
+
+/// First lines in layout 2, and the line of the fault that SHARED_2 has with them.
+const HEADS: [(&str, Option<u64>); 6] = [
+    ("scidump 2 1024 1", None),
+    ("scidump 2 1025 1", Some(1)),
+    ("scidump 2 0 1", Some(1)),
+    ("scidump 2 3 1025", Some(1)),
+    ("scidump 1 3 1", Some(2)),
+    ("scidump 20 3 1", Some(1)),
+];
+
+#[test]
+fn reads_layout_2(rt: HostRuntime) {
+    for (head, fault) in &HEADS {
+        let found = fault_with(rt.alloc(), SHARED_2, "scidump 2 3 1", head);
+        same_at(&rt, head, &found, fault);
+    }
 }
 
 /// Two lines of two nodes: the first is unused, the second is node 1's alone, dirty.
@@ -388,15 +389,26 @@ fn a_closed_line_is_dumped_and_read_back(rt: HostRuntime) -> Result<(), Fail> {
     is_read_back(&rt, rt.alloc(), &lines, text.as_str())
 }
 
-// The word of a node's tag, where 63 is the head, in front of 62, and so on to 0.
-fn word_of(node: u64) -> u64
-    requires { node < 64 }
+/// How a layout writes: its number, how many bits a link has, and the number that stands for none.
+type Form = (u64, u32, u64);
+
+const LAYOUT_1: Form = (1, 8, 0xff);
+
+const LAYOUT_2: Form = (2, 16, 0xffff);
+
+// The word of a node's tag, where the last of so many nodes is the head, in front of the one before it, and so on to 0.
+fn word_of(form: Form, nodes: u64, node: u64) -> u64
+    requires width { form.1 < 32 }
+    requires node { node + 1 < 2 ^ 32 }
 {
-    match node {
-        0 => 0x01_FF07,
-        63 => 0xFF_3E02,
-        _ => (node + 1) * 65_536 + (node - 1) * 256 + 7,
-    }
+    let (_, width, none) = form;
+    let forw = if node == 0 { none } else { node - 1 };
+    let (kind, back) = if node + 1 == nodes {
+        (2, none)
+    } else {
+        (7, node + 1)
+    };
+    kind | forw << width | back << (2 * width)
 }
 
 // A word, and zeros as a content.
@@ -404,40 +416,49 @@ fn write_word(text: &mut String, word: u64) -> Result<(), AllocError> {
     write!(text, "{word:016x} 0 0 0 0 0 0 0 0 0\n")
 }
 
-// A node's tag on a line that 64 nodes share.
-fn write_tag(text: &mut String, line: u64, node: u64) -> Result<(), AllocError>
-    requires { node < 64 }
+// A line that so many nodes share.
+fn write_line(text: &mut String, form: Form, nodes: u16, line: u64) -> Result<(), AllocError>
+    requires width { form.1 < 32 }
 {
-    write!(text, "tag {line} {node} ")?;
-    write_word(text, word_of(node))
-}
-
-// A line that 64 nodes share.
-fn write_line(text: &mut String, line: u64) -> Result<(), AllocError> {
+    let head = u64::from(nodes.saturating_sub(1));
     write!(text, "line {line} ")?;
-    write_word(text, 0x3F01)?;
-    for node in 0..64 {
-        write_tag(text, line, node)?;
+    write_word(text, 1 | head << form.1)?;
+    for node in 0..nodes {
+        write!(text, "tag {line} {node} ")?;
+        write_word(text, word_of(form, u64::from(nodes), u64::from(node)))?;
     }
     Ok(())
 }
 
-// The dump of so many lines that 64 nodes share.
-fn shared_by_all(alloc: Global, lines: u64) -> Result<String, AllocError> {
-    let mut text = format!(in alloc; "scidump 1 64 {lines}\n")?;
+// The dump of so many lines that so many nodes share.
+fn shared_by_all(alloc: Global, form: Form, nodes: u16, lines: u64) -> Result<String, AllocError>
+    requires width { form.1 < 32 }
+{
+    let mut text = format!(in alloc; "scidump {} {nodes} {lines}\n", form.0)?;
     for line in 0..lines {
-        write_line(&mut text, line)?;
+        write_line(&mut text, form, nodes, line)?;
     }
     text.push_str("end\n")?;
     Ok(text)
 }
 
 #[test]
-fn dumps_of_64_nodes(rt: HostRuntime) -> Result<(), Fail> {
-    for lines in [1, 340, 1024] {
-        let text = shared_by_all(rt.alloc(), lines)?;
+fn dumps_of_many_nodes(rt: HostRuntime) -> Result<(), Fail> {
+    for (form, nodes, lines) in [
+        (LAYOUT_1, 64, 1),
+        (LAYOUT_1, 64, 340),
+        (LAYOUT_1, 64, 1024),
+        (LAYOUT_2, 1023, 1),
+        (LAYOUT_2, 1024, 2),
+    ] {
+        let text = shared_by_all(rt.alloc(), form, nodes, lines)?;
         let judged = judged(rt.alloc(), text.as_str());
-        same_at(&rt, &lines, &judged, &Some((64, Verdict::Lawful)));
+        same_at(
+            &rt,
+            &(nodes, lines),
+            &judged,
+            &Some((nodes, Verdict::Lawful)),
+        );
     }
     Ok(())
 }

@@ -118,8 +118,8 @@ pub struct Script {
 }
 
 impl Script {
-    ghost use Rattle.sci_core.specs.declared.whole.TheConstants.{MOST_NODES};
     ghost use Rattle.std.specs.Prelude.{◌≡◌, ◌≤◌};
+    ghost use Rattle.sci_core.specs.declared.whole.TheConstants.{MOST_NODES};
     ghost use Rattle.sci_script.specs.Openings.{content_of, zeros};
 
     /// How many nodes its memory has, 1 to 1,024.

@@ -1,6 +1,6 @@
 //! Runs a script.
-ghost use Rattle.sci_core.specs.declared.whole.TheConstants.{MOST_NODES};
 ghost use Rattle.std.specs.Prelude.{◌≡◌, ◌<◌, ◌≤◌, ℕ, [], true, Some, string_bytes, IfOk, IfErr, OnOk, All, MatchBool, MatchOption};
+ghost use Rattle.sci_core.specs.declared.whole.TheConstants.{MOST_NODES};
 ghost use Rattle.sci_script.specs.declared.commands.Command.TheVariants.{Begin as BeginCall, Turn as TurnOnce, Done, List as ListLine, Tag as ShowTag, Residents};
 ghost use Rattle.sci_script.specs.Size.{IsIn};
 ghost use Rattle.sci_script.specs.Event.{Turned, IsEnd, IsNoEnd};
@@ -13,13 +13,14 @@ use crate::loading::{load_mem, load_tag, walk};
 use crate::refusals::ScriptRefusal;
 use crate::texts::{list_text, residents_text, tag_text, turn_text};
 use crate::writing::put;
+use sci_core::MOST_NODES;
 use sci_ops::Turn;
 use sci_words::{LineNo, NodeId};
 use std::alloc::Global;
 use std::io::Write;
 
-/// How many nodes a script may have.
-pub const NODES: usize = 1024;
+/// How many nodes a script has at the most: as many as a line.
+pub const NODES: usize = MOST_NODES as usize;
 
 /// How many turns a call may take under `done`.
 const TURNS: u32 = 100_000;

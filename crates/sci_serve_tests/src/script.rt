@@ -25,9 +25,6 @@ use std::process::Abort;
 /// A script, its refusal if it has one, and its text.
 type Case = (&'static str, Option<ScriptRefusal>, &'static str);
 
-/// How many nodes a script may have.
-const NODES: u16 = 64;
-
 const SHARERS: &str =
     "memory 3 1\nload 0 0 0\ndone 0\nload 1 0 0\ndone 1\nload 2 0 0\ndone 2\nlist 0\n";
 

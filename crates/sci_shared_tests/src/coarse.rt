@@ -11,7 +11,7 @@ use sci_core::AnyWords;
 use std::test::Fail;
 
 #[test]
-fn opens_and_finishes_with_1_to_64_nodes(rt: HostRuntime) {
+fn opens_and_finishes_with_1_to_1024_nodes(rt: HostRuntime) {
     opens_and_finishes::<CoarseLine<AnyWords>>(&rt, rt.alloc());
 }
 

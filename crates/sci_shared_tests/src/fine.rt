@@ -12,7 +12,7 @@ use sci_fine::FineLine;
 use std::test::Fail;
 
 #[test]
-fn opens_and_finishes_with_1_to_64_nodes(rt: HostRuntime) {
+fn opens_and_finishes_with_1_to_1024_nodes(rt: HostRuntime) {
     opens_and_finishes::<FineLine<AnyWords>>(&rt, rt.alloc());
 }
 

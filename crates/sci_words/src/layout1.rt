@@ -1,11 +1,10 @@
-//! Words of 64 bits, by layout 1: what old dumps hold. Its links have 8 bits, so it has room for the nodes 0 to 254.
-ghost use Rattle.std.specs.Prelude.{◌≡◌, IsTrue, IfOk, ◌&&◌};
+//! Words of 64 bits by layout 1, which old dumps have. Its links have 8 bits, so it has room for the nodes 0 to 254.
+ghost use Rattle.std.specs.Prelude.{◌≡◌, IsTrue, IfOk};
 ghost use Rattle.std.specs.Result.{result_err};
 ghost use Rattle.sci_words.specs.Codes.{tag_code_in, mem_code_in, fits_tag_in, fits_mem_in};
 ghost use Rattle.sci_words.specs.Refused.{tag_refusal_in, mem_refusal_in};
 ghost use Rattle.sci_words.specs.declared.layouts.Layout.TheVariants.{One};
-ghost use Rattle.sci_words.specs.Mem.{mem_well_formed, mem_links_below};
-ghost use Rattle.sci_words.specs.Tag.{tag_well_formed, tag_links_below, link_below};
+ghost use Rattle.sci_words.specs.Tag.{link_below};
 
 use crate::codec::{mem_word, tag_word, word_mem, word_tag};
 use crate::layouts::Layout;
@@ -14,7 +13,7 @@ use crate::nodes::NodeId;
 use crate::refusals::WordRefusal;
 use crate::tags::Tag;
 
-// Whether there is room for a link.
+// Whether layout 1 has room for the link.
 fn fits_link(link: Option<NodeId>) -> bool
     ensures { result ≡ link_below 255 link }
 {
@@ -24,16 +23,16 @@ fn fits_link(link: Option<NodeId>) -> bool
     }
 }
 
-/// Whether the tag is well formed, and its links name nodes below 255: then it has a code in layout 1.
+/// Whether the tag has a code in layout 1: it is well formed, and its links name nodes below 255.
 pub fn fits_tag(tag: &Tag) -> bool
-    ensures { result ≡ (tag_well_formed tag.now && tag_links_below 255 tag.now) }
+    ensures { result ≡ fits_tag_in One tag.now }
 {
     tag.well_formed() && fits_link(tag.forw) && fits_link(tag.back)
 }
 
-/// Whether the memory word is well formed, and its link names a node below 255: then it has a code in layout 1.
+/// Whether the memory word has a code in layout 1: it is well formed, and its link names a node below 255.
 pub fn fits_mem(mem: &Mem) -> bool
-    ensures { result ≡ (mem_well_formed mem.now && mem_links_below 255 mem.now) }
+    ensures { result ≡ fits_mem_in One mem.now }
 {
     mem.well_formed() && fits_link(mem.forw)
 }

@@ -1,4 +1,4 @@
-//! Words of 64 bits, by layout 2: what memory and dumps hold.
+//! Words of 64 bits by layout 2, which memory and new dumps have. Its links have 16 bits, so it has room for every node.
 ghost use Rattle.std.specs.Prelude.{◌≡◌, IsTrue, IfOk, true};
 ghost use Rattle.std.specs.Result.{result_err};
 ghost use Rattle.sci_words.specs.Codes.{tag_code, mem_code};
@@ -13,7 +13,7 @@ use crate::nodes::NodeId;
 use crate::refusals::WordRefusal;
 use crate::tags::Tag;
 
-// A link names a node, or none.
+// A link names a node below 65,535, or none: it is part of each `NodeId`.
 #[inline(always)]
 fn look_at_link(link: Option<NodeId>)
     ensures { link_below 65535 link ≡ true }

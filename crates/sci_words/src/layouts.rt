@@ -31,12 +31,12 @@ impl Field {
     }
 }
 
-/// Where the fields of tags and memory words lie. The layouts differ in the width of links alone.
+/// Where the fields of tags and memory words lie. The two layouts differ in the width of links alone.
 #[derive(Clone, Copy, Debug, PartialEq, Eq)]
 pub enum Layout {
-    /// Links of 8 bits.
+    /// Layout 1, with links of 8 bits: that of old dumps.
     One,
-    /// Links of 16 bits.
+    /// Layout 2, with links of 16 bits: that of memory and of new dumps.
     Two,
 }
 

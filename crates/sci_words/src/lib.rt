@@ -1,7 +1,8 @@
 //! The words of one line: a tag word for each node's cache entry, and one memory word.
 //!
 //! [`write_tag`] and [`write_mem`] give a word's code in 64 bits, and [`read_tag`] and [`read_mem`] read it again or say why
-//! they refuse it. [`name`] and [`mem_name`] give the names that listings show.
+//! they refuse it. Theirs is layout 2, which memory and new dumps have; [`layout1`] has these four for the layout of old dumps.
+//! [`name`] and [`mem_name`] give the names that listings show.
 #![tactic(auto)]
 
 mod codec;

@@ -7,16 +7,13 @@ ghost use Rattle.sci_core.specs.Whole.{nodes_of, state_of};
 
 use super::{ALONE, LINE, node, opened, run, step};
 use crate::checks::{allocates, same, same_at};
-use sci_core::{AnyWords, Closed, Event, Line, Outcome, Whole};
+use sci_core::{AnyWords, Closed, Event, Line, MOST_NODES, Outcome, Whole};
 use sci_words::{NodeId, Tag};
 use std::alloc::Global;
 use std::process::Abort;
 
 /// How many nodes work on a line.
 const NODES: u16 = 3;
-
-/// The most nodes that a line may have.
-const MOST: u16 = 64;
 
 const EVENTS: usize = 35;
 
@@ -114,7 +111,7 @@ fn line_of(rt: &impl Abort, alloc: Global, nodes: u16) -> Whole<AnyWords>
 #[test]
 fn steps_take_no_memory(rt: HostRuntime) {
     // `open` takes three, and is called for two numbers of nodes.
-    for nodes in [NODES, MOST] {
+    for nodes in [NODES, MOST_NODES] {
         let mut whole = line_of(&rt, rt.alloc(), nodes);
         same_at(&rt, &nodes, &walk(&mut whole), &Some([true; EVENTS]));
     }
@@ -173,7 +170,7 @@ fn runs(rt: &impl Abort, whole: &mut Whole<AnyWords>) {
 #[test]
 fn runs_and_closing_take_no_memory(rt: HostRuntime) {
     // `open` takes three, and the room two, for two numbers of nodes.
-    for nodes in [NODES, MOST] {
+    for nodes in [NODES, MOST_NODES] {
         let mut whole = line_of(&rt, rt.alloc(), nodes);
         let closed = closed_in_room(&rt, rt.alloc(), &whole);
         is_unused(&rt, &closed, usize::from(nodes));

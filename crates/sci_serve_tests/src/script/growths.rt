@@ -12,7 +12,7 @@ use crate::checks::same;
 use crate::fixed::{empty, is_front};
 use sci_cache::Request;
 use sci_script::{
-    BankDesk, Desk, NoDesk, Script, ScriptRefusal, WholeDesk, list_text, note, perform, put,
+    BankDesk, Desk, NODES, NoDesk, Script, ScriptRefusal, WholeDesk, list_text, note, perform, put,
     read_script, tag_text,
 };
 use sci_words::{Kind, Mem, MemState, NodeId};
@@ -71,7 +71,7 @@ fn performs(
 ) -> Result<(), Fail>
     requires { desk.old.size ≡ script.now.size }
 {
-    let mut words = [0; 64];
+    let mut words = [0; NODES];
     let mut out = empty();
     for step in script.steps() {
         let mut text = String::new(alloc);

@@ -1,5 +1,5 @@
 //! Texts of more than 2,000 bytes, through writers that take little at a time or are interrupted: what arrives is the whole text.
-use super::{NODES, add_list, add_load, add_read, run_text};
+use super::{add_list, add_load, add_read, run_text};
 use crate::checks::same;
 use crate::paced::{Pace, Paced};
 use sci_script::put;
@@ -37,16 +37,19 @@ const PACES: [Pace; 7] = [
     },
 ];
 
-/// A script in which 64 nodes load a line, one after the other, and its text, of one line of 900 bytes and more than 2,000 in all.
+/// How many nodes load the line.
+const READERS: u16 = 64;
+
+/// A script in which they do, one after the other, and its text, of one line of 900 bytes and more than 2,000 in all.
 fn readers(alloc: Global) -> Result<(String, String), AllocError> {
-    let mut script = format!(in alloc; "memory {NODES} 1\n")?;
+    let mut script = format!(in alloc; "memory {READERS} 1\n")?;
     let mut text = String::new(alloc);
-    for node in 0..NODES {
+    for node in 0..READERS {
         add_load(&mut script, node, 0, 0)?;
         add_read(&mut text, node, 0)?;
     }
     script.push_str("list 0\n")?;
-    add_list(&mut text, NODES - 1)?;
+    add_list(&mut text, READERS - 1)?;
     Ok((script, text))
 }
 

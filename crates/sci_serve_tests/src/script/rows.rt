@@ -1,5 +1,6 @@
 //! Scripts with their exact texts, worked out by hand from the tables of rows and turns.
 use super::{Case, SHARED, SHARERS, check};
+use sci_script::ScriptRefusal;
 
 /// Reads, writes, exits, nodes that come late, and a bounded cache: each is run over whole lines, and over lines that threads share.
 pub const ROWS: &[Case] = &[
@@ -133,9 +134,20 @@ pub const ROWS: &[Case] = &[
         None,
         "node 0 wrote stamp 1\n",
     ),
+    (
+        "memory 1024 1\nload 1023 0 0\ndone 1023\nlist 0\n",
+        None,
+        "node 1023 read 0 stamp 0\nline 0 FRESH 1023: 1023 ONLY_FRESH\n",
+    ),
 ];
 
 #[test]
 fn rows_over_whole_lines(rt: HostRuntime) {
     check(&rt, rt.alloc(), ROWS);
+}
+
+#[test]
+fn a_node_too_many(rt: HostRuntime) {
+    let refusal = Some(ScriptRefusal::BadNumber(1));
+    check(&rt, rt.alloc(), &[("memory 1025 1", refusal, "")]);
 }

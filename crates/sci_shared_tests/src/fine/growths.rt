@@ -1,13 +1,19 @@
 //! Each growth may be refused: its call then answers 7, all is as before, and a second try has the memory. With ample memory
 //! this test passes. tools/allocations runs it once for each growth of its table, with that one refused, and the test ends by
 //! saying which call answered it.
-use crate::checks::same;
-use crate::lines::SharedLine;
+ghost use Rattle.std.specs.Prelude.{All};
+ghost use Rattle.sci_fine.specs.Seats.{IsSeatOf};
+
+use crate::checks::{same, same_at};
 use crate::lines::opening::{OPENING, is_unused};
-use sci_core::{AnyWords, OpenRefusal};
+use crate::lines::{SharedLine, closed};
+use sci_core::{AnyWords, Closed, OpenRefusal};
 use sci_fine::{FineLine, FinishRefusal, Seat};
+use sci_ops::{Answer, Op};
+use sci_words::{MemState, NodeId};
 use std::alloc::Global;
 use std::process::Abort;
+use std::sync::Wait;
 use std::test::Fail;
 
 fn are_as_before(rt: &impl Abort, seats: &[Seat<AnyWords>]) {
@@ -59,4 +65,68 @@ fn refuses(rt: &impl Abort, alloc: Global) -> Result<(), Fail> {
 #[test]
 fn refused_growths(rt: HostRuntime) -> Result<(), Fail> {
     refuses(&rt, rt.alloc())
+}
+
+// The seat of this node carries out a load. None: there is no such seat.
+fn load_by<R: Wait>(
+    rt: &R,
+    line: &FineLine<AnyWords>,
+    seats: &mut [Seat<AnyWords>],
+    number: u16,
+) -> Option<Answer>
+    requires { All (λ s. IsSeatOf line.now s) seats.old }
+    ensures { All (λ s. IsSeatOf line.now s) seats.new }
+{
+    let mut answer = None;
+    for seat in seats.iter_mut() {
+        if seat.node().get() == number {
+            answer = Some(line.carry_out(rt, seat, Op::load()));
+        }
+    }
+    answer
+}
+
+// The list of a line of so many nodes has one head, which read what the line opened with.
+fn is_read_alone(rt: &impl Abort, closed: &Closed, nodes: u16, head: u16) {
+    let forw = closed.mem.forw.map(NodeId::get);
+    same_at(
+        rt,
+        &nodes,
+        &(closed.mem.state, forw),
+        &(MemState::Fresh, Some(head)),
+    );
+    same(rt, &closed.tags.len(), &usize::from(nodes));
+    same(rt, &closed.lines.len(), &usize::from(nodes));
+    let read = closed.lines.get(usize::from(head)).copied();
+    same_at(rt, &nodes, &read, &Some(OPENING));
+}
+
+// The last of so many nodes loads a new line, which is then closed.
+fn last_loads<R: Abort + Wait>(rt: &R, alloc: Global, nodes: u16, last: u16) -> Result<(), Fail> {
+    let Ok((line, mut seats)) = FineLine::opened(alloc, nodes, 7, OPENING) else {
+        return Err(Fail::new("new answered 7"));
+    };
+    let seen = Answer::Seen {
+        words: OPENING.words,
+        stamp: OPENING.stamp,
+    };
+    let answer = load_by(rt, &line, seats.as_mut_slice(), last);
+    same_at(rt, &nodes, &answer, &Some(seen));
+    match closed(alloc, line, seats) {
+        Ok(closed) => {
+            is_read_alone(rt, &closed, nodes, last);
+            Ok(())
+        }
+        Err(refused) => {
+            same(rt, &refused, &(7, usize::from(nodes)));
+            Err(Fail::new("finish answered 7"))
+        }
+    }
+}
+
+/// Growths: 5 of new, 2 of finish, 5 of new, 2 of finish.
+#[test]
+fn refused_growths_of_many_nodes(rt: HostRuntime) -> Result<(), Fail> {
+    last_loads(&rt, rt.alloc(), 1023, 1022)?;
+    last_loads(&rt, rt.alloc(), 1024, 1023)
 }

@@ -57,13 +57,14 @@ fn opens<L: SharedLine>(
 /// Numbers of lines, the least and the greatest among them.
 const NUMBERS: [LineNo; 9] = [0, 7, 255, 256, 1_000, 1_023, 1_024, 32_768, u16::MAX];
 
-/// A line opens with 1 to 1,024 nodes and with each of these numbers, and is closed again.
+/// A line opens with 1 to 1,024 nodes, and with each of these numbers, and is closed again.
 pub(crate) fn opens_and_finishes<L: SharedLine>(rt: &impl Abort, alloc: Global) {
     for nodes in 1..1025 {
         let count = usize::from(nodes);
-        for number in NUMBERS {
-            opens::<L>(rt, alloc, nodes, number, Ok((count, count)));
-        }
+        opens::<L>(rt, alloc, nodes, 7, Ok((count, count)));
+    }
+    for number in NUMBERS {
+        opens::<L>(rt, alloc, 1024, number, Ok((1024, 1024)));
     }
     for nodes in [0, 1025, u16::MAX] {
         opens::<L>(rt, alloc, nodes, 7, Err(6));
