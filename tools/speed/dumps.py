@@ -15,14 +15,14 @@ NODES, LINES = 64, 1024
 
 def dump_of(nodes, lines):
     """The dump of lines that all nodes share."""
-    zeros, rows = " 0" * 9, [f"scidump 1 {nodes} {lines}"]
+    zeros, rows = " 0" * 9, [f"scidump 2 {nodes} {lines}"]
     for line in range(lines):
-        rows.append(f"line {line} {(nodes - 1) << 8 | 1:016x}{zeros}")
+        rows.append(f"line {line} {(nodes - 1) << 16 | 1:016x}{zeros}")
         for node in range(nodes):
-            forward = node - 1 if node else 255
-            back = node + 1 if node < nodes - 1 else 255
+            forward = node - 1 if node else 65535
+            back = node + 1 if node < nodes - 1 else 65535
             kind = 7 if node < nodes - 1 else 2
-            rows.append(f"tag {line} {node} {back << 16 | forward << 8 | kind:016x}{zeros}")
+            rows.append(f"tag {line} {node} {back << 32 | forward << 16 | kind:016x}{zeros}")
     return "\n".join(rows) + "\nend\n"
 
 

@@ -25,14 +25,14 @@ def line_of_one(line, state):
     """The text of a line of the stencil's node."""
     content = WRITTEN[line]
     if state == "H":
-        return f"line {line} 000000000000ff00 {content}\n"
+        return f"line {line} 00000000ffff0000 {content}\n"
     if state == "F":
-        return f"line {line} 0000000000000001 {content}\ntag {line} 0 0000000000ffff02 {content}\n"
-    return f"line {line} 0000000000000002 {ZEROS}\ntag {line} 0 0000000000ffff03 {content}\n"
+        return f"line {line} 0000000000000001 {content}\ntag {line} 0 0000ffffffff0002 {content}\n"
+    return f"line {line} 0000000000000002 {ZEROS}\ntag {line} 0 0000ffffffff0003 {content}\n"
 
 
 def tiles_dump(states):
-    return "scidump 1 1 6\n" + "".join(map(line_of_one, range(6), states)) + "end\n"
+    return "scidump 2 1 6\n" + "".join(map(line_of_one, range(6), states)) + "end\n"
 
 
 def ring_of(count):
@@ -45,18 +45,18 @@ def passed_line(line, count, capacity):
     the line behind them, where it counts. Who reads last is the head."""
     content = f"1 {line + 1} 7 0 0 0 0 0 0"
     if line < count - capacity:
-        return f"line {line} 000000000000ff00 {content}\n"
+        return f"line {line} 00000000ffff0000 {content}\n"
     if line == count - capacity:
-        return f"line {line} 0000000000000002 {ZEROS}\ntag {line} 0 0000000000ffff03 {content}\n"
-    return f"line {line} 0000000000000102 {ZEROS}\ntag {line} 0 000000000001ff07 {content}\ntag {line} 1 0000000000ff0003 {content}\n"
+        return f"line {line} 0000000000000002 {ZEROS}\ntag {line} 0 0000ffffffff0003 {content}\n"
+    return f"line {line} 0000000000010002 {ZEROS}\ntag {line} 0 00000001ffff0007 {content}\ntag {line} 1 0000ffff00000003 {content}\n"
 
 
 def ring_text(count, capacity):
     """What that ring prints. With a capacity of one, node 1 leaves the line where it counts before each item but the first."""
     lines = "".join(passed_line(line, count, capacity) for line in range(count))
     before, last = f"{count - 1} {count - 1} 0 0 0 0 0 0 0", f"{count} {count} 0 0 0 0 0 0 0"
-    counted = f"line {count} 0000000000000102 {before if capacity == 1 else ZEROS}\ntag {count} 1 0000000000ffff03 {last}\n"
-    return f"items{count * ' 7'}\nscidump 1 2 {count + 1}\n{lines}{counted}end\n"
+    counted = f"line {count} 0000000000010002 {before if capacity == 1 else ZEROS}\ntag {count} 1 0000ffffffff0003 {last}\n"
+    return f"items{count * ' 7'}\nscidump 2 2 {count + 1}\n{lines}{counted}end\n"
 
 
 WORKED = [

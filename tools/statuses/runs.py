@@ -17,7 +17,7 @@ TOLD = told(250_000)
 # One node counts, so the dump is always the same.
 ALONE = 'work = "count"\nnodes = 1\nadds = 3\ncapacity = 1\ndump = true\n'
 ALONE_COUNTED = (
-    "count 3\nscidump 1 1 1\nline 0 0000000000000002 0 0 0 0 0 0 0 0 0\ntag 0 0 0000000000ffff03 3 3 0 0 0 0 0 0 0\nend\n"
+    "count 3\nscidump 2 1 1\nline 0 0000000000000002 0 0 0 0 0 0 0 0 0\ntag 0 0 0000ffffffff0003 3 3 0 0 0 0 0 0 0\nend\n"
 )
 CELLS = [0] * 10 + [1] + [0] * 10
 STENCIL = f'work = "stencil"\nnodes = 3\ncapacity = 2\nphases = 5\ncells = {CELLS}\n'
@@ -32,19 +32,19 @@ LONG_RING = f'work = "ring"\nlines = 1023\ncapacity = 1024\nitems = {40_000 * [0
 TILE = 'work = "stencil"\nnodes = 1\nphases = 1\ncells = [1, 1, 1, 1, 1, 1, 1]\ndump = true\n'
 TILE_LEFT = (
     "cells 2 3 3 3 3 3 2\n"
-    "scidump 1 1 2\n"
-    "line 0 000000000000ff00 1 1 1 1 1 1 1 1 1\n"
+    "scidump 2 1 2\n"
+    "line 0 00000000ffff0000 1 1 1 1 1 1 1 1 1\n"
     "line 1 0000000000000002 0 0 0 0 0 0 0 0 0\n"
-    "tag 1 0 0000000000ffff03 1 2 2 3 3 3 3 3 2\n"
+    "tag 1 0 0000ffffffff0003 1 2 2 3 3 3 3 3 2\n"
     "end\n"
 )
 TILE_KEPT = (
     "cells 2 3 3 3 3 3 2\n"
-    "scidump 1 1 2\n"
+    "scidump 2 1 2\n"
     "line 0 0000000000000002 0 0 0 0 0 0 0 0 0\n"
-    "tag 0 0 0000000000ffff03 1 1 1 1 1 1 1 1 1\n"
+    "tag 0 0 0000ffffffff0003 1 1 1 1 1 1 1 1 1\n"
     "line 1 0000000000000002 0 0 0 0 0 0 0 0 0\n"
-    "tag 1 0 0000000000ffff03 1 2 2 3 3 3 3 3 2\n"
+    "tag 1 0 0000ffffffff0003 1 2 2 3 3 3 3 3 2\n"
     "end\n"
 )
 
@@ -52,21 +52,21 @@ TILE_KEPT = (
 ITEM = 'work = "ring"\nlines = 1\nitems = [7]\ndump = true\n'
 ITEM_LEFT = (
     "items 7\n"
-    "scidump 1 2 2\n"
+    "scidump 2 2 2\n"
     "line 0 0000000000000002 0 0 0 0 0 0 0 0 0\n"
-    "tag 0 0 0000000000ffff03 1 1 7 0 0 0 0 0 0\n"
-    "line 1 0000000000000102 0 0 0 0 0 0 0 0 0\n"
-    "tag 1 1 0000000000ffff03 1 1 0 0 0 0 0 0 0\n"
+    "tag 0 0 0000ffffffff0003 1 1 7 0 0 0 0 0 0\n"
+    "line 1 0000000000010002 0 0 0 0 0 0 0 0 0\n"
+    "tag 1 1 0000ffffffff0003 1 1 0 0 0 0 0 0 0\n"
     "end\n"
 )
 ITEM_KEPT = (
     "items 7\n"
-    "scidump 1 2 2\n"
-    "line 0 0000000000000102 0 0 0 0 0 0 0 0 0\n"
-    "tag 0 0 000000000001ff07 1 1 7 0 0 0 0 0 0\n"
-    "tag 0 1 0000000000ff0003 1 1 7 0 0 0 0 0 0\n"
-    "line 1 0000000000000102 0 0 0 0 0 0 0 0 0\n"
-    "tag 1 1 0000000000ffff03 1 1 0 0 0 0 0 0 0\n"
+    "scidump 2 2 2\n"
+    "line 0 0000000000010002 0 0 0 0 0 0 0 0 0\n"
+    "tag 0 0 00000001ffff0007 1 1 7 0 0 0 0 0 0\n"
+    "tag 0 1 0000ffff00000003 1 1 7 0 0 0 0 0 0\n"
+    "line 1 0000000000010002 0 0 0 0 0 0 0 0 0\n"
+    "tag 1 1 0000ffffffff0003 1 1 0 0 0 0 0 0 0\n"
     "end\n"
 )
 
@@ -88,10 +88,10 @@ CASES = [
     (["run"], RING, 0, PASSED, ""),
     (["run", "ring"], "", 0, PASSED, ""),
     (["run"], ALONE, 0, ALONE_COUNTED, ""),
-    (["run"], STENCIL + "dump = true\n", 0, Begins(SPREAD + "scidump 1 3 6\nline 0 "), ""),
-    (["run"], STENCIL.replace("nodes = 3", "nodes = 1") + "dump = true\n", 0, Begins(SPREAD + "scidump 1 1 6\nline 0 "), ""),
-    (["run"], STENCIL.replace("nodes = 3", "nodes = 2") + "dump = true\n", 0, Begins(SPREAD + "scidump 1 2 6\nline 0 "), ""),
-    (["run"], RING + "dump = true\n", 0, Begins(PASSED + "scidump 1 2 3\nline 0 "), ""),
+    (["run"], STENCIL + "dump = true\n", 0, Begins(SPREAD + "scidump 2 3 6\nline 0 "), ""),
+    (["run"], STENCIL.replace("nodes = 3", "nodes = 1") + "dump = true\n", 0, Begins(SPREAD + "scidump 2 1 6\nline 0 "), ""),
+    (["run"], STENCIL.replace("nodes = 3", "nodes = 2") + "dump = true\n", 0, Begins(SPREAD + "scidump 2 2 6\nline 0 "), ""),
+    (["run"], RING + "dump = true\n", 0, Begins(PASSED + "scidump 2 2 3\nline 0 "), ""),
     (["run"], "", 1, "", refused("22")),
     (["run", "row"], COUNT, 1, "", refused("22")),
     (["run"], "work =", 1, "", refused("22")),

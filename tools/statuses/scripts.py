@@ -27,6 +27,22 @@ def largest():
 
 LARGEST, ITS_TEXT = largest()
 
+
+def widest():
+    """A script in which as many nodes as there may be share a line, until the one in the middle writes it; and its text."""
+    nodes = range(1024)
+    script = [f"load {node} 0 0\ndone {node}\n" for node in nodes]
+    text = [f"node {node} read 0 stamp 0\n" for node in nodes]
+    listed = ", ".join(["1023 HEAD_FRESH", *(f"{node} MID_VALID" for node in range(1022, 0, -1)), "0 TAIL_VALID"])
+    return (
+        f"memory 1024 1\n{''.join(script)}list 0\ntag 0 512\nstore 512 0 0 5\ndone 512\nlist 0\n",
+        f"{''.join(text)}line 0 FRESH 1023: {listed}\ntag 0 512 MID_VALID forw 511 back 513\n"
+        "node 512 wrote stamp 1\nline 0 GONE 512: 512 ONLY_DIRTY\n",
+    )
+
+
+WIDEST, WIDEST_TEXT = widest()
+
 FILES = {
     "row": ROW,
     "bad": "memory 0 1\n",
@@ -67,6 +83,17 @@ CASES = [
     (["script"], "memory 1 1\nlist 0\nturn 0", 1, "line 0 HOME\n", refused("16 at line 3")),
     (["script"], "\n", 1, "", refused("16 at line 2")),
     (["script"], "memory 0 1", 1, "", refused("17 at line 1")),
+    (["script"], "memory 1025 1\n", 1, "", refused("17 at line 1")),
+    (["script"], "memory 1 1025\n", 1, "", refused("17 at line 1")),
+    (
+        ["script"],
+        "memory 1024 1\nload 1023 0 0\ndone 1023\nlist 0\n",
+        0,
+        "node 1023 read 0 stamp 0\nline 0 FRESH 1023: 1023 ONLY_FRESH\n",
+        "",
+    ),
+    (["script"], "memory 1024 1\nload 1024 0 0\n", 1, "", refused("17 at line 2")),
+    (["script"], WIDEST, 0, WIDEST_TEXT, ""),
     (["script"], "memory 1 1\nload 0 0 8", 1, "", refused("17 at line 2")),
     (["script"], "memory 1 1\nturn 0", 1, "", refused("16 at line 2")),
     (["script"], "memory 1 1\ndone 0", 1, "", refused("16 at line 2")),

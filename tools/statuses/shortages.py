@@ -31,8 +31,9 @@ SERVED = [
     ("check", LARGE_DUMP, ITS_LISTS, False),
 ]
 
-# 64 nodes want more stack than there is; one has room for its thread.
+# 64 nodes want more stack than there is; one has room for its thread. The largest memory fits in 150,000,000 bytes.
 CASES = [
+    (["script"], Little("memory 1024 1024\nlist 1023\n", 150_000_000), 0, "line 1023 HOME\n", ""),
     (["run"], Crowded(COUNT.replace("nodes = 4", "nodes = 64")), 1, "", refused("26")),
     (["run"], Crowded(ONE), 0, "count 1000\n", ""),
 ]

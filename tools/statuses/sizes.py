@@ -1,4 +1,4 @@
-"""Scripts of each number of nodes; and scripts, dumps and settings of as many bytes as an input may have."""
+"""Scripts of many numbers of nodes; and scripts, dumps and settings of as many bytes as an input may have."""
 
 from dumps import ITS_LISTS, LARGE_DUMP
 from kinds import LIMIT, Page, refused
@@ -37,13 +37,13 @@ def largest_dump():
     count = (LIMIT - len(LARGE_DUMP)) // 100
     room = LIMIT - len(LARGE_DUMP)
     for number in range(count):
-        line = f"line {340 + number} 000000000000ff00 "
+        line = f"line {340 + number} 00000000ffff0000 "
         share = room // (count - number) - len(line) - 1
         room -= share + len(line) + 1
         values = ["1" * (share // 9 - 1)] * 8
         unused.append(f"{line}{' '.join([*values, '1' * (share - len(' '.join(values)) - 1)])}\n")
     homes = "".join(f"line {340 + number} HOME\n" for number in range(count))
-    text = shared.replace("scidump 1 64 340\n", f"scidump 1 64 {340 + count}\n") + "".join(unused) + "end\n"
+    text = shared.replace("scidump 2 64 340\n", f"scidump 2 64 {340 + count}\n") + "".join(unused) + "end\n"
     return text, ITS_LISTS.replace("lawful\n", f"{homes}lawful\n")
 
 
@@ -55,12 +55,14 @@ def longest_ring():
     return f"{front}{', '.join(items)}]\n", f"items {' '.join(items)}\n"
 
 
+# Each number of nodes up to 64, and those round the powers of two behind it, as far as there may be nodes.
+NODES = [*range(1, 65), *(power + more for power in (128, 256, 512) for more in (-1, 0, 1)), 1023, 1024]
 DUMP, ITS_VERDICT = largest_dump()
 RING, ITS_ITEMS = longest_ring()
 assert len(DUMP) == len(RING) == LIMIT
 
 CASES = [
-    *((["script"], script, 0, text, "") for script, text in map(visits, range(1, 65))),
+    *((["script"], script, 0, text, "") for script, text in map(visits, NODES)),
     *((["script"], *it) for it in LARGEST),
     *((["trace"], *it) for it in LARGEST[:1]),
     *((["draw"], script, status, Page(text), said) for script, status, text, said in LARGEST[:1]),

@@ -221,10 +221,10 @@ def its_turns(node, word, stamp):
     )
 
 
-# Each of 64 nodes is asked for each operation, one node after the other. Each leaves 6 in line 0, and two stamps more.
-NODES = range(64)
+# Each of 1,024 nodes is asked for each operation, one node after the other. Each leaves 6 in line 0, and two stamps more.
+NODES = range(1024)
 EACH_NODE = (
-    "memory 64 2\ncapacity 1\n" + "".join(map(asked, NODES)),
+    "memory 1024 2\ncapacity 1\n" + "".join(map(asked, NODES)),
     0,
     "".join(its_turns(node, 6 if node else 0, 2 * node) for node in NODES),
     "",

@@ -134,7 +134,7 @@ node in order whose tag isn't Invalid, its tag and content. A word is 16 hexadec
   tag L N WORD STAMP V V V V V V V V
   end
 
-A dump of layout 1, `scidump 1 ..`, is read too.
+There are 1 to 1024 nodes and 1 to 1024 lines. A dump of layout 1 is read too: `scidump 1`, and 1 to 64 nodes.
 
 Prints each line's sharing list and `lawful`, or `line L breaks CN` and status 3: the first line that is no exact sharing list, and
 the first rule that it breaks.

@@ -1,11 +1,11 @@
-//! `dumps check FILE`: the plain peer of `scisim check`, for tools/speed. It reads a dump, looks at the same rules in the same order,
-//! and prints the same. What is no dump ends it.
+//! `dumps check FILE`: the plain peer of `scisim check`, for tools/speed. It reads a dump of layout 2, looks at the same rules in the
+//! same order, and prints the same. What is no such dump ends it.
 
 use std::collections::HashSet;
 use std::fmt::Write as _;
 use std::io::Write as _;
 
-const NONE: u8 = 255;
+const NONE: u16 = 65535;
 const KINDS: [&str; 10] = [
     "INVALID", "QUEUED", "FRESH", "DIRTY", "CONVERT", "PURGING", "LEAVING", "VALID", "ROLL", "PURGED",
 ];
@@ -15,14 +15,14 @@ const STATES: [&str; 3] = ["HOME", "FRESH", "GONE"];
 struct Tag {
     kind: u8,
     held: bool,
-    forw: u8,
-    back: u8,
+    forw: u16,
+    back: u16,
 }
 
 struct Line {
     state: u8,
     lent: bool,
-    head: u8,
+    head: u16,
     memory: [u64; 9],
     tags: Vec<Tag>,
     contents: Vec<[u64; 9]>,
@@ -54,13 +54,13 @@ fn tag_of(code: u64) -> Option<Tag> {
     let tag = Tag {
         kind: (code & 15) as u8,
         held: code >> 4 & 1 == 1,
-        forw: (code >> 8) as u8,
-        back: (code >> 16) as u8,
+        forw: (code >> 16) as u16,
+        back: (code >> 32) as u16,
     };
     let is_body = matches!(tag.kind, 7..=9);
     let is_well = tag.kind <= 9
-        && code >> 24 == 0
-        && code >> 5 & 7 == 0
+        && code >> 48 == 0
+        && code >> 5 & 0x7ff == 0
         && is_body == (tag.back != NONE)
         && (tag.kind != 0 || tag.forw == NONE)
         && (!tag.held || matches!(tag.kind, 2 | 3 | 7));
@@ -73,8 +73,8 @@ fn line_of<'a>(place: u64, nodes: u64, rows: &mut std::iter::Peekable<impl Itera
         return None;
     }
     let word = code(words.next()?)?;
-    let (state, head) = ((word & 15) as u8, (word >> 8) as u8);
-    if state > 2 || word >> 16 != 0 || word >> 5 & 7 != 0 || (state == 0) != (head == NONE) {
+    let (state, head) = ((word & 15) as u8, (word >> 16) as u16);
+    if state > 2 || word >> 32 != 0 || word >> 5 & 0x7ff != 0 || (state == 0) != (head == NONE) {
         return None;
     }
     let memory = content(&mut words)?;
@@ -106,11 +106,11 @@ fn line_of<'a>(place: u64, nodes: u64, rows: &mut std::iter::Peekable<impl Itera
 fn read(text: &str) -> Option<Vec<Line>> {
     let mut rows = text.strip_suffix('\n')?.split('\n').peekable();
     let mut words = rows.next()?.split(' ');
-    if words.next()? != "scidump" || words.next()? != "1" {
+    if words.next()? != "scidump" || words.next()? != "2" {
         return None;
     }
     let (nodes, count) = (number(words.next()?)?, number(words.next()?)?);
-    if words.next().is_some() || !(1..=64).contains(&nodes) || !(1..=1024).contains(&count) {
+    if words.next().is_some() || !(1..=1024).contains(&nodes) || !(1..=1024).contains(&count) {
         return None;
     }
     let lines = (0..count).map(|place| line_of(place, nodes, &mut rows)).collect::<Option<Vec<_>>>()?;

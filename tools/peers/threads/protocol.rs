@@ -1,6 +1,6 @@
 //! The protocol's turns over a `Port`: some way to load a word and to compare-exchange it.
 //!
-//! Word 0 is memory's, word 1 + n node n's tag, both in layout 1 of docs/PROTOCOL.md; slot 0 is memory's, slot 1 + n node n's.
+//! Word 0 is memory's, word 1 + n node n's tag, both in layout 2 of docs/PROTOCOL.md; slot 0 is memory's, slot 1 + n node n's.
 //! A slot is plain memory that the protocol lends to one node at a time. The line that a pending step keeps stays in the node's
 //! own slot, which is in its hand in each of those steps; so bytes are copied only from memory or from another node.
 
@@ -18,7 +18,7 @@ const VALID: u64 = 7;
 const ROLL: u64 = 8;
 const PURGED: u64 = 9;
 const HELD: u64 = 0x10;
-const NONE: u64 = 0xff;
+const NONE: u64 = 0xffff;
 
 const HOME: u64 = 0;
 const GONE: u64 = 2;
@@ -26,23 +26,23 @@ const LENT: u64 = 0x10;
 const MEM: usize = 0;
 
 const fn tag(kind: u64, forw: u64, back: u64) -> u64 {
-    kind | forw << 8 | back << 16
+    kind | forw << 16 | back << 32
 }
 
 // An Invalid tag, and HOME.
 const OUT: u64 = tag(INVALID, NONE, NONE);
-const AT_HOME: u64 = HOME | NONE << 8;
+const AT_HOME: u64 = HOME | NONE << 16;
 
 fn kind(word: u64) -> u64 {
     word & 0xf
 }
 
 fn forw(word: u64) -> u64 {
-    word >> 8 & 0xff
+    word >> 16 & 0xffff
 }
 
 fn back(word: u64) -> u64 {
-    word >> 16 & 0xff
+    word >> 32 & 0xffff
 }
 
 // Kind and held bit are these, so the word isn't held.
@@ -51,7 +51,7 @@ fn is_free(word: u64, kind: u64) -> bool {
 }
 
 fn mem(state: u64, forw: u64) -> u64 {
-    state | forw << 8
+    state | forw << 16
 }
 
 fn listed(dirty: bool) -> u64 {
@@ -139,7 +139,7 @@ impl Table {
             assert!(is_free(tag, wanted) && back(tag) == before, "not an exact list");
             unsafe { assert_eq!(*self.slot(1 + node as usize), *self.slot(1 + forw(memory) as usize)) };
             (before, node, seen) = (node, forw(tag), seen + 1);
-            assert!(seen < 64);
+            assert!(seen <= 1024);
         }
         let place = if kind(memory) == GONE { 1 + forw(memory) as usize } else { 0 };
         unsafe { *self.slot(place) }
@@ -383,7 +383,7 @@ impl<'a, P: Port> Seat<'a, P> {
                 if !can_be_told || forw(x) != me {
                     return None;
                 }
-                self.go(other(b), x, x & !0xff00 | f << 8, Unlinked(t))
+                self.go(other(b), x, x & !0xffff_0000 | f << 16, Unlinked(t))
             }
             Unlinked(t) => self.out(t, goal),
         }
