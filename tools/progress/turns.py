@@ -116,8 +116,8 @@ def turn(state, me, goal):
 
 def mover(state):
     """The first node that isn't Idle and doesn't wait, or None."""
-    busy = (me for me, step in enumerate(state.steps) if step != IDLE)
-    return next((me for me in busy if plan(state, me, 'load') != WAITS), None)
+    under_way = (me for me, step in enumerate(state.steps) if step != IDLE)
+    return next((me for me in under_way if plan(state, me, 'load') != WAITS), None)
 
 
 def delays(state, entry):
