@@ -224,6 +224,8 @@ def facts(line):
     yield 'told successor', line.every(lambda i: Implies(And(line.step(i, 'Rolling'), state.flag(i)), And(
         state.seen_forw(i) == state.forw(i), state.forw(i) != LINK.none,
         *[Implies(line.names(state.forw(i), j), Not(line.names(state.back(j), i))) for j in line.nodes])))
+    yield 'untold successor', line.every(lambda i, j: Implies(
+        And(line.step(i, 'Rolling'), Not(state.flag(i)), line.names(state.forw(i), j)), line.names(state.back(j), i)))
     yield 'seen unlinked', line.every(lambda i, j: Implies(
         And(line.step(i, 'Purging'), state.seen(i), line.names(state.seen_forw(i), j), line.step(j, 'Unlinked')),
         line.names(state.back(j), i)))
@@ -234,6 +236,15 @@ def facts(line):
                                              line.names(state.word_back(i), i), *kept(i)))))
 
 
+def lent(line):
+    """The lent memory word is the one that its borrower gives back."""
+    state = line.state
+    yield 'lent word', line.every(lambda i: And(
+        Implies(line.step(i, 'Fetching'), And(state.lent, line.names(state.head, i),
+                                              state.state == If(state.flag(i), CONSTANTS['MemState.Gone'], CONSTANTS['MemState.Fresh']))),
+        Implies(line.step(i, 'WritingBack'), And(state.lent, state.head == LINK.none, line.mode('Home')))))
+
+
 def readback(count):
     """Prints which definitions do not follow at this number of nodes."""
     line = Line(count)
@@ -242,7 +253,7 @@ def readback(count):
         solver.add(each)
     print('the law has a state:', solver.check() == sat, flush=True)
     missing = total = 0
-    for part in (chain, own_word, back_links, modes, slots, facts):
+    for part in (chain, own_word, back_links, modes, slots, facts, lent):
         for name, says in part(line):
             solver.push()
             solver.add(Not(says))

@@ -16,6 +16,7 @@ pub mod Forming
 pub mod Ruled
 pub mod Answered
 pub mod Lawfully
+pub mod Costs
 pub mod Walking
 pub mod Fitting
 pub mod Handing

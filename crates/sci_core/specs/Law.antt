@@ -272,6 +272,7 @@ pub record Seen (kind : ℕ → Kind) (forw back : ℕ → Option ℕ) (phase : 
   pub told_forw : (i : ℕ) → phase i ≡ Rolling → flag i ≡ true → seen_forw i ≡ forw i
   pub told_some : (i : ℕ) → phase i ≡ Rolling → flag i ≡ true → forw i ≢ None
   pub told : (i j : ℕ) → phase i ≡ Rolling → flag i ≡ true → forw i ≡ Some j → back j ≢ Some i
+  pub untold : (i j m : ℕ) → phase i ≡ Rolling → flag i ≡ false → forw i ≡ Some j → back j ≡ Some m → m ≡ i
   pub unlinked : (p x : ℕ) → phase p ≡ Purging → seen p ≡ true → seen_forw p ≡ Some x → phase x ≡ Unlinked → back x ≡ Some p
 
 -- the words that a step keeps stand

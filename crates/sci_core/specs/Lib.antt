@@ -13,6 +13,7 @@ pub mod Laid
 pub mod Outcomes
 pub mod Answers
 pub mod Run
+pub mod Costs
 pub mod Carrying
 pub mod Chain
 pub mod Fronts

@@ -1,11 +1,12 @@
 //! The law of a step, said of any state.
-ghost use Rattle.std.specs.Prelude.{◌≡◌, ◌<◌, ℕ, Option, None, Ok, true};
+ghost use Rattle.std.specs.Prelude.{◌≡◌, ◌<◌, ◌≤◌, ◌+◌, ℕ, Option, None, Ok, true, List, All};
 ghost use Rattle.sci_core.specs.declared.lines.Line.{Line};
 ghost use Rattle.sci_core.specs.declared.events.Event.{Event};
 ghost use Rattle.sci_core.specs.declared.outcomes.Outcome.{Outcome};
 ghost use Rattle.sci_core.specs.State.{State, opened};
 ghost use Rattle.sci_core.specs.Answers.{FitsEvent, Makes, row_at};
-ghost use Rattle.sci_core.specs.Run.{IsLawfulLine, KeepsLawful};
+ghost use Rattle.sci_core.specs.Costs.{measure, costs};
+ghost use Rattle.sci_core.specs.Run.{HasValue, IsLawfulLine, KeepsLawful, Trail};
 ghost use Rattle.sci_core.specs.Step.{Finds, IsAtHome, looked};
 ghost use Rattle.sci_core.specs.Table.{has_row};
 ghost use Rattle.sci_core.specs.Whole.{IsRuled};
@@ -29,4 +30,15 @@ pub fn law_is_kept<K: Keeps>()
         → IsRuled n (K.fits keep number) t × KeepsLawful n (K.fits keep number) s me e (Ok (Outcome.Done answer)) t }
     ensures look { (n : ℕ) (keep : K) (number : ℕ) (s : State) (me : ℕ) → IsRuled n (K.fits keep number) s → me < n
         → IsRuled n (K.fits keep number) (looked s me) × KeepsLawful n (K.fits keep number) s me Event.Look (Ok (Outcome.Done None)) (looked s me) }
+{}
+
+/// What a run costs, over any state and any number of nodes: it computes nothing, and its contract is the law. Each event that
+/// begins something pays for all exchanges that can follow from it, and what is left to do on a line is never below 0 (`measure`
+/// and `cost` in `specs/Costs.antt`). So the events done in a run are at most what its events cost, and what was left to do; and on
+/// a line that nobody has used nothing is left. Only Requeue, Adopt and Look can be made again and again, and each costs 1. This
+/// project's profile.
+pub fn run_is_paid<K: Keeps>()
+    ensures paid { (n : ℕ) (keep : K) (number : ℕ) (s t : State) (v w : Line) (es : List (ℕ × Event)) (done : ℕ) → HasValue n (K.fits keep number) s v
+        → All (λ e. e.0 < n) es → Trail n (K.fits keep number) s v es done t w → done + measure n t ≤ measure n s + costs es }
+    ensures opened { (n : ℕ) (line : Line) → measure n (opened n line) ≡ 0 }
 {}

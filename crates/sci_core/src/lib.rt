@@ -20,7 +20,7 @@ mod whole;
 pub use closing::Closed;
 pub use events::Event;
 pub use keeps::{AnyWords, Keeps};
-pub use laws::law_is_kept;
+pub use laws::{law_is_kept, run_is_paid};
 pub use lines::Line;
 pub use outcomes::{NotInTurn, OpenRefusal, Outcome};
 pub use outlines::{Motion, Outline};

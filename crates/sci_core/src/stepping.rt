@@ -2,6 +2,7 @@
 ghost use Rattle.std.specs.Prelude.{All, ◌≡◌, ◌≢◌, ◌<◌, ◌≤◌, ◌↔◌, true, cond, Some, None, IsTrue, MatchOption, length, slice_index_or};
 ghost use Rattle.sci_words.specs.Codes.{tag_code, mem_code};
 ghost use Rattle.sci_core.specs.Answers.{Answers, Exchanges, FitsEvent, Makes, found_code, is_allowed, row_at};
+ghost use Rattle.sci_core.specs.Costs.{IsPaid};
 ghost use Rattle.sci_core.specs.declared.events.Event.{Event};
 ghost use Rattle.sci_core.specs.declared.outlines.Motion.TheVariants.{Takes, Gives};
 ghost use Rattle.sci_core.specs.declared.stages.Stage.{Stage};
@@ -282,12 +283,14 @@ impl<K: Keeps> Whole<K> {
     }
 
     /// Events in order, up to the first that is not in turn. Ok: how many were done. Err: the place of the first event that
-    /// is not in turn; those before it were made, and none after. Between any two events the line is lawful.
+    /// is not in turn; those before it were made, and none after. Between any two events the line is lawful. What was done is
+    /// paid, as `run_is_paid` says.
     pub fn run(&mut self, events: &[(NodeId, Event)]) -> Result<usize, usize>
         requires nodes { All (λ e. e.0 < nodes_of self.old) events.now }
         requires fits { All (λ e. FitsEvent (K.fits self.old.keep self.old.number) e.1) events.now }
         ensures same { IsSameLine self.old self.new }
         ensures runs { RunsTo (nodes_of self.old) (K.fits self.old.keep self.old.number) (state_of self.old) events.now result (state_of self.new) }
+        ensures paid { IsPaid (nodes_of self.old) (state_of self.old) events.now result (state_of self.new) }
     {
         // What stands at the start is lawful.
         let _ = &self.number;

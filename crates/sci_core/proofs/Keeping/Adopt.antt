@@ -83,6 +83,13 @@ adopt_keeps_law s g o me target line pending target_rolls target_back target_unh
         told_forw = let c = o.sees.told_forw in let o : ℕ = 0 in grind (arith, nat_tests, c);
         told_some = let c = o.sees.told_some in let o : ℕ = 0 in grind (arith, nat_tests, c);
         told = let c = o.sees.told in let o : ℕ = 0 in grind (arith, nat_tests, c);
+        untold = λ i j m h1 h2 h3 h4. let c0 = o.sees.unlinked me target in let c1 = o.sees.untold i j m in
+            let c2 = o.sees.forw_seen g.last_front target in let c3 = o.own.suited target in let c4 = o.own.suited me in
+            let c5 = o.outside.may_be target in let c6 = o.outside.may_be me in let c7 = o.outside.may_be i in
+            let c8 = o.order.next_first g.last_front target i in let c9 = o.order.next_below i target in
+            let c10 = o.order.apart me g.last_front in let c11 = o.order.apart me i in let c12 = o.fronts.queue me in
+            let c13 = o.fronts.queue i in let c14 = o.fronts.body me in let o : ℕ = 0 in
+            grind (arith, nat_tests, c0, c1, c2, c3, c4, c5, c6, c7, c8, c9, c10, c11, c12, c13, c14);
         unlinked = let c = o.sees.unlinked in let o : ℕ = 0 in grind (arith, nat_tests, c);
       };
       words = record {

@@ -114,6 +114,10 @@ attach_fresh_keeps_law s g o me target line pending target_fresh target_unheld =
         told_forw = let c = o.sees.told_forw in let o : ℕ = 0 in grind (arith, nat_tests, c);
         told_some = let c = o.sees.told_some in let o : ℕ = 0 in grind (arith, nat_tests, c);
         told = let c = o.sees.told in let o : ℕ = 0 in grind (arith, nat_tests, c);
+        untold = λ i j m h1 h2 h3 h4. let c0 = o.sees.untold i j m in let c1 = o.own.as_kept me in let c2 = o.outside.may_be me in
+            let c3 = o.outside.may_be i in let c4 = o.order.next_first m j i in let c5 = o.order.next_first i j m in
+            let c6 = o.order.next_below m j in let c7 = o.order.next_below i j in let c8 = o.order.apart me i in let o : ℕ = 0 in
+            grind (arith, nat_tests, c0, c1, c2, c3, c4, c5, c6, c7, c8);
         unlinked = λ p x h1 h2 h3 h4. let c0 = o.order.next_in me (link (s.tags me).forw) in
             let c1 = o.order.apart (link (s.tags me).forw) g.last_front in let c2 = o.fronts.queue (link (s.tags me).forw) in
             let c3 = o.fronts.body (link (s.tags me).forw) in let c4 = o.own.suited target in let c5 = o.own.suited p in

@@ -107,6 +107,7 @@ clear_keeps_law s g o me target line kept pending target_word =
         told_some = λ i h1 h2 hn. let c0 = o.words.victim me target in let c1 = o.sees.told_some i in let c2 = o.own.suited i in
             let o : ℕ = 0 in grind (arith, nat_tests, c0, c1, c2);
         told = let c = o.sees.told in let o : ℕ = 0 in grind (arith, nat_tests, c);
+        untold = λ i j m h1 h2 h3 h4. let c0 = o.sees.untold in let o : ℕ = 0 in grind (arith, nat_tests, c0);
         unlinked = λ p x h1 h2 h3 h4. let c0 = o.own.suited me in let c1 = o.own.suited p in let c2 = o.outside.may_be me in
             let c3 = o.outside.may_be p in let c4 = o.order.apart me p in let c5 = o.fronts.queue me in let c6 = o.fronts.queue p in
             let c7 = o.fronts.body me in let c8 = o.fronts.body p in let o : ℕ = 0 in

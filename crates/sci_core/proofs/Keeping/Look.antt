@@ -37,6 +37,7 @@ look_purging_keeps_law s g o me line seen pending =
         told_forw = let c = o.sees.told_forw in let o : ℕ = 0 in grind (arith, nat_tests, c);
         told_some = let c = o.sees.told_some in let o : ℕ = 0 in grind (arith, nat_tests, c);
         told = let c = o.sees.told in let o : ℕ = 0 in grind (arith, nat_tests, c);
+        untold = λ i j m h1 h2 h3 h4. let c0 = o.sees.untold in let o : ℕ = 0 in grind (arith, nat_tests, c0);
         unlinked = λ p x h1 h2 h3 h4. let c0 = o.sees.unlinked p x in let c1 = o.outside.outside x in let c2 = o.outside.may_be me in
             let c3 = o.order.next_in me x in let o : ℕ = 0 in grind (arith, nat_tests, c0, c1, c2, c3);
       };
@@ -155,6 +156,7 @@ look_rolling_keeps_law s g o me told back seen pending me_back =
         told_forw = let c = o.sees.told_forw in let o : ℕ = 0 in grind (arith, nat_tests, c);
         told_some = let c = o.sees.told_some in let o : ℕ = 0 in grind (arith, nat_tests, c);
         told = let c = o.sees.told in let o : ℕ = 0 in grind (arith, nat_tests, c);
+        untold = λ i j m h1 h2 h3 h4. let c0 = o.sees.untold in let o : ℕ = 0 in grind (arith, nat_tests, c0);
         unlinked = let c = o.sees.unlinked in let o : ℕ = 0 in grind (arith, nat_tests, c);
       };
       words = let c = o.words in let o : ℕ = 0 in grind (arith, nat_tests, c);

@@ -45,7 +45,22 @@ return_copy_keeps_law s g o me target line kept pending target_word =
         skip_stale_out = let c = o.backs.skip_stale_out in let o : ℕ = 0 in grind (arith, nat_tests, c);
         parting = let c = o.backs.parting in let o : ℕ = 0 in grind (arith, nat_tests, c);
       };
-      sees = let c = o.sees in let o : ℕ = 0 in grind (arith, nat_tests, c);
+      sees = record {
+        none_seen = λ i h1 h2 h3. let c0 = o.sees.none_seen in let o : ℕ = 0 in grind (arith, nat_tests, c0);
+        forw_seen = λ i x h1 h2 h3 h4 h5. let c0 = o.sees.forw_seen in let o : ℕ = 0 in grind (arith, nat_tests, c0);
+        back_some = λ i h1 h2 hn. let c0 = o.sees.back_some in let o : ℕ = 0 in grind (arith, nat_tests, c0);
+        back_ahead = λ i x h1 h2 h3 h4. let c0 = o.sees.back_ahead in let o : ℕ = 0 in grind (arith, nat_tests, c0);
+        back_parting = λ i x h1 h2 h3. let c0 = o.sees.back_parting in let o : ℕ = 0 in grind (arith, nat_tests, c0);
+        back_seen = λ i h1 h2 h3. let c0 = o.sees.back_seen in let o : ℕ = 0 in grind (arith, nat_tests, c0);
+        back_behind = λ i h1 h2 h3. let c0 = o.sees.back_behind in let o : ℕ = 0 in grind (arith, nat_tests, c0);
+        back_front = λ i h1 h2 h3. let c0 = o.sees.back_front in let o : ℕ = 0 in grind (arith, nat_tests, c0);
+        told_seen = λ i h1 h2. let c0 = o.sees.told_seen in let o : ℕ = 0 in grind (arith, nat_tests, c0);
+        told_forw = λ i h1 h2. let c0 = o.sees.told_forw in let o : ℕ = 0 in grind (arith, nat_tests, c0);
+        told_some = λ i h1 h2 hn. let c0 = o.sees.told_some in let o : ℕ = 0 in grind (arith, nat_tests, c0);
+        told = λ i j h1 h2 h3 hn. let c0 = o.sees.told in let o : ℕ = 0 in grind (arith, nat_tests, c0);
+        untold = λ i j m h1 h2 h3 h4. let c0 = o.sees.untold in let o : ℕ = 0 in grind (arith, nat_tests, c0);
+        unlinked = λ p x h1 h2 h3 h4. let c0 = o.sees.unlinked in let o : ℕ = 0 in grind (arith, nat_tests, c0);
+      };
       words = let c = o.words in let o : ℕ = 0 in grind (arith, nat_tests, c);
       slots = record {
         memory_out = let c = o.slots.memory_out in let o : ℕ = 0 in grind (arith, nat_tests, c);

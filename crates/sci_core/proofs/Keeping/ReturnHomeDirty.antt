@@ -79,6 +79,7 @@ return_home_dirty_keeps_law s g o me line pending memory_word_is =
         told_forw = let c = o.sees.told_forw in let o : ℕ = 0 in grind (arith, nat_tests, c);
         told_some = let c = o.sees.told_some in let o : ℕ = 0 in grind (arith, nat_tests, c);
         told = let c = o.sees.told in let o : ℕ = 0 in grind (arith, nat_tests, c);
+        untold = λ i j m h1 h2 h3 h4. let c0 = o.sees.untold in let o : ℕ = 0 in grind (arith, nat_tests, c0);
         unlinked = let c = o.sees.unlinked in let o : ℕ = 0 in grind (arith, nat_tests, c);
       };
       words = let c = o.words in let o : ℕ = 0 in grind (arith, nat_tests, c);

@@ -3,7 +3,7 @@ use Rattle.std.proofs.lemmas.Bool.Decides.{nat_tests}
 use Rattle.sci_words.specs.declared.tags.Kind.{Kind}
 use Rattle.sci_core.specs.declared.pending.Pending.{Pending}
 use Rattle.sci_core.specs.State.{State, update, word}
-use Rattle.sci_core.specs.Shape.{shape}
+use Rattle.sci_core.specs.Shape.{link, shape}
 use Rattle.sci_core.specs.Law.{Witness, Law, Below}
 use Rattle.sci_core.proofs.Fields.{StepFields, step_fields}
 
@@ -28,7 +28,26 @@ roll_keeps_law s g o me pending me_valid me_unheld =
       own = let c = o.own in let o : ℕ = 0 in grind (arith, nat_tests, c);
       outside = let c = o.outside in let o : ℕ = 0 in grind (arith, nat_tests, c);
       backs = let c = o.backs in let o : ℕ = 0 in grind (arith, nat_tests, c);
-      sees = let c = o.sees in let o : ℕ = 0 in grind (arith, nat_tests, c);
+      sees = record {
+        none_seen = λ i h1 h2 h3. let c0 = o.sees.none_seen in let o : ℕ = 0 in grind (arith, nat_tests, c0);
+        forw_seen = λ i x h1 h2 h3 h4 h5. let c0 = o.sees.forw_seen in let o : ℕ = 0 in grind (arith, nat_tests, c0);
+        back_some = λ i h1 h2 hn. let c0 = o.sees.back_some in let o : ℕ = 0 in grind (arith, nat_tests, c0);
+        back_ahead = λ i x h1 h2 h3 h4. let c0 = o.sees.back_ahead in let o : ℕ = 0 in grind (arith, nat_tests, c0);
+        back_parting = λ i x h1 h2 h3. let c0 = o.sees.back_parting in let o : ℕ = 0 in grind (arith, nat_tests, c0);
+        back_seen = λ i h1 h2 h3. let c0 = o.sees.back_seen in let o : ℕ = 0 in grind (arith, nat_tests, c0);
+        back_behind = λ i h1 h2 h3. let c0 = o.sees.back_behind in let o : ℕ = 0 in grind (arith, nat_tests, c0);
+        back_front = λ i h1 h2 h3. let c0 = o.sees.back_front in let o : ℕ = 0 in grind (arith, nat_tests, c0);
+        told_seen = λ i h1 h2. let c0 = o.sees.told_seen in let o : ℕ = 0 in grind (arith, nat_tests, c0);
+        told_forw = λ i h1 h2. let c0 = o.sees.told_forw in let o : ℕ = 0 in grind (arith, nat_tests, c0);
+        told_some = λ i h1 h2 hn. let c0 = o.sees.told_some in let o : ℕ = 0 in grind (arith, nat_tests, c0);
+        told = λ i j h1 h2 h3 hn. let c0 = o.sees.told in let o : ℕ = 0 in grind (arith, nat_tests, c0);
+        untold = λ i j m h1 h2 h3 h4. let c0 = o.order.next_first me (link (s.tags me).forw) m in
+            let c1 = o.backs.ahead (link (s.tags me).forw) m in let c2 = o.sees.untold i j m in let c3 = o.outside.may_be me in
+            let c4 = o.order.next_in me j in let c5 = o.order.next_below me j in let c6 = o.order.apart me m in
+            let c7 = o.fronts.front me in let c8 = o.backs.skip_roll_out j m me in let c9 = o.backs.skip_roll j m me in let o : ℕ = 0 in
+            grind (arith, nat_tests, c0, c1, c2, c3, c4, c5, c6, c7, c8, c9);
+        unlinked = λ p x h1 h2 h3 h4. let c0 = o.sees.unlinked in let o : ℕ = 0 in grind (arith, nat_tests, c0);
+      };
       words = record {
         victim = let c = o.words.victim in let o : ℕ = 0 in grind (arith, nat_tests, c);
         victim_forw = let c = o.words.victim_forw in let o : ℕ = 0 in grind (arith, nat_tests, c);

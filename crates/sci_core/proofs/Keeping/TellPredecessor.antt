@@ -112,6 +112,14 @@ tell_predecessor_keeps_law s g o me target forw told pending in_turn target_forw
             let c3 = o.outside.may_be target in let c4 = o.outside.may_be me in let c5 = o.order.next_in me j in
             let c6 = o.order.next_below target me in let c7 = o.order.next_below me j in let c8 = o.fronts.queue target in
             let c9 = o.backs.skip_back j target me in let o : ℕ = 0 in grind (arith, nat_tests, c0, c1, c2, c3, c4, c5, c6, c7, c8, c9);
+        untold = λ i j m h1 h2 h3 h4. let c0 = o.order.next_in (link (s.tags target).forw) j in
+            let c1 = o.order.next_first me (link (s.tags me).forw) m in let c2 = o.order.apart (link (s.tags target).forw) m in
+            let c3 = o.backs.ahead (link (s.tags me).forw) m in let c4 = o.sees.untold i me m in let c5 = o.sees.untold i j m in
+            let c6 = o.sees.told_forw me in let c7 = o.sees.told me j in let c8 = o.own.suited target in let c9 = o.outside.may_be target in
+            let c10 = o.outside.may_be me in let c11 = o.order.next_first g.last_front me i in let c12 = o.order.next_below me j in
+            let c13 = o.order.next_below i me in let c14 = o.fronts.front i in let c15 = o.backs.skip_stale_out j m me in
+            let c16 = o.backs.skip_stale j m me in let o : ℕ = 0 in
+            grind (arith, nat_tests, c0, c1, c2, c3, c4, c5, c6, c7, c8, c9, c10, c11, c12, c13, c14, c15, c16);
         unlinked = λ p x h1 h2 h3 h4. let c0 = o.sees.unlinked p x in let c1 = o.sees.forw_seen p me in
             let c2 = o.sees.back_parting me target in let c3 = o.sees.back_front x in let c4 = o.sees.back_behind x in
             let c5 = o.own.suited target in let c6 = o.own.suited p in let c7 = o.outside.may_be target in let c8 = o.outside.may_be p in

@@ -83,6 +83,7 @@ tell_successor_keeps_law s g o me target back pending target_valid target_back t
             let c3 = o.own.suited target in let c4 = o.outside.may_be target in let c5 = o.outside.may_be me in
             let c6 = o.outside.may_be i in let c7 = o.order.next_first i j me in let c8 = o.backs.ahead target me in let o : ℕ = 0 in
             grind (arith, nat_tests, c0, c1, c2, c3, c4, c5, c6, c7, c8);
+        untold = λ i j m h1 h2 h3 h4. let c0 = o.sees.untold in let o : ℕ = 0 in grind (arith, nat_tests, c0);
         unlinked = let c = o.sees.unlinked in let o : ℕ = 0 in grind (arith, nat_tests, c);
       };
       words = record {

@@ -1,14 +1,18 @@
 -- What a node has seen, told or kept still fits the words.
-use Rattle.std.proofs.Common.{◌≡◌, ◌⊎◌, ◌≢◌, ℕ, ◌<◌, true, Option, Some, None, List, refl, sym, ap, inl, inr, ⊎_elim, ◌∙◌, arith}
+use Rattle.std.proofs.Common.{◌≡◌, ◌⊎◌, ◌≢◌, ℕ, ◌<◌, Bool, true, false, cond, Option, Some, None, List, refl, sym, ap, inl, inr, ⊎_elim, ◌∙◌, arith}
 use Rattle.std.proofs.lemmas.Bool.{cases_lt, cases_eq}
+use Rattle.std.proofs.lemmas.Bool.Decides.{nat_tests}
 use Rattle.sci_words.specs.declared.tags.Kind.{Kind}
 use Rattle.sci_words.specs.declared.tags.Tag.{Tag}
+use Rattle.sci_words.specs.declared.memory.Mem.{Mem}
+use Rattle.sci_words.specs.declared.memory.MemState.{MemState}
 use Rattle.sci_core.specs.declared.pending.Pending.{Pending}
-use Rattle.sci_core.specs.State.{State}
+use Rattle.sci_core.specs.State.{State, lent_word}
 use Rattle.sci_core.specs.Shape.{Phase, shape, phase_of, kept_of, flag_of, word_of, has_seen, seen_forw_of, seen_back_of}
-use Rattle.sci_core.specs.Law.{Law, Witness, may_be_outside, looks, purges}
+use Rattle.sci_core.specs.Law.{Law, Witness, may_be_outside, looks, purges, is_body, suits, is_dirty_front}
 use Rattle.sci_core.specs.Chain.{IsBehind}
-use Rattle.sci_core.specs.Facts.{seen_forward, seen_back, HasTold, IsStaleBack, KeptWordStands, RemembersTruly}
+use Rattle.sci_core.specs.Facts.{seen_forward, seen_back, HasTold, IsUntold, IsStaleBack, KeptWordStands, LentWordStands, RemembersTruly}
+use Rattle.sci_core.specs.Row.{listed, home}
 use Rattle.sci_core.proofs.ReadBack.Ranked.{Stands}
 use Rattle.sci_core.proofs.ReadBack.LastFront.{is_last_front}
 use Rattle.sci_core.proofs.ReadBack.PendingStep.{tag_is, not_held}
@@ -28,6 +32,10 @@ has_told : (p : Pending) → HasTold p → (phase_of p ≡ Phase.Rolling) × (fl
 has_told (Pending.Rolling t q) h = (refl, h)
 has_told _ h = absurd h
 
+is_untold : (p : Pending) → IsUntold p → (phase_of p ≡ Phase.Rolling) × (flag_of p ≡ false)
+is_untold (Pending.Rolling t q) h = (refl, h)
+is_untold _ h = absurd h
+
 rolling_saw : (p : Pending) → phase_of p ≡ Phase.Rolling → has_seen p ≡ true → seen_forward p ≡ Some (seen_forw_of p)
 rolling_saw (Pending.Rolling t (Some x)) e h = refl
 rolling_saw (Pending.Rolling t None) e h = absurd (grind (arith, h))
@@ -40,6 +48,20 @@ purging_or_not _ = inr (λ e. grind (arith, e))
 names_or_not : (f : Option ℕ) (i : ℕ) → (f ≡ Some i) ⊎ (f ≢ Some i)
 names_or_not None i = inr (λ e. grind (arith, e))
 names_or_not (Some j) i = ⊎_elim (λ e. inl (rw e refl)) (λ n. inr (λ e. grind (arith, e, n))) (cases_eq j i)
+
+dirty_fetch : (k : Kind) (p : Phase) (f : Bool) → p ≡ Phase.Fetching → suits p k ≡ true → is_dirty_front k p f ≡ true → f ≡ true
+dirty_fetch k p f e h d = grind (arith, e, h, d)
+
+state_is : (m : MemState) (d : Bool) → (m ≡ MemState.Home → ⊥) → (m ≡ MemState.Fresh → d ≡ false) → (m ≡ MemState.Gone → d ≡ true) → m ≡ cond d MemState.Gone MemState.Fresh
+state_is MemState.Home d h f g = absurd (h refl)
+state_is MemState.Fresh d h f g = let e = f refl in rw e refl
+state_is MemState.Gone d h f g = let e = g refl in rw e refl
+
+mem_is : (m : Mem) (k : MemState) (l : Bool) (f : Option ℕ) → m.state ≡ k → m.lent ≡ l → m.forw ≡ f → m ≡ record { state = k; lent = l; forw = f }
+mem_is m k l f e0 e1 e2 = rw (sym e0) (rw (sym e1) (rw (sym e2) refl))
+
+some_is_not_none : {i : ℕ} → Some i ≡ None → ⊥
+some_is_not_none e = grind (arith, e)
 
 rolling_inside : (p : Phase) (k : Kind) → p ≡ Phase.Rolling → may_be_outside p k ≡ true → ⊥
 rolling_inside p k e h = grind (arith, e, h)
@@ -112,12 +134,60 @@ module _ (s : State) (g : Witness) (o : Law (shape s) g) (nodes : List ℕ) (r :
   kept_word i (Pending.Copying f w l) e = kept_copied i f w (ap phase_of e) (ap kept_of e) (ap word_of e)
   kept_word i _ e = tt
 
+  -- the entry behind one in Roll is in the body
+  rolling_next : (i x : ℕ) → phase_of (s.steps i) ≡ Phase.Rolling → (s.tags i).forw ≡ Some x → is_body (s.tags x).kind ≡ true
+  rolling_next i x e f =
+      let p = rolling_in i e in
+      let c0 = o.order.next_in i x p f in
+      let c1 = o.order.next_below i x p f in
+      let c2 = o.fronts.front i p in
+      let c3 = o.fronts.body x c0 in
+      let c4 = o.own.suited i in
+      let o : ℕ = 0 in
+      grind (arith, nat_tests, c0, c1, c2, c3, c4, p, e)
+
+  untold_is : (i x : ℕ) (b : Option ℕ) → (s.tags x).back ≡ b → phase_of (s.steps i) ≡ Phase.Rolling → flag_of (s.steps i) ≡ false → (s.tags i).forw ≡ Some x → b ≡ Some i
+  untold_is i x None e p h f = absurd (o.own.body_back x (rolling_next i x p f) e)
+  untold_is i x (Some m) e p h f = let c = o.sees.untold i x m p h f e in rw c refl
+
+  -- who is Fetching under GONE is dirty
+  fetching_dirty : (i : ℕ) → phase_of (s.steps i) ≡ Phase.Fetching → s.memory.state ≡ MemState.Gone → flag_of (s.steps i) ≡ true
+  fetching_dirty i p h =
+      let c = o.slots.fetching i p in
+      let q = o.order.head_in i c in
+      let top = o.order.head_top i g.last_front c in
+      ⊎_elim
+      (λ l. o.mode.gone_flag i h l)
+      (λ l. let e = o.order.apart i g.last_front q (omega (arith, top, l)) in dirty_fetch (s.tags i).kind (phase_of (s.steps i)) (flag_of (s.steps i)) p (o.own.suited i) (rw e (o.mode.gone h)))
+      (cases_lt (g.rank g.last_front) (g.rank i))
+
+  lent_fetching : (i : ℕ) (d : Bool) → phase_of (s.steps i) ≡ Phase.Fetching → flag_of (s.steps i) ≡ d → s.memory ≡ lent_word (listed d i)
+  lent_fetching i d p h =
+      let c = o.slots.fetching i p in
+      mem_is s.memory (cond d MemState.Gone MemState.Fresh) true (Some i)
+      (state_is s.memory.state d
+      (λ e. some_is_not_none (sym c ∙ o.mode.home e))
+      (λ e. sym h ∙ o.mode.not_flagged i e (o.order.head_in i c) (rw p refl))
+      (λ e. sym h ∙ fetching_dirty i p e))
+      (o.slots.lends i (rw p refl))
+      c
+
+  lent_writing : (i : ℕ) → phase_of (s.steps i) ≡ Phase.WritingBack → s.memory ≡ lent_word home
+  lent_writing i p = let h = o.slots.writing i p in mem_is s.memory MemState.Home true None h (o.slots.lends i (rw p refl)) (o.mode.home h)
+
+  lent : (i : ℕ) (p : Pending) → s.steps i ≡ p → LentWordStands s.memory i p
+  lent i (Pending.Fetching f d l) e = lent_fetching i d (ap phase_of e) (ap flag_of e)
+  lent i (Pending.WritingBack l) e = lent_writing i (ap phase_of e)
+  lent i _ e = tt
+
   pub facts_of_law : RemembersTruly s nodes
   facts_of_law = record {
     seen_none = λ i h. let q = saw (s.steps i) None h in o.sees.none_seen i q.0 q.1 q.2;
     seen_some = seen_some;
     seen_back_link = seen_back_link;
     told_successor = λ i. told i (s.tags i).forw refl;
+    untold_successor = λ i x h. let t = is_untold (s.steps i) h in untold_is i x (s.tags x).back refl t.0 t.1;
     seen_unlinked = λ i x e h. let q = saw (s.steps i) (Some x) h in o.sees.unlinked i x e q.1 q.2;
     kept_word = λ i. kept_word i (s.steps i) refl;
+    lent = λ i. lent i (s.steps i) refl;
   }

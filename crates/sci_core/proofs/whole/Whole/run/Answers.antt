@@ -1,4 +1,4 @@
-use Rattle.std.proofs.Common.{◌<◌, ◌≡◌, ◌∙◌, ◌++◌, ◌∷◌, ◌+◌, [], List, ℕ, false, take, refl, sym, subst, arith}
+use Rattle.std.proofs.Common.{◌<◌, ◌≡◌, ◌∙◌, ◌++◌, ◌∷◌, ◌+◌, [], List, ℕ, false, take, refl, sym, subst, arith, Ok, Err}
 use Rattle.std.proofs.lemmas.List.{take_all, take_more}
 use Rattle.std.proofs.lemmas.List.Elements.{All-get_or}
 use Rattle.sci_words.specs.declared.nodes.NodeId.{NodeId}
@@ -7,6 +7,7 @@ use Rattle.sci_core.specs.State.{State}
 use Rattle.sci_core.specs.Answers.{is_allowed, FitsEvent}
 use Rattle.sci_core.specs.Run.{Runs}
 use Rattle.sci_core.specs.Whole.{WholeLine, IsSound, nodes_of, state_of}
+use Rattle.sci_core.proofs.Costs.{run_pays}
 use Rattle.sci_core.proofs.Lawfully.{lawful_line, run_none, run_more, run_refused}
 use Rattle.sci_core.proofs.whole.Whole.run.Goals as goal
 
@@ -68,3 +69,13 @@ step-requires-clause-fits g c =
     subst (λ (n : ℕ). FitsEvent (g.K.Keeps.fits now.keep n) c.index-events-place.result.1) (sym same.number)
     (subst (λ (k : g.row.K.Denot). FitsEvent (g.K.Keeps.fits k old.number) c.index-events-place.result.1) (sym same.keep)
     (subst (λ (e : NodeId × Event). FitsEvent (g.K.Keeps.fits old.keep old.number) e.1) (sym c.index-events-place.is) (All-get_or (λ (e : NodeId × Event). FitsEvent (g.K.Keeps.fits old.keep old.number) e.1) c.args.events.now c.loop-place.place c.index-events-place.result c.loop-place-test.true c.requires.fits)))
+
+pub returns-clause-paid : goal.returns-clause-paid
+returns-clause-paid g c =
+    let old = c.args.self.now in
+    run_pays (nodes_of old) (g.K.Keeps.fits old.keep old.number) (state_of old) (state_of c.loop-place.self) c.args.events.now (Ok c.loop-place.done) c.requires.nodes (returns-clause-runs g c)
+
+pub returns-in-Err-clause-paid : goal.returns-in-Err-clause-paid
+returns-in-Err-clause-paid g c =
+    let old = c.args.self.now in
+    run_pays (nodes_of old) (g.K.Keeps.fits old.keep old.number) (state_of old) (state_of c.step.new.self) c.args.events.now (Err c.loop-place.place) c.requires.nodes (returns-in-Err-clause-runs g c)
