@@ -193,6 +193,7 @@ def main():
         told += [(["script", "trace", "draw"], script, differs(script, room)) for script in scripts.ALIKE + traces.ALIKE]
         told += shortened(room)
         told += [(arguments, given, passes((arguments, given, *rest), room)) for arguments, given, *rest in wrongs.CASES]
+        told += wrongs.short()
     for arguments, given, wrong in told:
         passed, failed = passed + (not wrong), failed + bool(wrong)
         for it in wrong:
