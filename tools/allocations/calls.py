@@ -4,14 +4,19 @@ A row names calls, as `read_tag` or `Whole::{mem, tag}`; whether they take memor
 `no`; and where that is seen: tests, as `sci_line_tests::whole::growths::refused_growths`, or `in` calls that are made of these.
 
 A public call is a `pub fn` or a trait's `fn` that lib.rt hands on by its name or by the name of its type, or that a public module has:
-a function of a public module is named with it, as `layout1::read_tag`. Each must stand in one row, and each name of a row must be one. A call that takes memory must be in the growths of a test that its row names, or be `in` calls
-that are. Where an allocator comes in, and the call takes no memory, a test must say so. A call may wait where a bound says `Wait`.
+a function of a public module is named with it, as `layout1::read_tag`. Each must stand in one row, and each name of a row must be one.
+A call that takes memory must be in the growths of a test that its row names, or be `in` calls that are. Where an allocator comes in, and
+the call takes no memory, a test must say so, in a file that names the call. A call that has an allocator or changes itself, and of which
+a test of its crate's rows has growths, takes memory. A call may wait where a bound says `Wait`. What lib.rt hands on it must name one by
+one, and under their own names.
 """
 
 import re
 
-ITEM = re.compile(r"(?m)^(?:(impl|pub trait|pub struct|pub enum)\b(.*)$|( *)(?:(pub )?)(?:const )?fn (\w+))")
-USES = re.compile(r"pub use [\w:]+::(?:\{([^}]*)\}|(\w+));")
+ITEM = re.compile(r"(?m)^(?:(impl|pub trait|pub struct|pub enum)\b(.*)$|( *)(?:(pub )?)(?:const )?(?:unsafe )?fn (\w+))")
+USES = re.compile(r"pub use [\w:]+::(?:\{(\s*\w+(?:,\s*\w+)*,?\s*)\}|(\w+));")
+# what stands in a lib.rt and isn't read: names handed on in another form, and functions
+UNREAD = re.compile(r"(?m)^ *(pub use [^;]*;|(?:pub )?(?:const )?(?:unsafe )?fn \w+)")
 ROW = re.compile(r"(?m)^\| (.*`.*) \| (\w+) \| (\w+) \| (.*) \|$")
 NAMES = re.compile(r"`(\w+(?:::\w+)*)(?:::\{([^}]*)\})?`")
 GROWTHS = re.compile(r"/// Growths: ([^.]+)\.\n#\[test\]\nfn (\w+)\(")
@@ -45,8 +50,14 @@ def type_of(head):
     return None if re.search(r"\bfor\b", plain.split("{")[0]) else re.match(r"\w+", plain)[0]
 
 
+def unread(crate):
+    """What a crate's lib.rt hands on in a form that isn't read."""
+    text = (crate / "src/lib.rt").read_text(encoding="utf-8")
+    return [item for item in UNREAD.findall(text) if not USES.fullmatch(item)]
+
+
 def calls_of(crate):
-    """The public calls of a crate, each with whether an allocator comes in and whether it may wait."""
+    """The public calls of a crate, each with whether an allocator comes in, whether it may wait, and whether it changes itself."""
     (public, modules), found = handed_on(crate), {}
     for file in sorted(crate.glob("src/**/*.rt")):
         text, owner, is_trait = file.read_text(encoding="utf-8"), None, False
@@ -60,7 +71,7 @@ def calls_of(crate):
             if is_handed_on and (is_public or (is_trait and indent)):
                 text_of = signature(text, item.end())
                 call = f"{owner if indent else module}::{name}" if indent or module else name
-                found[call] = (bool(re.search(r"\b(Global|AllocGlobal)\b", text_of)), bool(re.search(r"\bWait\b", text_of)))
+                found[call] = tuple(bool(re.search(it, text_of)) for it in (r"\b(Global|AllocGlobal)\b", r"\bWait\b", r"&mut self\b"))
     return found
 
 
@@ -88,22 +99,47 @@ def rows_of(root):
     return [(crate, *row) for crate, part in zip(parts[1::2], parts[2::2]) for row in ROW.findall(part)]
 
 
-def faults_of_row(row, calls, tests, grown):
+def file_of(root, test):
+    """The text of a test's file."""
+    crate, *modules, _ = test.split("::")
+    return root.joinpath("crates", crate, "src", *modules).with_suffix(".rt").read_text(encoding="utf-8")
+
+
+def shows(root, test, call):
+    """Whether a test's file names a call."""
+    return bool(re.search(rf"\b{call.split('::')[-1]}\b", file_of(root, test)))
+
+
+def growing_in(crate, rows, tests):
+    """The names of what grows in the tests that a crate's rows name."""
+    return {name for it in rows if it[0] == crate for test in named_in(it[4]) for name in tests.get(test, ())}
+
+
+def faults_of_none(root, call, takes, shown, growing):
+    """What isn't as it must be of a call that is said to take no memory. `growing` is what grows in the tests of its crate's rows."""
+    has_alloc, _, changes = takes
+    if has_alloc and not any(shows(root, it, call) for it in shown):
+        yield f"{call}: no test shows that it takes no memory"
+    if (has_alloc or changes) and call.split("::")[-1] in growing:
+        yield f"{call}: a test has growths of it, and it is said to take no memory"
+
+
+def faults_of_row(root, row, calls, tests, grown, growing):
     """What isn't as it must be in a row. `grown` are the calls of all rows that a test's growths have."""
     _, names, memory, waits, seen = row
     shown, within, faults = named_in(seen.split("in ")[0]), named_in(seen.partition("in ")[2]), []
     faults += [f"there is no test {it}" for it in shown if it not in tests]
     faults += [f"the growths of {it} are shown by no test" for it in within if it not in grown]
     for call in named_in(names):
-        has_alloc, may_wait = calls.get(call, (False, waits == "may"))
+        takes = calls.get(call, (False, waits == "may", False))
         if call not in calls:
             faults.append(f"there is no public call {call}")
-        if memory not in ("yes", "none") or waits != ("may" if may_wait else "no"):
+        if memory not in ("yes", "none") or waits != ("may" if takes[1] else "no"):
             faults.append(f"{call}: '{memory}' and '{waits}' aren't what it takes and whether it may wait")
         if memory == "yes" and call not in grown and not within:
             faults.append(f"{call}: no test that its row names has growths of it")
-        if memory == "none" and has_alloc and not shown:
-            faults.append(f"{call}: no test shows that it takes no memory")
+        if memory == "none":
+            faults += faults_of_none(root, call, takes, [it for it in shown if it in tests], growing)
     return faults
 
 
@@ -117,9 +153,10 @@ def faults(root):
     """What isn't as it must be in the table of a repository's public calls."""
     crates = [it.parents[1] for it in sorted(root.glob("crates/*/src/lib.rt")) if not it.parents[1].name.endswith("_tests")]
     calls, rows, tests = {it.name: calls_of(it) for it in crates}, rows_of(root), tests_of(root)
-    grown, found = grown_of(rows, tests), []
+    grown, found = grown_of(rows, tests), [f"{it.name}: its lib.rt has {use!r}, which isn't read" for it in crates for use in unread(it)]
     for row in rows:
-        found += [f"{row[0]}: {it}" for it in faults_of_row(row, calls.get(row[0], {}), tests, grown)]
+        growing = growing_in(row[0], rows, tests)
+        found += [f"{row[0]}: {it}" for it in faults_of_row(root, row, calls.get(row[0], {}), tests, grown, growing)]
     for crate, public in calls.items():
         named = [call for it in rows if it[0] == crate for call in named_in(it[1])]
         found += [f"{crate}: {it} stands in no row" for it in sorted(public) if it not in named]

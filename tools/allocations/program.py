@@ -57,6 +57,8 @@ RUNS = [
     ("run", COUNT, 1, OR_NO_THREAD, nothing),
     ("run", STENCIL, 1, OR_NO_THREAD, nothing),
     ("run", RING, 1, OR_NO_THREAD, nothing),
+    ("run --progress", COUNT, 1, OR_NO_THREAD, nothing),
+    ("--help", "", 1, REFUSED, nothing),
 ]
 
 
@@ -69,7 +71,7 @@ class Scisim:
     def run(self, command, text, refused):
         """The status, what was printed, what was told, and whether there was the allocation of this number, which was refused."""
         env = {"LD_PRELOAD": self.refusing, "REFUSED": str(refused)}
-        ran = subprocess.run([self.path, command], input=text.encode(), capture_output=True, env=env, timeout=60)
+        ran = subprocess.run([self.path, *command.split()], input=text.encode(), capture_output=True, env=env, timeout=60)
         return ran.returncode, ran.stdout, ran.stderr.replace(SAID, b""), SAID in ran.stderr
 
 

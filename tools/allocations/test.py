@@ -61,8 +61,8 @@ CASES = [
 ]
 
 
-# a crate of two calls that are handed on, of which one takes memory, of two that aren't, and of one in a public module; its table, and
-# a crate of its tests
+# a crate of two calls that are handed on, of which one takes memory, of two that aren't, and of one in a public module; a crate of its
+# tests, and its table
 CRATE = {
     "crates/one/src/lib.rt": "mod calls;\npub mod old;\npub use calls::{Line, read};\n",
     "crates/one/src/old.rt": "fn inner(word: u64) {\n}\n\npub fn read(word: u64) -> u64 {\n}\n",
@@ -70,6 +70,7 @@ CRATE = {
     "    pub fn open(\n        alloc: Global,\n    ) -> Line {\n    }\n\n    fn own(alloc: Global) {\n    }\n}\n",
     "crates/one_tests/src/lib.rt": "",
     "crates/one_tests/src/lines/growths.rt": "/// Growths: 2 of open.\n#[test]\nfn growths() {\n}\n",
+    "crates/one_tests/src/lines/memory.rt": "#[test]\nfn reads() {\n    read(0);\n}\n",
     "docs/MEMORY.md": "## one\n\n| calls | memory | waits | seen in |\n|---|---|---|---|\n"
     "| `old::{read}` | none | no | its signature |\n"
     "| `read` | none | no | its signature |\n| `Line::{open}` | yes | no | `one_tests::lines::growths::growths` |\n",
@@ -93,6 +94,13 @@ TABLES = [
     ("a call within one that has no growths", "docs/MEMORY.md", OPEN, "| `Line::open` | yes | no | in `read` |", "the growths of read are shown by no test"),
     ("a call that may wait, and is said not to", "crates/one/src/calls.rt", "fn read(", "fn read<R: Wait>(", "read: 'none' and 'no'"),
     ("a new call", "crates/one/src/calls.rt", "    fn own(", "    pub fn own(", "Line::own stands in no row"),
+    ("a new unsafe call", "crates/one/src/calls.rt", "    fn own(", "    pub unsafe fn own(", "Line::own stands in no row"),
+    ("a call that grows, and is said to take none", "docs/MEMORY.md", "| yes | no | `", "| none | no | `", "Line::open: a test has growths of it"),
+    ("a test that doesn't name the call", "docs/MEMORY.md", OPEN, "| `Line::open` | none | no | `one_tests::lines::memory::reads` |", "Line::open: no test shows"),
+    ("all names handed on", "crates/one/src/lib.rt", "{Line, read}", "*", "its lib.rt has 'pub use calls::*;'"),
+    ("a name handed on within another", "crates/one/src/lib.rt", "{Line, read}", "{Line, read, more::{close}}", "its lib.rt has 'pub use"),
+    ("another name handed on", "crates/one/src/lib.rt", "{Line, read}", "{Line, read as write}", "its lib.rt has 'pub use"),
+    ("a call in lib.rt", "crates/one/src/lib.rt", "mod calls;", "mod calls;\npub fn close() {\n}", "its lib.rt has 'pub fn close'"),
     ("a new call that takes none", "crates/one/src/calls.rt", "pub fn inner(", "pub trait Line {\n    fn made();\n}\n\npub fn inner(", "Line::made stands"),
 ]
 

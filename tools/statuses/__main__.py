@@ -3,7 +3,8 @@
     python3 tools/statuses [PROGRAM]
 
 PROGRAM is crates/sci_sim/out/sci_sim, or the one that is named. The last line is `statuses: N passed, M failed`, and the
-status is 0 where none failed. kinds.py says what a case is, and shortages.py what is tried in little memory.
+status is 0 where none failed. kinds.py says what a case is, and shortages.py what is tried in little memory. wrong.py has cases that
+must fail: each that does counts as passed.
 """
 
 import html
@@ -29,6 +30,7 @@ import settings
 import shortages
 import sizes
 import traces
+import wrong as wrongs
 from kinds import CLOSED, FOLDER, FULL, UNREAD
 from kinds import Begins, Broken, Crowded, Drawn, Filled, Lawful, Little, Page, Traced, WholePage
 
@@ -150,6 +152,11 @@ def fails(case, room):
     return wrong
 
 
+def passes(case, room):
+    """What is wrong where a case that is wrong isn't told."""
+    return [] if fails(case, room) else [f"{case[2:]} was taken for what it does"]
+
+
 def differs(script, room):
     """Where `trace` and `draw` do with a script what `script` doesn't do."""
     (status, (text, error)), traced, paged = (run([it], [script, "", ""], room) for it in ("script", "trace", "draw"))
@@ -185,6 +192,8 @@ def main():
         told = [(arguments, given, fails((arguments, given, *rest), room)) for arguments, given, *rest in cases]
         told += [(["script", "trace", "draw"], script, differs(script, room)) for script in scripts.ALIKE + traces.ALIKE]
         told += shortened(room)
+        told += [(arguments, given, passes((arguments, given, *rest), room)) for arguments, given, *rest in wrongs.CASES]
+        told += wrongs.short()
     for arguments, given, wrong in told:
         passed, failed = passed + (not wrong), failed + bool(wrong)
         for it in wrong:

@@ -150,6 +150,7 @@ CASES = [
     (["run"], ITEM + "capacity = 1\n", 0, ITEM_LEFT, ""),
     (["run"], ITEM + "capacity = 2\n", 0, ITEM_KEPT, ""),
     (["run"], COUNT + "dump = true\n", 0, Lawful("count 4000\n"), ""),
+    (["run"], COUNT.replace("nodes = 4\nadds = 1000", "nodes = 64\nadds = 10") + "dump = true\n", 0, Lawful("count 640\n"), ""),
     (["run"], STENCIL + "dump = true\n", 0, Lawful(SPREAD), ""),
     (["run"], RING + "dump = true\n", 0, Lawful(PASSED), ""),
 ]

@@ -36,6 +36,7 @@ TAKEN = [
     run(text_of(STENCIL, phases="0"), "cells 0 0 0 1 0 0 0\n"),
     run(text_of(STENCIL, phases="1000000", nodes="1", cells=zeros(7)), "cells" + " 0" * 7 + "\n"),
     run(text_of(STENCIL, cells=zeros(3584), phases="1"), "cells" + " 0" * 3584 + "\n"),
+    run(text_of(STENCIL, nodes="64", capacity="1024", cells=zeros(3584), phases="1"), "cells" + " 0" * 3584 + "\n"),
     run(text_of(RING, lines="1"), GIVEN[1][1]),
     run(text_of(RING, lines="1023"), GIVEN[1][1]),
     run(text_of(RING, capacity="1024"), GIVEN[1][1]),

@@ -1,7 +1,8 @@
-"""Scripts of many numbers of nodes; and scripts, dumps and settings of as many bytes as an input may have."""
+"""Scripts of many numbers of nodes, and one whose node names each line there may be; and scripts, dumps and settings of as many bytes as
+an input may have."""
 
 from dumps import ITS_LISTS, LARGE_DUMP
-from kinds import LIMIT, Page, refused
+from kinds import LIMIT, Page, Traced, refused
 
 
 def visits(nodes):
@@ -10,6 +11,15 @@ def visits(nodes):
     text = [f"node {node} read 0 stamp 0\nline 0 FRESH {node}: {node} ONLY_FRESH\nnode {node} out\n" for node in range(nodes)]
     return f"memory {nodes} 1\n" + "".join(script) + "list 0\n", "".join(text) + "line 0 HOME\n"
 
+
+def named():
+    """A script of a node that names each line of the largest memory, and its text."""
+    script = [f"load 63 {line} 0\ndone 63\n" for line in range(1024)]
+    text = 1024 * "node 63 read 0 stamp 0\n" + f"node 63 residents {' '.join(map(str, range(1023, -1, -1)))}\n"
+    return "memory 64 1024\n" + "".join(script) + "residents 63\n", text
+
+
+NAMED, ITS_NAMES = named()
 
 # As many commands, openings, lines, words, blanks or digits as have room in a script, its status, its text and what it is told.
 LARGEST = [
@@ -64,6 +74,9 @@ assert len(DUMP) == len(RING) == LIMIT
 CASES = [
     *((["script"], script, 0, text, "") for script, text in map(visits, NODES)),
     *((["script"], *it) for it in LARGEST),
+    (["script"], NAMED, 0, ITS_NAMES, ""),
+    (["trace"], NAMED, 0, Traced(ITS_NAMES), ""),
+    (["draw"], NAMED, 0, Page(ITS_NAMES), ""),
     *((["trace"], *it) for it in LARGEST[:1]),
     *((["draw"], script, status, Page(text), said) for script, status, text, said in LARGEST[:1]),
     (["check"], DUMP, 0, ITS_VERDICT, ""),

@@ -1,0 +1,70 @@
+"""Cases that are wrong in one place each, by the kinds of texts that they want, and programs that answer wrongly in little memory: the
+tool must tell each of them."""
+
+import shortages
+from kinds import FULL, READ, WRITE
+from kinds import Begins, Broken, Drawn, Filled, Lawful, Little, Page, Traced, WholePage, refused
+from runs import ALONE, COUNT
+from scripts import ROW, TEXT
+
+CASES = [
+    (["script"], ROW, 1, TEXT, ""),
+    (["script"], ROW, 0, TEXT[:-1], ""),
+    (["script"], ROW, 0, TEXT + "\n", ""),
+    (["script"], ROW, 0, "", ""),
+    (["script"], ROW, 0, TEXT, "\n"),
+    (["script"], "", 1, "", refused("16 at line 2")),
+    (["script"], "", 1, "", ""),
+    (["script"], ROW, 0, Begins(TEXT[1:]), ""),
+    (["script"], Broken(ROW), 1, "", WRITE),
+    (["script"], Little(ROW), 1, "", refused("7")),
+    (["script"], ROW, 1, FULL, READ),
+    (["script"], ROW, 0, Filled(TEXT[:-1]), ""),
+    (["script"], ROW, 1, Filled(TEXT[:-1]), ""),
+    (["script"], ROW, 0, Filled(TEXT.replace("node", "NODE")), ""),
+    (["trace"], ROW, 0, TEXT, ""),
+    (["trace"], ROW, 0, Traced(TEXT[:-1]), ""),
+    (["draw"], ROW, 0, Traced(TEXT), ""),
+    (["draw"], ROW, 0, Drawn(TEXT[:-1]), ""),
+    (["draw"], ROW, 0, Page(TEXT[:-1]), ""),
+    (["draw"], ROW, 0, WholePage(TEXT), ""),
+    (["draw"], "", 1, Page(""), refused("16 at line 1")),
+    (["script"], ROW, 0, Page(TEXT), ""),
+    (["run"], COUNT, 0, Lawful("count 4000\n"), ""),
+    (["run"], ALONE, 0, Lawful("count 4\n"), ""),
+]
+
+LOW, LEAST, WHOLE = 1_000_000, 50_000_000, "one\ntwo\n"
+
+
+def program(least=LEAST, status=1, said="one\n", error=refused("7"), whole=WHOLE):
+    """A program that has enough memory from there on, and what it answers in less."""
+
+    def serve(command, given):
+        memory = given.memory if isinstance(given, Little) else shortages.AMPLE
+        return (0, whole, "") if memory >= least else (status, "" if memory == LOW else said, error)
+
+    return serve
+
+
+# How a program answers in little memory, and whether that is right.
+SHORT = [
+    ({}, True),
+    ({"least": LOW}, False),
+    ({"least": 2 * shortages.AMPLE}, False),
+    ({"status": 2}, False),
+    ({"error": refused("16 at line 1")}, False),
+    ({"error": refused("26")}, False),
+    ({"said": ""}, False),
+    ({"said": "on"}, False),
+    ({"said": "two\n"}, False),
+    ({"said": WHOLE}, False),
+    ({"whole": "one\n"}, False),
+]
+
+
+def short():
+    """The programs of SHORT that are taken for what they are not."""
+    for how, is_right in SHORT:
+        wrong = shortages.faults(program(**how), LOW, "script", "", WHOLE, True)
+        yield (["little memory"], str(how), [] if is_right == (not wrong) else [f"it was told {wrong}"])
