@@ -6,6 +6,7 @@
     python3 tools/law possible     ask the solver whether each row's premises can be met
     python3 tools/law readback 4   ask the solver whether the definitions follow from the law, at 4 nodes
     python3 tools/law ask ROW [CLAUSE]   ask the solver whether the row keeps the law, or the clause, and show what breaks it
+    python3 tools/law states [--check]   write docs/EVENTS.md, which row an event is in each state; or check that it is so
 """
 import os
 import re
@@ -18,7 +19,7 @@ from clauses import CRATE, GROUPS
 from rows import ROWS
 
 CHECK = os.environ.get('CHECK', 'rt check --jobs 2')
-COMMANDS = ['write', 'hints', 'compact', 'possible', 'readback', 'ask']
+COMMANDS = ['write', 'hints', 'compact', 'possible', 'readback', 'ask', 'states']
 
 
 def place(lines, number):
@@ -115,6 +116,9 @@ def main():
         if not more:
             raise SystemExit('which row? python3 tools/law ask ROW [CLAUSE]')
         sys.exit(0 if ask.ask(more[0], more[1:]) else 1)
+    if command == 'states':
+        import states
+        sys.exit(0 if states.states(more) else 1)
     if command == 'possible':
         import solver
         print('rows that can never be taken:', [row.name for row in ROWS.values() if not solver.possible(row)])

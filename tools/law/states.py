@@ -1,0 +1,249 @@
+"""Writes docs/EVENTS.md: which row an event is in each state, where it misses, and where it isn't in turn."""
+import difflib
+import os
+import re
+
+from clauses import TOP, read
+from rows import EVENTS, ROWS, STEP_FIELDS, Word, inside
+
+PAGE = os.path.join(TOP, 'docs', 'EVENTS.md')
+STATES = ['Home', 'Fresh', 'Gone']
+KINDS = ['Invalid', 'Queued', 'Fresh', 'Dirty', 'Convert', 'Purging', 'Leaving', 'Valid', 'Roll', 'Purged']
+HOLDABLE = ['Fresh', 'Dirty', 'Valid']
+ORDER = [row for event in EVENTS for row in ROWS.values() if row.event == event]
+NUMBERS = {row.name: number for number, row in enumerate(ORDER, 1)}
+LABELS = {'written': 'Written(words)', 'unwritten': 'Written(none)'}
+# The events that carry the tag that they found: with another kind they aren't in turn.
+FOUND = set(re.findall(r'(?m)^    (\w+)\(Tag\),', read('src', 'events.rt')))
+NAMES = {'target': 'x', 'line': '', 'seen': 'anything', 'back': 'b', 'old': 'g', 'forw': 'f'}
+HEAD = """# Which event in which state
+
+For one who writes such a protocol, or looks for what may happen next. `python3 tools/law states` writes this page from the rows of
+[tools/law/rows.py](../tools/law/rows.py), of which the prover checks that they are the table of exchanges and keep the law; the gate
+compares it. [PROTOCOL.md](PROTOCOL.md) has the same rows by topic, with what each is for, and the signs used here: `K(f,b)` is a tag,
+`-` no link, `+` held or lent, `me` the acting node, `x` another one.
+
+## Which row, by the pending step
+
+A number is the row's in the list below. Where there is none, the event isn't in turn: the node's step doesn't allow it, and nothing
+happens. Look is always allowed; where it has no number it records nothing.
+
+"""
+LIST = """
+## The rows
+
+An event that is in turn finds the word before, and puts the word after in its place; or it *misses*, and changes nothing. `f`, `g` and
+`b` are any links. `Fresh/Dirty` is Dirty where the step is dirty, else Fresh, and so is `FRESH/GONE`; for Leave the step is dirty where
+the tag was Dirty.
+
+"""
+MEMORY = """
+## On memory's word
+
+What becomes of an event that is in turn, by the word that it finds: the row's number, where that word names whom the row says, or a
+miss. While memory is lent every event misses but ReturnMemory, which never misses in a lawful state: nobody else changes a lent word.
+
+"""
+TAGS = """
+## On a tag
+
+The same by the kind of the tag that an exchange finds, the node's own or another's; the links must be the row's too. `+` is held. An
+event that carries the tag that its node has loaded isn't in turn with a tag of another kind (`-`); with a right one it still misses
+where the tag has changed since. Whether a kind can be met there at all is a matter of the law: what a node's own tag is in each step
+stands in [PROTOCOL.md](PROTOCOL.md#pending-steps).
+
+"""
+
+
+def link(text):
+    """A link in short: `-` for none."""
+    if text == 'None':
+        return '-'
+    some = inside(text) or text.removeprefix('Some ')
+    return NAMES.get(some, 'f' if 's.forw' in some else some)
+
+
+def flag(word, text):
+    """A mark of a step: there, not there, or either."""
+    return {'true': [word], 'false': [f'not {word}']}.get(text, [f'{word} or not'])
+
+
+def sight(text):
+    """What a step has seen."""
+    if text in ('None', 'seen'):
+        return ['anything seen'] if text == 'seen' else []
+    seen = inside(text)
+    if seen.startswith('('):
+        forw, back = seen[1:-1].split(', ') if ', ' in seen else (seen, None)
+        return [f'seen ({link(forw)},{link(back)})'] if back else [f'seen {link(seen)}']
+    return [f'seen {link(seen)}']
+
+
+def step_of(step):
+    """A pending step with what it keeps, but for lines."""
+    phase, *parts = step
+    kept, marks = [], []
+    for name, part in zip(STEP_FIELDS[phase], parts):
+        if name in ('kept', 'node', 'back_kept'):
+            kept.append(link(part))
+        elif name == 'flag':
+            marks += flag({'Converting': 'turned', 'Rolling': 'told'}.get(phase, 'dirty'), part)
+        elif name == 'copy':
+            marks += ['a copy'] if inside(part) else ['no copy'] if part == 'None' else []
+        elif name == 'sight':
+            marks += sight(part)
+    return ', '.join([phase + (f'({",".join(kept)})' if kept else '')] + marks)
+
+
+def before_of(row):
+    """The pending step that a row asks for. Where its mark may be wanting, that nobody is behind does instead."""
+    text = step_of(row.step)
+    return text.replace('told or not', 'told or f is -') if any(name == 'in_turn' for name, _ in row.needs) else text
+
+
+def kinds_of(row):
+    """The node whose tag the row changes, the kinds that it finds there, and whether it finds them held."""
+    node = next(iter(row.words))
+    word = row.before.get(node)
+    if word and word.kind.startswith('Kind.'):
+        return node, [word.kind[5:]], word.held == 'true'
+    if word:
+        return node, kept_kinds(row.step[0]), True
+    texts = [text for _, text in row.needs if f's.kind {node}' in text]
+    if any('can_be_held' in text for text in texts):
+        return node, HOLDABLE, False
+    wanted = [kind for text in texts if '≡' in text for kind in re.findall(r'Kind\.(\w+)', text)]
+    barred = [kind for text in texts if '≢' in text for kind in re.findall(r'Kind\.(\w+)', text)]
+    return node, wanted or [kind for kind in KINDS if kind not in barred], False
+
+
+def kept_kinds(phase):
+    """The kinds of the word that a step keeps: those which the row that enters it leaves there."""
+    enters = next(row for row in ROWS.values() if row.after[0] == phase and row.step[0] != phase and any(isinstance(it, Word) for it in row.after))
+    kind = next(it for it in enters.after if isinstance(it, Word)).kind
+    return [kind[5:]] if kind.startswith('Kind.') else kinds_of(enters)[1]
+
+
+def states_of(row):
+    """The states of memory's word that the row finds."""
+    text = row.memory_before.state
+    return [state for state in STATES if f'MemState.{state}' in text]
+
+
+def tag_text(kinds, forw, back, held):
+    names = 'K' if len(kinds) > 3 else '/'.join(sorted(kinds, key=KINDS.index))
+    return f'{names}{"+" if held else ""}({forw},{back})'
+
+
+def words_of(row):
+    """The word that the row finds and the one that it leaves, as texts."""
+    if row.memory:
+        after = row.memory
+        if not row.memory_before:
+            return 'memory: as it was lent', 'the same, not lent'
+        names = '/'.join(state.upper() for state in states_of(row))
+        before = names + ('' if row.memory_before.forw == 'None' else f'({link(row.memory_before.forw)})')
+        left = names if 'dirty' in after.state else after.state.split('.')[1].upper()
+        return 'memory: ' + before, left + ('+' if after.lent == 'true' else '') + ('' if after.forw == 'None' else f'({link(after.forw)})')
+    node, kinds, held = kinds_of(row)
+    word = row.before.get(node)
+    forw, back = ends(word, node, row)
+    after = row.words[node]
+    left = after_kinds(row, after, kinds)
+    new_forw, new_back = (link_after(after.forw, forw), link_after(after.back, back))
+    return ('own: ' if node == 'me' else 'x: ') + tag_text(kinds, forw, back, held), tag_text(left, new_forw, new_back, after.held == 'true')
+
+
+def ends(word, node, row):
+    """The links of the tag that a row finds; `f` and `b` where the row takes any."""
+    if word and not word.forw.startswith('kept'):
+        return link(word.forw), link(word.back)
+    needs = ' '.join(text for _, text in row.needs)
+    forw = 'me' if f's.forw {node} ≡ Some me' in needs else 'f'
+    back = 'me' if f's.back {node} ≡ Some me' in needs else 'not me' if f's.back {node} ≢ Some me' in needs else 'b'
+    fronts = not set(kinds_of(row)[1]) & {'Valid', 'Roll', 'Purged'}
+    return forw, '-' if fronts else 'me' if row.event == 'ReturnCopy' else back
+
+
+def link_after(text, before):
+    """A link of the tag that a row leaves."""
+    if text.startswith('(s.') or text.startswith('kept.'):
+        return before if not text.startswith('kept.forw') or before != 'x' else 'f'
+    return link(text)
+
+
+def after_kinds(row, word, kinds):
+    if word.kind.startswith('Kind.'):
+        return [word.kind[5:]]
+    return re.findall(r'Kind\.(\w+)', word.kind) or kinds
+
+
+def grid(head, rows):
+    """A table."""
+    lines = [head, ['---'] * len(head), *rows]
+    return ''.join('| ' + ' | '.join(line) + ' |\n' for line in lines)
+
+
+def by_step():
+    """Events and pending steps: the numbers of their rows."""
+    phases = list(STEP_FIELDS)
+    cells = lambda event: [', '.join(str(NUMBERS[row.name]) for row in ORDER if row.event == event and row.step[0] == phase)
+                           for phase in phases]
+    return grid(['event'] + phases, [[event] + cells(event) for event in EVENTS])
+
+
+def listed():
+    """Each row by its number."""
+    rows = []
+    for row in ORDER:
+        before, after = ('own, loaded', 'the same') if row.event == 'Look' else words_of(row)
+        rows.append([str(NUMBERS[row.name]), LABELS.get(row.name, row.event), before_of(row), before, after, step_of(row.after)])
+    return grid(['row', 'event', 'in step', 'finds', 'leaves', 'step after'], rows)
+
+
+def by_memory():
+    """The rows on memory's word, by the word that is found."""
+    rows = []
+    for row in ORDER:
+        if row.memory:
+            here = states_of(row) if row.memory_before else []
+            number = str(NUMBERS[row.name])
+            rows.append([f'{number} {row.event}', step_of(row.step)] + [number if it in here else 'misses' for it in STATES]
+                        + ['misses' if row.memory_before else number])
+    return grid(['row', 'in step'] + [it.upper() for it in STATES] + ['lent'], rows)
+
+
+def by_tag():
+    """The rows on a tag, by the kind that is found."""
+    columns = [(kind, held) for kind in KINDS for held in ([False, True] if kind in HOLDABLE else [False])]
+    rows = []
+    for row in ORDER:
+        if not row.words:
+            continue
+        node, kinds, held = kinds_of(row)
+        number, other = str(NUMBERS[row.name]), '-' if row.event in FOUND else 'miss'
+        cells = [number if kind in kinds and is_held == held else other for kind, is_held in columns]
+        rows.append([f'{number} {LABELS.get(row.name, row.event)}', 'own' if node == 'me' else 'x'] + cells)
+    return grid(['row', 'tag'] + [kind + ('+' if held else '') for kind, held in columns], rows)
+
+
+def page():
+    """The page's text."""
+    return HEAD + by_step() + LIST + listed() + MEMORY + by_memory() + TAGS + by_tag()
+
+
+def states(words):
+    """Writes the page; or, with --check, says where it isn't what would be written, and gives False."""
+    text, there = page(), ''
+    if os.path.exists(PAGE):
+        with open(PAGE, encoding='utf-8') as file:
+            there = file.read()
+    if '--check' not in words:
+        with open(PAGE, 'w', encoding='utf-8') as file:
+            file.write(text)
+    differs = '--check' in words and text != there
+    if differs:
+        print('states: docs/EVENTS.md isn\'t what the rows give; python3 tools/law states writes it')
+        print('\n'.join(difflib.unified_diff(there.split('\n'), text.split('\n'), lineterm='', n=0)))
+    print(f'states: {len(EVENTS)} events, {len(ROWS)} rows, {int(differs)} faults')
+    return not differs
