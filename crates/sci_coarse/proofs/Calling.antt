@@ -77,6 +77,6 @@ row_keeps me p e a q h =
     ap (λ (s : Stage). pending_of s a) (ap stage_of after ∙ stage_with o.after own) ∙ (ap (pending_of o.after) is ∙ sym after)
 
 -- a line that an event answers is the one that the step after it keeps, where it keeps one
-pub answer_kept : (me : ℕ) (p : Pending) (e : Event) (a : Line) (q : Pending) → TakesRow me p e (Outcome.Done (Some a)) q → pending_of (stage_of q) a ≡ q
-answer_kept me p Event.Look a q h = let e : ◌≡◌ {A = Option Line} (Some a) None = h.answers in cc
-answer_kept me p _ a q h = row_keeps me p _ a q h
+pub answer_kept : (n me : ℕ) (p : Pending) (e : Event) (a : Line) (q : Pending) → TakesRow n me p e (Outcome.Done (Some a)) q → pending_of (stage_of q) a ≡ q
+answer_kept n me p Event.Look a q h = let e : ◌≡◌ {A = Option Line} (Some a) None = h.answers in cc
+answer_kept n me p _ a q h = row_keeps me p _ a q h

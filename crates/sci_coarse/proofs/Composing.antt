@@ -27,9 +27,9 @@ was_missed P Q false h e = h
 was_missed P Q true h e = let z : true ≡ false = e in cc
 
 -- a busy step leaves the pending step
-pub busy_row : (me : ℕ) (p : Pending) (e : Event) → TakesRow me p e Outcome.Busy p
-busy_row me p Event.Look = refl
-busy_row me p _ = refl
+pub busy_row : (n me : ℕ) (p : Pending) (e : Event) → TakesRow n me p e Outcome.Busy p
+busy_row n me p Event.Look = refl
+busy_row n me p _ = refl
 
 module _ {K : Type 0} (fits : K → ℕ → List ℕ → Type 0) (t : Terms K) (node : ℕ) (m m1 : Seated K) (of : m.0.of ≡ Some t) (me : m.0.node ≡ node) (take : HasTaken fits m m1) where
   -- the whole line that was taken

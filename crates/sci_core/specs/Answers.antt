@@ -12,6 +12,7 @@ use Rattle.sci_core.specs.State.{State}
 use Rattle.sci_core.specs.Row.{Row, exchange_with}
 use Rattle.sci_core.specs.Table.{has_row, row_of}
 use Rattle.sci_core.specs.Step.{Finds, IsAtHome, taken_line, stepped, looked, is_look}
+use Rattle.sci_core.specs.WellFormed.{FindsWord}
 
 -- the step allows the event: a look, or an exchange of the table
 abbrev pub is_allowed : ℕ → ℕ → Pending → Event → Bool
@@ -39,9 +40,10 @@ abbrev pub found_code : State → Change → ℕ
 found_code s (OfMemory before after) = mem_code s.memory
 found_code s (OfTag x before after) = tag_code (s.tags x)
 
--- another word than the row's was found, and nothing changed
+-- another word of a line of n nodes than the row's was found, and nothing changed
 pub record Misses (n : ℕ) (s : State) (me : ℕ) (e : Event) (word : ℕ) (t : State) : Type 0 where
   pub allowed : has_row n me (s.steps me) e ≡ true
+  pub formed : FindsWord n s (row_at s me e).change
   pub other : Finds s (row_at s me e).change → ⊥
   pub found : word ≡ found_code s (row_at s me e).change
   pub same : t ≡ s

@@ -13,6 +13,7 @@ ghost use Rattle.sci_core.specs.State.{blank};
 ghost use Rattle.sci_core.specs.Run.{done_in, IsLawfulLine, KeepsLawful, RunsTo};
 ghost use Rattle.sci_core.specs.Step.{Finds, looked, memory_after};
 ghost use Rattle.sci_core.specs.Table.{has_row};
+ghost use Rattle.sci_core.specs.WellFormed.{FindsWord, IsMem, IsTag};
 ghost use Rattle.sci_core.specs.Whole.{nodes_of, state_of, tag_list_after, IsSameLine};
 
 use crate::events::Event;
@@ -142,7 +143,8 @@ impl<K: Keeps> Whole<K> {
     // The code of memory's word, where that isn't the word before.
     #[inline(always)]
     fn other_memory(&self, before: &Mem) -> Option<u64>
-        ensures { MatchOption result ((state_of self.now).memory ≡ before.now) (λ w. ((state_of self.now).memory ≢ before.now) × (w ≡ mem_code (state_of self.now).memory)) }
+        ensures formed { IsMem (nodes_of self.now) (state_of self.now).memory }
+        ensures other { MatchOption result ((state_of self.now).memory ≡ before.now) (λ w. ((state_of self.now).memory ≢ before.now) × (w ≡ mem_code (state_of self.now).memory)) }
     {
         let found = self.mem();
         if found == *before {
@@ -156,7 +158,8 @@ impl<K: Keeps> Whole<K> {
     #[inline(always)]
     fn other_tag(&self, node: NodeId, before: &Tag) -> Option<u64>
         requires { node < nodes_of self.now }
-        ensures { MatchOption result ((state_of self.now).tags node ≡ before.now) (λ w. ((state_of self.now).tags node ≢ before.now) × (w ≡ tag_code ((state_of self.now).tags node))) }
+        ensures formed { IsTag (nodes_of self.now) ((state_of self.now).tags node) }
+        ensures other { MatchOption result ((state_of self.now).tags node ≡ before.now) (λ w. ((state_of self.now).tags node ≢ before.now) × (w ≡ tag_code ((state_of self.now).tags node))) }
     {
         let found = self.tag(node);
         if is_same(&found, before) {
@@ -170,7 +173,8 @@ impl<K: Keeps> Whole<K> {
     #[inline(always)]
     fn other_word(&self, change: &Change) -> Option<u64>
         requires { ChangesBelow (nodes_of self.now) change.now }
-        ensures { MatchOption result (Finds (state_of self.now) change.now) (λ w. (Finds (state_of self.now) change.now → ⊥) × (w ≡ found_code (state_of self.now) change.now)) }
+        ensures formed { FindsWord (nodes_of self.now) (state_of self.now) change.now }
+        ensures other { MatchOption result (Finds (state_of self.now) change.now) (λ w. (Finds (state_of self.now) change.now → ⊥) × (w ≡ found_code (state_of self.now) change.now)) }
     {
         match change {
             Change::OfMemory { before, .. } => self.other_memory(before),

@@ -14,13 +14,13 @@ use Rattle.sci_core.specs.Row.{Row}
 use Rattle.sci_core.specs.Step as core
 use Rattle.sci_core.specs.Step.{is_look, looked, taken_line}
 use Rattle.sci_core.specs.Table.{has_row, row_of}
-use Rattle.sci_core.specs.WellFormed.{LeavesWellFormed}
+use Rattle.sci_core.specs.WellFormed.{LeavesWellFormed, FindsWord}
 use Rattle.sci_core.specs.Whole.{IsRuled}
 use Rattle.sci_core.proofs.Forming.{forms}
 use Rattle.sci_core.proofs.Going.{goes}
 use Rattle.sci_core.proofs.Going.Forms.{Going, made}
 use Rattle.sci_core.proofs.Lawfully.{lawful_line, done_keeps, missed_keeps, look_keeps, exchange_answers}
-use Rattle.sci_core.proofs.Sound.{value_fits, finds_formed, tags_formed, memory_formed}
+use Rattle.sci_core.proofs.Sound.{value_fits, finds_formed, tags_formed, memory_formed, memory_links, tag_links}
 use Rattle.sci_port.specs.declared.calls.Call.{Call}
 use Rattle.sci_port.specs.declared.calls.Call.TheVariants.{Stepped}
 use Rattle.sci_port.specs.Solo.{Gives}
@@ -56,10 +56,15 @@ makes_at n a x p e at turn finds home =
     subst (λ (p : Pending). has_row n x p e ≡ true → core.Finds a (row_of x p e).change → core.IsAtHome a (row_of x p e).carry → Makes n a x e ((row_of x p e).answer (taken_line a (row_of x p e).carry)) (made a x (row_of x p e))) at
     (λ h f k. record { allowed = h; finds = f; home = k; answers = refl; next = refl }) turn finds home
 
-pub misses_at : (n : ℕ) (a : State) (x : ℕ) (p : Pending) (e : Event) (word : ℕ) → a.steps x ≡ p → has_row n x p e ≡ true → (core.Finds a (row_of x p e).change → ⊥) → word ≡ found_code a (row_of x p e).change → Misses n a x e word a
-misses_at n a x p e word at turn other found =
-    subst (λ (p : Pending). has_row n x p e ≡ true → (core.Finds a (row_of x p e).change → ⊥) → word ≡ found_code a (row_of x p e).change → Misses n a x e word a) at
-    (λ h f k. record { allowed = h; other = f; found = k; same = refl }) turn other found
+-- any word of a line under the law is one of a line of its nodes
+finds_word : (n : ℕ) (fits : List ℕ → Type 0) (a : State) → IsRuled n fits a → (c : Change) → FindsWord n a c
+finds_word n fits a q (OfMemory before after) = (q.words.memory, memory_links n a q.links)
+finds_word n fits a q (OfTag x before after) = (q.words.tags x, tag_links n a q.links x)
+
+pub misses_at : (n : ℕ) (a : State) (x : ℕ) (p : Pending) (e : Event) (word : ℕ) → a.steps x ≡ p → has_row n x p e ≡ true → FindsWord n a (row_of x p e).change → (core.Finds a (row_of x p e).change → ⊥) → word ≡ found_code a (row_of x p e).change → Misses n a x e word a
+misses_at n a x p e word at turn formed other found =
+    subst (λ (p : Pending). has_row n x p e ≡ true → FindsWord n a (row_of x p e).change → (core.Finds a (row_of x p e).change → ⊥) → word ≡ found_code a (row_of x p e).change → Misses n a x e word a) at
+    (λ h o f k. record { allowed = h; formed = o; other = f; found = k; same = refl }) turn formed other found
 
 pub found_there : (s : State) (c : Change) → found_code s c ≡ word_at s (place_of c)
 found_there s (OfMemory before after) = refl
@@ -90,7 +95,7 @@ module _ (n : ℕ) (fits : List ℕ → Type 0) (a : State) (q : IsRuled n fits 
     pub missed_gives : (word : ℕ) → word ≡ word_at a (place_of (row_of x p e).change) → word ≢ before_of (row_of x p e).change → Gives n fits a x (Stepped e (Outcome.Missed word)) a
     missed_gives word is other =
         let c : Change = (row_of x p e).change in
-        let misses : Misses n a x e word a = misses_at n a x p e word at turn (λ f. other (is ∙ code_there a c f)) (is ∙ sym (found_there a c)) in
+        let misses : Misses n a x e word a = misses_at n a x p e word at turn (finds_word n fits a q c) (λ f. other (is ∙ code_there a c f)) (is ∙ sym (found_there a c)) in
         (exchange_answers n a a x e (Outcome.Missed word) (is_exchange n x p e turn) misses, missed_keeps n fits a a x e word (lawful_line n fits a q) refl)
 
     -- the row was made

@@ -1,5 +1,6 @@
 //! Ports to a line that is lent, event by event.
-ghost use Rattle.std.specs.Prelude.{◌≡◌, ◌<◌};
+ghost use Rattle.std.specs.Prelude.{◌≡◌, ◌<◌, IfSome};
+ghost use Rattle.sci_port.specs.Missing.{MissesOther};
 
 mod memory;
 
@@ -36,8 +37,12 @@ fn fresh(forw: Option<NodeId>) -> Tag {
     }
 }
 
-/// One event through a port, if its step allows it. It is proved for all ports at once.
-fn step_of<P: Port<Keep = AnyWords>>(port: &mut P, event: Event) -> Option<Outcome> {
+/// One event through a port, if its step allows it. It is proved for all ports at once. A word that is missed is not the
+/// one that the event's row was to find.
+#[tactic(auto, using(sci_port::proofs::Missing::misses_other))]
+fn step_of<P: Port<Keep = AnyWords>>(port: &mut P, event: Event) -> Option<Outcome>
+    ensures { IfSome result (λ outcome. MissesOther (P.way port.old).nodes (P.way port.old).node (P.at_step port.old) event outcome) }
+{
     if port.pending().allows(port.node(), port.nodes(), &event) {
         Some(port.step(event))
     } else {

@@ -9,7 +9,7 @@ use Rattle.sci_words.specs.declared.tags.Kind.{Kind}
 use Rattle.sci_words.specs.declared.tags.Tag.{Tag}
 use Rattle.sci_words.specs.declared.memory.MemState.{MemState}
 use Rattle.sci_core.specs.Found.{is_found}
-use Rattle.sci_port.specs.Owes.{IsTag}
+use Rattle.sci_core.specs.WellFormed.{IsTag}
 use Rattle.sci_port.specs.Way.{Way}
 
 -- of one of the kinds, not held, and well formed

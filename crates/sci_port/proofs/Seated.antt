@@ -7,7 +7,8 @@ use lib.ListN.{get_elem?}
 use Rattle.sci_words.specs.declared.tags.Tag.{Tag}
 use Rattle.sci_core.specs.declared.pending.Pending.{Pending}
 use Rattle.sci_core.specs.PendingStep.{IsOwnWord}
-use Rattle.sci_port.specs.Owes.{Owes, IsTag}
+use Rattle.sci_core.specs.WellFormed.{IsTag}
+use Rattle.sci_port.specs.Owes.{Owes}
 use Rattle.sci_port.specs.Seated.{Seated, CallsOn, step_on}
 use Rattle.sci_port.specs.declared.calls.Call.{Call}
 

@@ -5,10 +5,11 @@ ghost use Rattle.sci_core.specs.declared.pending.Pending.{Pending};
 ghost use Rattle.sci_core.specs.Answers.{is_allowed, FitsEvent};
 ghost use Rattle.sci_core.specs.PendingStep.{IsOwnWord};
 ghost use Rattle.sci_core.specs.Stage.{stage_of};
+ghost use Rattle.sci_core.specs.WellFormed.{IsMem, IsTag};
 ghost use Rattle.sci_port.specs.Banks.{BankWay};
 ghost use Rattle.sci_port.specs.declared.calls.Call.{Call};
 ghost use Rattle.sci_port.specs.declared.calls.Call.TheVariants.{Own, MemWas, TagWas, Stepped};
-ghost use Rattle.sci_port.specs.Owes.{IsSoundStep, IsTag, IsMem, look_by, TakesRow, AnswerFits, Owes};
+ghost use Rattle.sci_port.specs.Owes.{IsSoundStep, look_by, TakesRow, AnswerFits, Owes};
 
 use sci_core::{Event, Keeps, Outcome, Pending, Stage};
 use sci_words::{LineNo, Mem, NodeId, Tag};
@@ -109,7 +110,7 @@ pub trait Bank {
         ensures same_nodes { (m : ℕ) → nodes_on self.new m ≡ nodes_on self.old m }
         ensures same_fact { keep self.new ≡ keep self.old }
         ensures others { (m : ℕ) → m ≢ line → at_step self.new m ≡ at_step self.old m }
-        ensures row { TakesRow (way self.old).node (at_step self.old line) event result (at_step self.new line) }
+        ensures row { TakesRow (nodes_on self.old line) (way self.old).node (at_step self.old line) event result (at_step self.new line) }
         ensures content { AnswerFits (Self.Keep.fits (keep self.old) line) result };
 
     /// What a call gives is on the same ways, under the same fact, leaves the steps of the other lines, and is as every port

@@ -11,7 +11,7 @@ use Rattle.sci_words.specs.declared.memory.Mem.{Mem}
 use Rattle.sci_words.specs.declared.tags.Tag.{Tag}
 use Rattle.sci_core.specs.declared.pending.Pending.{Pending}
 use Rattle.sci_port.specs.Banks.{BankWay}
-use Rattle.sci_port.specs.Owes.{IsMem, IsTag}
+use Rattle.sci_core.specs.WellFormed.{IsMem, IsTag}
 use Rattle.sci_port.specs.declared.calls.Call.{Call}
 use Rattle.sci_ops.specs.declared.answers.Turn.{Turn}
 use Rattle.sci_cache.specs.Nodes.{NodeState, TurnsBy, node_with}

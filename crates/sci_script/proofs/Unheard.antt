@@ -9,12 +9,12 @@ use Rattle.sci_port.specs.Owes.{IsSoundStep, TakesRow, Owes}
 use Rattle.sci_port.specs.declared.calls.Call.TheVariants.{Stepped}
 
 -- a step that is not heard leaves the pending step
-pub busy_row : (me : ℕ) (p : Pending) (e : Event) → TakesRow me p e Outcome.Busy p
-busy_row me p Event.Look = refl
-busy_row me p _ = refl
+pub busy_row : (n me : ℕ) (p : Pending) (e : Event) → TakesRow n me p e Outcome.Busy p
+busy_row n me p Event.Look = refl
+busy_row n me p _ = refl
 
 pub owes_busy : (n me : ℕ) (p : Pending) (e : Event) → is_allowed n me p e ≡ true → Owes n (λ _. Unit {0}) me p (Stepped e Outcome.Busy) p
-owes_busy n me p e may = (may, busy_row me p e, tt)
+owes_busy n me p e may = (may, busy_row n me p e, tt)
 
 -- a node in no step may be Invalid
 pub idle_sound : (n : ℕ) (p : Pending) → p ≡ Pending.Idle → IsSoundStep n (λ _. Unit {0}) p

@@ -17,7 +17,7 @@ use Rattle.sci_core.specs.Table.{has_row, row_of}
 use Rattle.sci_port.specs.declared.calls.Call.{Call}
 use Rattle.sci_port.specs.declared.calls.Call.TheVariants.{Own, MemWas, TagWas, Stepped}
 use Rattle.sci_port.specs.Call.{Chain}
-use Rattle.sci_port.specs.Owes.{IsTag}
+use Rattle.sci_core.specs.WellFormed.{IsTag}
 use Rattle.sci_port.specs.Solo.{Does}
 use Rattle.sci_ops.specs.declared.answers.Turn.{Turn}
 use Rattle.sci_ops.specs.declared.answers.End.{End}

@@ -1,7 +1,7 @@
 //! The first turn of an operation, and the next one after a settling.
 ghost use Rattle.std.specs.Prelude.{◌≡◌, true, false};
 ghost use Rattle.sci_core.specs.Answers.{is_allowed, FitsEvent};
-ghost use Rattle.sci_port.specs.Owes.{IsTag};
+ghost use Rattle.sci_core.specs.WellFormed.{IsTag};
 ghost use Rattle.sci_ops.specs.Plan.{Takes};
 ghost use Rattle.sci_ops.specs.Table.{idle, invalid, enter, fresh, dirty, valid, if_front, move, wait};
 

@@ -1,6 +1,6 @@
 use Rattle.std.proofs.Common.{ℕ, ◌<◌, sym, subst}
 use Rattle.sci_core.specs.declared.outcomes.Outcome.{Outcome}
-use Rattle.sci_core.specs.Whole.{state_of}
+use Rattle.sci_core.specs.Whole.{nodes_of, state_of}
 use Rattle.sci_port.proofs.Lent.{step_gives}
 use Rattle.sci_port.specs.Owes.{TakesRow}
 use Rattle.sci_coarse.proofs.Calling.{answer_kept, fits_in, still_on}
@@ -38,4 +38,4 @@ pub follow-requires-clause-answered : goal.follow-requires-clause-answered
 follow-requires-clause-answered g c =
     let e = c.in-Ok.ensures in let w = c.args.whole.now in let v = c.step.new.self in let me = c.args.node in
     let d = step_gives g.K.Keeps.fits w v me e.same c.args.whole.ghost_name c.args.event c.in-Ok.outcome c.requires.allowed e.answers e.lawful in
-    λ line is. answer_kept me ((state_of w).steps me) c.args.event line ((state_of v).steps me) (subst (λ (o : Outcome). TakesRow me ((state_of w).steps me) c.args.event o ((state_of v).steps me)) is d.3.1)
+    λ line is. answer_kept (nodes_of w) me ((state_of w).steps me) c.args.event line ((state_of v).steps me) (subst (λ (o : Outcome). TakesRow (nodes_of w) me ((state_of w).steps me) c.args.event o ((state_of v).steps me)) is d.3.1)

@@ -32,4 +32,4 @@ pub invariant_of-self : goal.invariant_of-self
 invariant_of-self g c = let s = c.args.self.now in let h = was_missed _ _ c.take.result c.take.ensures.taken c.if-not-take.true in record { of = ap (λ v. v.of) h.1 ∙ s.of; seen = (ap (λ v. v.node) h.1 ∙ s.seen.0, ap (λ v. v.pending) h.1 ∙ s.seen.1, ap (λ v. v.joined) h.1 ∙ s.seen.2, ap (λ v. v.holds) h.1 ∙ s.seen.3); hand = h.2; below = s.below }
 
 pub returns-then-not-take : goal.returns-then-not-take
-returns-then-not-take g c = let s = c.args.self.now in let h = was_missed _ _ c.take.result c.take.ensures.taken c.if-not-take.true in record { made = record { same = (c.take.ensures.same.0, c.take.ensures.same.1, refl, refl); came = (h.0, h.1, h.3 s.standing.terms s.of); owes = (c.requires.allowed, busy_row s.node s.standing.pending c.args.event, tt) } }
+returns-then-not-take g c = let s = c.args.self.now in let h = was_missed _ _ c.take.result c.take.ensures.taken c.if-not-take.true in record { made = record { same = (c.take.ensures.same.0, c.take.ensures.same.1, refl, refl); came = (h.0, h.1, h.3 s.standing.terms s.of); owes = (c.requires.allowed, busy_row s.standing.terms.nodes s.node s.standing.pending c.args.event, tt) } }
