@@ -97,8 +97,10 @@ fn is_read_alone(rt: &impl Abort, closed: &Closed, nodes: u16, head: u16) {
     );
     same(rt, &closed.tags.len(), &usize::from(nodes));
     same(rt, &closed.lines.len(), &usize::from(nodes));
-    let read = closed.lines.get(usize::from(head)).copied();
-    same_at(rt, &nodes, &read, &Some(OPENING));
+    let Some(read) = closed.lines.get(usize::from(head)) else {
+        panic!(rt; "the head has no line")
+    };
+    same_at(rt, &nodes, read, &OPENING);
 }
 
 // The last of so many nodes loads a new line, which is then closed.
