@@ -14,9 +14,9 @@ def visits(nodes):
 
 def named():
     """A script of a node that names each line of the largest memory, and its text."""
-    script = [f"load 63 {line} 0\ndone 63\n" for line in range(1024)]
-    text = 1024 * "node 63 read 0 stamp 0\n" + f"node 63 residents {' '.join(map(str, range(1023, -1, -1)))}\n"
-    return "memory 64 1024\n" + "".join(script) + "residents 63\n", text
+    script = [f"load 1023 {line} 0\ndone 1023\n" for line in range(1024)]
+    text = 1024 * "node 1023 read 0 stamp 0\n" + f"node 1023 residents {' '.join(map(str, range(1023, -1, -1)))}\n"
+    return "memory 1024 1024\n" + "".join(script) + "residents 1023\n", text
 
 
 NAMED, ITS_NAMES = named()
