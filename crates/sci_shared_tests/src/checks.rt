@@ -1,10 +1,14 @@
 //! What the tests here check, each proved once: an `assert_eq!` costs as much as a test of its own.
+ghost use Rattle.std.specs.Prelude.{IsTrue};
+
 use std::alloc::Global;
 use std::fmt::Debug;
 use std::process::Abort;
 
 /// Both are the same.
-pub(crate) fn same<T: Debug + PartialEq>(rt: &impl Abort, left: &T, right: &T) {
+pub(crate) fn same<T: Debug + PartialEq>(rt: &impl Abort, left: &T, right: &T)
+    ensures { IsTrue (T.eq left.now right.now) }
+{
     assert_eq!(rt; left, right);
 }
 
@@ -14,7 +18,9 @@ pub(crate) fn same_at<Row: Debug, T: Debug + PartialEq>(
     row: &Row,
     left: &T,
     right: &T,
-) {
+)
+    ensures { IsTrue (T.eq left.now right.now) }
+{
     assert_eq!(rt; left, right, "at {row:?}");
 }
 

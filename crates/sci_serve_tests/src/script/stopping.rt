@@ -10,19 +10,18 @@ use std::alloc::{AllocError, Global};
 use std::process::Abort;
 use std::test::Fail;
 
+/// Where node 0 has stopped: the list, and what node 2 reads, or None where it waits for node 0.
+type Stop = (&'static str, Option<&'static str>);
+
 /// Three nodes load, one after the other, and node 0, the tail, begins a store.
-const FRONT: &str =
+const SHARED_FRONT: &str =
     "memory 3 1\nload 0 0 0\ndone 0\nload 1 0 0\ndone 1\nload 2 0 0\ndone 2\nstore 0 0 0 5\n";
 
 const READS: &str = "node 0 read 0 stamp 0\nnode 1 read 0 stamp 0\nnode 2 read 0 stamp 0\n";
 
-/// In whose line of the script `done 2` stands where node 0 has taken no turn.
-const DONE: u64 = 11;
-
-/// By how many turns node 0 has taken when it stops: the list, and what node 2 reads, or None where it waits for node 0. Node 0
-/// rolls out (to its turn 3), queues and attaches itself as the head (to 8), turns the list GONE (10), and purges node 2 (12 to
-/// 14) and node 1 (15 to 17). Its turn 18 writes.
-const STOPS: [(&str, Option<&str>); 19] = [
+/// By how many turns node 0 has taken. It rolls out (to its turn 3), queues and attaches itself as the head (to 8), turns the list
+/// GONE (10), and purges node 2 (12 to 14) and node 1 (15 to 17). Its turn 18 writes.
+const SHARED_STOPS: [Stop; 19] = [
     (
         "line 0 FRESH 2: 2 HEAD_FRESH, 1 MID_VALID, 0 TAIL_VALID\n",
         ZERO,
@@ -71,12 +70,31 @@ const STOPS: [(&str, Option<&str>); 19] = [
     ),
 ];
 
+/// Node 0 begins a store on a line that nobody has used.
+const UNUSED_FRONT: &str = "memory 3 1\nstore 0 0 0 5\n";
+
+/// The same of that store. Node 0 queues, turns HOME to GONE and takes memory's bytes (2), returns them, settles as the only
+/// sharer (4), begins a purge of nobody (5), and writes in its turn 6. Who comes behind its turn 2 finds memory lent, behind 3 a
+/// head in the queue, and behind 5 one that purges.
+const UNUSED_STOPS: [Stop; 7] = [
+    ("line 0 HOME\n", ZERO),
+    ("line 0 HOME\n", ZERO),
+    ("line 0 GONE 0: 0 QUEUED\n", None),
+    ("line 0 GONE 0: 0 QUEUED\n", None),
+    ("line 0 GONE 0: 0 ONLY_DIRTY\n", ZERO),
+    ("line 0 GONE 0: 0 PURGING\n", None),
+    (
+        "node 0 wrote stamp 1\nline 0 GONE 0: 0 ONLY_DIRTY\n",
+        Some("node 2 read 5 stamp 1\n"),
+    ),
+];
+
 const ZERO: Option<&str> = Some("node 2 read 0 stamp 0\n");
 
 /// A script in which node 0 stops behind so many turns of its store, and then node 2 loads.
-fn stopped(alloc: Global, turns: usize) -> Result<String, AllocError> {
+fn stopped(alloc: Global, front: &str, turns: usize) -> Result<String, AllocError> {
     let mut script = String::new(alloc);
-    script.push_str(FRONT)?;
+    script.push_str(front)?;
     for _ in 0..turns {
         script.push_str("turn 0\n")?;
     }
@@ -84,10 +102,11 @@ fn stopped(alloc: Global, turns: usize) -> Result<String, AllocError> {
     Ok(script)
 }
 
-/// What such a script prints.
-fn text(alloc: Global, list: &str, read: Option<&str>) -> Result<String, AllocError> {
+/// What such a script prints behind the text of its front.
+fn text(alloc: Global, front: &str, stop: Stop) -> Result<String, AllocError> {
+    let (list, read) = stop;
     let mut text = String::new(alloc);
-    text.push_str(READS)?;
+    text.push_str(front)?;
     text.push_str(list)?;
     text.push_str(read.unwrap_or(""))?;
     Ok(text)
@@ -109,21 +128,33 @@ fn check_on<L: Banked>(
     Ok(())
 }
 
-#[test]
-fn node_0_stops(rt: HostRuntime) -> Result<(), Fail> {
-    let alloc = rt.alloc();
-    let mut done = DONE;
-    for (turns, (list, read)) in STOPS.iter().enumerate() {
-        let script = stopped(alloc, turns)?;
-        let text = text(alloc, list, *read)?;
-        let refusal = match read {
+/// Node 0 stops behind each number of turns of the store that the front begins. Without a turn, `done 2` stands in line `done`.
+fn check_stops(
+    rt: &impl Abort,
+    alloc: Global,
+    front: &str,
+    printed: &str,
+    mut done: u64,
+    stops: &[Stop],
+) -> Result<(), Fail> {
+    for (turns, stop) in stops.iter().enumerate() {
+        let script = stopped(alloc, front, turns)?;
+        let text = text(alloc, printed, *stop)?;
+        let refusal = match stop.1 {
             Some(_) => None,
             None => Some(ScriptRefusal::NotDone(done)),
         };
-        check_at(&rt, alloc, &turns, &script, refusal, &text);
-        check_on::<CoarseLine<AnyWords>>(&rt, alloc, turns, &script, refusal, &text)?;
-        check_on::<FineLine<AnyWords>>(&rt, alloc, turns, &script, refusal, &text)?;
+        check_at(rt, alloc, &turns, &script, refusal, &text);
+        check_on::<CoarseLine<AnyWords>>(rt, alloc, turns, &script, refusal, &text)?;
+        check_on::<FineLine<AnyWords>>(rt, alloc, turns, &script, refusal, &text)?;
         done = done.saturating_add(1);
     }
     Ok(())
+}
+
+#[test]
+fn node_0_stops(rt: HostRuntime) -> Result<(), Fail> {
+    let alloc = rt.alloc();
+    check_stops(&rt, alloc, SHARED_FRONT, READS, 11, &SHARED_STOPS)?;
+    check_stops(&rt, alloc, UNUSED_FRONT, "", 5, &UNUSED_STOPS)
 }

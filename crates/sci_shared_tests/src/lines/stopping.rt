@@ -24,7 +24,24 @@ const LOAD: usize = 5;
 /// The kind of node 0's tag when it stops, whether the loads of nodes 1 and 2 end then, and whether their adds do.
 type Stop = (Kind, [bool; 2], bool);
 
-/// By how many turns of its store node 0 has taken when it stops.
+/// A store of node 0: whether all three nodes have loaded before, or nobody has, and in which of its turns it writes.
+#[derive(Clone, Copy)]
+struct Store {
+    is_shared: bool,
+    writes: usize,
+}
+
+const SHARED: Store = Store {
+    is_shared: true,
+    writes: 18,
+};
+
+const UNUSED: Store = Store {
+    is_shared: false,
+    writes: 6,
+};
+
+/// By how many turns of its store node 0 has taken when it stops, on a line that all share.
 ///
 /// Nodes 0, 1 and 2 have loaded, so the list is 2, 1, 0. Node 0 leaves it in its turns 1 to 3, comes back in front in 4 to 8,
 /// turns it GONE in 9 to 11, purges node 2 in 12 to 14 and node 1 in 15 to 17, and writes in 18.
@@ -39,7 +56,7 @@ type Stop = (Kind, [bool; 2], bool);
 /// which isn't told of a new successor; node 1 waits for it, or has queued up in front of node 0. At 11 both roll out, since
 /// PURGING takes a new successor, and queue up in front of it. At 12 to 14 node 1 rolls out behind node 2, which is no sharer any
 /// more.
-const STOPS: [Stop; 19] = [
+const SHARED_STOPS: [Stop; 19] = [
     (Kind::Valid, [true, true], true),
     (Kind::Roll, [true, true], false),
     (Kind::Roll, [true, true], true),
@@ -57,6 +74,23 @@ const STOPS: [Stop; 19] = [
     (Kind::Purging, [true, false], false),
     (Kind::Purging, [false, false], false),
     (Kind::Purging, [false, false], false),
+    (Kind::Purging, [false, false], false),
+    (Kind::Dirty, [true, true], true),
+];
+
+/// The same, on a line that nobody has used.
+///
+/// Node 0 queues in its turn 1, turns HOME to GONE and takes memory's bytes in 2, returns them in 3, settles as the only sharer in
+/// 4, begins a purge of nobody in 5, and writes in 6.
+///
+/// At 1 node 0 is in no list yet, so the others do without it. At 2 they queue, and wait for memory's bytes. At 3 and 5 they queue
+/// up in front of a head that is QUEUED or PURGING. At 4 and 6 node 0 is settled.
+const UNUSED_STOPS: [Stop; 7] = [
+    (Kind::Invalid, [true, true], true),
+    (Kind::Queued, [true, true], true),
+    (Kind::Queued, [false, false], false),
+    (Kind::Queued, [false, false], false),
+    (Kind::Dirty, [true, true], true),
     (Kind::Purging, [false, false], false),
     (Kind::Dirty, [true, true], true),
 ];
@@ -176,9 +210,9 @@ where
     Some(words.nodes[0])
 }
 
-// Word 0 and the stamp once node 0 has taken so many turns.
-fn value_behind(turns: usize) -> (u64, u64) {
-    if turns < 18 { (0, 0) } else { (5, 1) }
+// Word 0 and the stamp once node 0 has taken so many turns of its store.
+fn value_behind(store: Store, turns: usize) -> (u64, u64) {
+    if turns < store.writes { (0, 0) } else { (5, 1) }
 }
 
 // A line of zeros but for word 0.
@@ -192,9 +226,15 @@ fn answer<S>(callers: &[Caller<S>], number: usize) -> Option<Answer> {
 }
 
 // Loads that end see what stands: node 0's store once it has ended.
-fn check_loads<S>(rt: &impl Abort, turns: usize, callers: &[Caller<S>], ends: [bool; 2]) {
+fn check_loads<S>(
+    rt: &impl Abort,
+    store: Store,
+    turns: usize,
+    callers: &[Caller<S>],
+    ends: [bool; 2],
+) {
     let [one, two] = ends;
-    let (first, stamp) = value_behind(turns);
+    let (first, stamp) = value_behind(store, turns);
     let seen = Answer::Seen {
         words: zeros_but(first),
         stamp,
@@ -204,8 +244,8 @@ fn check_loads<S>(rt: &impl Abort, turns: usize, callers: &[Caller<S>], ends: [b
 }
 
 // Adds that end come one behind the other, in either order.
-fn check_adds<S>(rt: &impl Abort, turns: usize, callers: &[Caller<S>], end: bool) {
-    let (first, stamp) = value_behind(turns);
+fn check_adds<S>(rt: &impl Abort, store: Store, turns: usize, callers: &[Caller<S>], end: bool) {
+    let (first, stamp) = value_behind(store, turns);
     let early = Answer::Wrote {
         before: zeros_but(first),
         stamp: stamp.wrapping_add(1),
@@ -262,6 +302,7 @@ fn stops_behind<R: Abort + Threads + Sync, L: SharedLine + Sync>(
     rt: &R,
     line: &L,
     callers: &mut [Caller<L::Seat>],
+    store: Store,
     turns: usize,
     first: Option<u16>,
     stop: Stop,
@@ -272,14 +313,16 @@ where
     ensures { All (λ c. L.is_seat line.now c.seat) callers.new }
 {
     let (kind, loads, adds) = stop;
-    share(line, callers);
+    if store.is_shared {
+        share(line, callers);
+    }
     let (step, tag) = after(rt, line, callers, turns, Phase::Stop(turns))?;
     same_at(rt, &turns, &tag.kind, &kind);
     both_act(rt, line, callers, turns, first, Call::Load(loads))?;
-    check_loads(rt, turns, callers, loads);
+    check_loads(rt, store, turns, callers, loads);
     let (left, _) = both_act(rt, line, callers, turns, first, Call::Add(adds))?;
     same_at(rt, &turns, &(left == step), &true);
-    check_adds(rt, turns, callers, adds);
+    check_adds(rt, store, turns, callers, adds);
     after(rt, line, callers, turns, Phase::GoOn)?;
     Some(have_ended(callers))
 }
@@ -288,6 +331,7 @@ where
 fn stops_on<R: Abort + Threads + Sync, L: SharedLine + Sync>(
     rt: &R,
     alloc: Global,
+    store: Store,
     turns: usize,
     first: Option<u16>,
     stop: Stop,
@@ -297,19 +341,32 @@ where
 {
     let (line, seats) = L::opened(alloc, 3, 0, Line::ZERO).ok()?;
     let mut callers = callers(alloc, &line, seats)?;
-    stops_behind(rt, &line, callers.as_mut_slice(), turns, first, stop)
+    stops_behind(rt, &line, callers.as_mut_slice(), store, turns, first, stop)
 }
 
-/// Node 0 of three sharers stops on its way to a store, wherever it is. Of the others each comes first once, and once both come at
-/// once.
+// Node 0 stops wherever it is on its way. Of the others each comes first once, and once both come at once.
+fn stops_along<R: Abort + Threads + Sync, L: SharedLine + Sync>(
+    rt: &R,
+    alloc: Global,
+    store: Store,
+    stops: &[Stop],
+)
+where
+    L::Seat: Send,
+{
+    for (turns, stop) in stops.iter().enumerate() {
+        for first in [Some(1), Some(2), None] {
+            let all_end = stops_on::<R, L>(rt, alloc, store, turns, first, *stop);
+            same_at(rt, &turns, &all_end, &Some(true));
+        }
+    }
+}
+
+/// Node 0 stops on its way to a store of a line that three nodes share, and of one that nobody has used.
 pub(crate) fn stops_anywhere<R: Abort + Threads + Sync, L: SharedLine + Sync>(rt: &R, alloc: Global)
 where
     L::Seat: Send,
 {
-    for (turns, stop) in STOPS.iter().enumerate() {
-        for first in [Some(1), Some(2), None] {
-            let all_end = stops_on::<R, L>(rt, alloc, turns, first, *stop);
-            same_at(rt, &turns, &all_end, &Some(true));
-        }
-    }
+    stops_along::<R, L>(rt, alloc, SHARED, &SHARED_STOPS);
+    stops_along::<R, L>(rt, alloc, UNUSED, &UNUSED_STOPS);
 }
