@@ -1,9 +1,14 @@
 //! Texts of more than 2,000 bytes, through writers that take little at a time or are interrupted: what arrives is the whole text.
+use super::banks::{Banked, run_on};
 use super::{add_list, add_load, add_read, run_text};
 use crate::checks::same;
 use crate::paced::{Pace, Paced};
+use sci_coarse::CoarseLine;
+use sci_core::AnyWords;
+use sci_fine::FineLine;
 use sci_script::put;
 use std::alloc::{AllocError, Global};
+use std::process::Abort;
 use std::test::Fail;
 
 const PACES: [Pace; 7] = [
@@ -63,6 +68,26 @@ fn a_long_text_arrives(rt: HostRuntime) -> Result<(), Fail> {
         assert!(rt; writer.held.as_slice() == text.as_bytes());
     }
     Ok(())
+}
+
+// The same over banks of such lines.
+fn check_on<L: Banked>(
+    rt: &impl Abort,
+    alloc: Global,
+    script: &str,
+    text: &str,
+) -> Result<(), Fail> {
+    let mut out = Vec::new(alloc);
+    same(rt, &run_on::<L>(alloc, script, &mut out)?, &Ok(()));
+    assert!(rt; out.as_slice() == text.as_bytes());
+    Ok(())
+}
+
+#[test]
+fn a_long_text_arrives_from_banks(rt: HostRuntime) -> Result<(), Fail> {
+    let (script, text) = readers(rt.alloc())?;
+    check_on::<CoarseLine<AnyWords>>(&rt, rt.alloc(), &script, &text)?;
+    check_on::<FineLine<AnyWords>>(&rt, rt.alloc(), &script, &text)
 }
 
 #[test]

@@ -6,6 +6,7 @@ ghost use Rattle.sci_work.specs.Made.{IsBankOf};
 ghost use Rattle.sci_work.specs.Ring.{IsRing, IsRingOf};
 
 use crate::checks::same;
+use crate::work::doors::Hears;
 use crate::work::rings::opened;
 use sci_cache::Node;
 use sci_port::Bank;
@@ -32,15 +33,32 @@ fn told<R: Abort>(
     Fail::new(no_memory)
 }
 
+// A gate that lets each call of node 0 start.
+fn opens() -> Hears {
+    Hears::new(0, u64::MAX)
+}
+
+// Each call that was asked for has ended, also one that was refused.
+fn has_heard(rt: &impl Abort, gate: &Hears) {
+    let heard = gate.heard();
+    assert!(rt; matches!(heard, Some((asked, ended)) if asked == ended));
+}
+
 fn counts<R: Abort + Threads + Wait + Sync>(rt: &R, alloc: Global) -> Result<(), WorkRefusal> {
-    let (word, closed) = count(rt, alloc, 1, 2, 1, &OpenGate)?;
+    let gate = opens();
+    let ended = count(rt, alloc, 1, 2, 1, &gate);
+    has_heard(rt, &gate);
+    let (word, closed) = ended?;
     same(rt, &word, &2);
     same(rt, &closed.len(), &1);
     Ok(())
 }
 
 fn takes_in<R: Abort + Threads + Wait + Sync>(rt: &R, alloc: Global) -> Result<(), WorkRefusal> {
-    let (cells, closed) = stencil(rt, alloc, &[1; 7], 1, 1, 1, &OpenGate)?;
+    let gate = opens();
+    let ended = stencil(rt, alloc, &[1; 7], 1, 1, 1, &gate);
+    has_heard(rt, &gate);
+    let (cells, closed) = ended?;
     same(rt, &cells.as_slice(), &[2, 3, 3, 3, 3, 3, 2].as_slice());
     same(rt, &closed.len(), &2);
     Ok(())
@@ -74,7 +92,10 @@ fn produces<R: Abort + Wait, B: Bank>(
     ensures same_fact { B.keep bank.new ≡ B.keep bank.old }
 {
     let (stop, again) = (AtomicBool::new(false), AtomicBool::new(false));
-    let Err(refusal) = produce(rt, node, bank, items, 1, &OpenGate, &stop) else {
+    let gate = opens();
+    let ended = produce(rt, node, bank, items, 1, &gate, &stop);
+    has_heard(rt, &gate);
+    let Err(refusal) = ended else {
         return Ok(());
     };
     stopped(rt, refusal, &stop);
@@ -95,7 +116,10 @@ fn consumes<R: Abort + Wait, B: Bank>(
     requires ring { IsRingOf (B.Keep.fits (B.keep bank.old)) (length items.now) 1 }
 {
     let (stop, again) = (AtomicBool::new(false), AtomicBool::new(false));
-    match consume(rt, alloc, node, bank, items.len(), 1, &OpenGate, &stop) {
+    let gate = opens();
+    let ended = consume(rt, alloc, node, bank, items.len(), 1, &gate, &stop);
+    has_heard(rt, &gate);
+    match ended {
         Ok(consumed) => {
             same(rt, &consumed.as_slice(), &items);
             return Ok(());

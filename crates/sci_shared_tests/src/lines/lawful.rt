@@ -1,4 +1,6 @@
 //! Whether the words of a line of three nodes, beside what each node is doing, are lawful: by a plain walk along the links.
+mod changes;
+
 use sci_core::Pending;
 use sci_words::{Kind, Mem, MemState, NodeId, Tag};
 
@@ -56,12 +58,12 @@ impl Words {
         (next.is_none() && is_once(&chain)).then_some(chain)
     }
 
-    // Whether an entry may stand behind another. Behind a front stands a front or a body entry, and behind a body entry a body
-    // entry. A body entry's back link is the one before it, but behind ROLL and PURGING.
+    // Whether an entry may stand behind another. A front stands behind one that waits for it, or leaves; a body entry behind a front
+    // or a body entry, which is its back link but for ROLL and PURGING.
     fn may_follow(&self, before: NodeId, entry: NodeId) -> bool {
         let (tag, kind) = (self.tag(entry), self.tag(before).kind);
         if !is_body(tag.kind) {
-            return !is_body(kind);
+            return matches!(kind, Kind::Queued | Kind::Leaving);
         }
         matches!(kind, Kind::Roll | Kind::Purging) || tag.back == Some(before)
     }
@@ -83,7 +85,7 @@ impl Words {
         true
     }
 
-    // Whether no entry of the chain is dirty but the first valid one, and that only under GONE.
+    // Whether no entry of the chain is dirty but the first valid one, and that only under GONE; and none is FRESH there.
     fn is_dirty_first(&self, chain: &Chain) -> bool {
         let mut may_be_dirty = self.mem.state == MemState::Gone;
         for entry in chain {
@@ -91,7 +93,8 @@ impl Words {
                 return true;
             };
             let kind = self.tag(*node).kind;
-            if is_dirty(kind) && !may_be_dirty {
+            let is_stale = kind == Kind::Fresh && self.mem.state == MemState::Gone;
+            if is_stale || is_dirty(kind) && !may_be_dirty {
                 return false;
             }
             may_be_dirty = may_be_dirty && !is_valid(kind);
@@ -107,6 +110,16 @@ impl Words {
             }
         }
         false
+    }
+
+    // Whether a node has purged this one, and has to step over it or to clear it.
+    fn is_victim(&self, node: NodeId) -> bool {
+        for (step, _) in &self.nodes {
+            if matches!(step, Pending::Advancing { victim, .. } if *victim == node) {
+                return true;
+            }
+        }
+        self.is_cleared(node)
     }
 
     // Whether a node's bytes are read, by itself or by the one in front of it.
@@ -147,6 +160,7 @@ impl Words {
         let is_held = tag.held;
         is_own_word(&step, tag)
             && is_held == self.is_read(node)
+            && (tag.kind == Kind::Purged) == self.is_victim(node)
             && self.is_outside(node) != chain.contains(&Some(node))
     }
 
