@@ -73,16 +73,20 @@ Example:
   printf 'memory 1 1\\nload 0 0 0\\ndone 0\\n' | scisim trace";
 
 const PAGES: &str = "\
-Runs a script as `trace` does, and writes a page of HTML to standard output: a picture of each turn's list, and the trace as text.
-The page is one file, needs no network, and shows nothing without JavaScript but the trace. `scisim script --help` lists the commands
-of scripts, and the refusals.
+Runs a script as `trace` does, and writes a page of HTML to standard output: its turns as a grid, a picture of each turn's list, and
+the trace as text. The page is one file, needs no network, and shows nothing without JavaScript but the trace. `scisim script --help`
+lists the commands of scripts, and the refusals.
 
-In a browser: the right and left arrow keys, or a click on a line of the trace, go from turn to turn. #step=7 behind the page's
-address opens the seventh turn, and #all shows all turns, up to 200, to be printed.
+In a browser: the arrow keys, PageDown and PageUp go to the next turn and back, Home and End to the first and the last; so does a click
+on a row, or on a line of the trace. #step=7 behind the page's address opens the seventh turn, and #all shows the pictures of all
+turns, up to 200. Printed, a page is its grid.
 
-A picture has memory's word, the list with its forward and back links, each node's tag, pending step and slot, and the nodes that
-are out of the list with something still to do. Who acts is framed twice, what changed is bold. More than 16 nodes are shown as a
-table.
+The grid has a row for each turn, and a column for memory and for each node: its tag, its pending step or whom it waits for, its
+links, and its bytes. A picture has the same of memory, of the list, and of the nodes that are out of it with something still to do.
+Who acts is marked, what changed is framed, stale bytes are struck out. With more than 16 nodes there is the grid alone.
+
+A trace has neither the script's commands and comments nor the words that a line is opened with. The page shows them, the commands
+beside their turns, where the reader chooses the script in it.
 
 Where a script is faulty, nothing is written. Where a command of its run is refused, the page has the turns before, and is whole.
 

@@ -1,0 +1,125 @@
+// In front of the page: what goes wrong in it.
+const trialFaults = [];
+const blame = text => { if (trialFaults.length < 5) trialFaults.push(text); };
+addEventListener("error", event => blame("error: " + event.message));
+addEventListener("securitypolicyviolation", event => blame("it loads " + event.blockedURI));
+console.error = console.warn = (...words) => blame("console: " + words.join(" "));
+// --- behind the page ---
+"use strict";
+const one = selector => document.querySelector(selector);
+const all = selector => [...document.querySelectorAll(selector)];
+const isWide = innerWidth >= 1000;
+const trialTurns = all("#trace a").filter(it => it.textContent.startsWith("# node ")).length;
+let smallest = Infinity;
+
+function expect(holds, text) {
+  if (!holds) blame(text);
+}
+
+// Presses a key, and waits until the page has followed.
+async function press(key) {
+  const followed = new Promise(done => {
+    addEventListener("hashchange", () => setTimeout(done), { once: true });
+    setTimeout(done, 200);
+  });
+  document.dispatchEvent(new KeyboardEvent("keydown", { key, bubbles: true, cancelable: true }));
+  await followed;
+}
+
+// What the page must show of a turn.
+function look(turn) {
+  const now = one("#now").textContent, row = one("#grid tr.on"), drawn = one("#picture svg");
+  expect(now.startsWith(turn === 0 ? "Before the first turn" : `Turn ${turn} of ${trialTurns}.`), `at turn ${turn} it says ${now.slice(0, 40)}`);
+  expect(turn === 0 ? row === null : row !== null && row.dataset.at === String(turn), `turn ${turn} isn't marked in the grid`);
+  expect(turn === 0 || one("#now").childNodes[1].textContent.trim().length > 10, `turn ${turn} has no sentence`);
+  const text = now + one("#picture").textContent + one("#table").textContent + (row ? row.textContent : "");
+  expect(!/undefined|NaN|null|can't be right|\[object/.test(text), `at turn ${turn} it says ${/.{0,20}(undefined|NaN|null|can't be right|\[object).{0,20}/.exec(text)}`);
+  const isMany = row !== null && row.querySelectorAll("td.k:not(.k-INVALID)").length > 17;
+  expect((drawn === null) === isMany, `turn ${turn} has ${isMany ? "a" : "no"} picture`);
+  if (row) inSight(row, turn);
+  if (drawn) measure(drawn, turn);
+}
+
+function inSight(row, turn) {
+  const inner = row.getBoundingClientRect(), outer = one("#rows").getBoundingClientRect();
+  expect(inner.top >= outer.top - 1 && inner.bottom <= outer.bottom + 1, `the row of turn ${turn} isn't in sight`);
+}
+
+function measure(drawn, turn) {
+  expect(drawn.getBoundingClientRect().right <= innerWidth + 1, `the picture of turn ${turn} is too wide`);
+  const scale = drawn.getBoundingClientRect().width / drawn.viewBox.baseVal.width;
+  for (const text of drawn.querySelectorAll("text")) smallest = Math.min(smallest, scale * parseFloat(getComputedStyle(text).fontSize));
+}
+
+// The strips of two kinds differ in more than their colours.
+function strips() {
+  const seen = new Map();
+  for (const kind of all("#key span.k")) {
+    const strip = getComputedStyle(kind).backgroundImage.replace(/rgba?\([^)]*\)/g, "");
+    if (strip === "none") continue;
+    expect(!seen.has(strip), `${kind.textContent} has the strip of ${seen.get(strip)}`);
+    seen.set(strip, kind.textContent);
+  }
+  expect(seen.size === 10, `${seen.size} kinds have a strip`);
+}
+
+async function keys() {
+  for (let turn = 2; turn <= trialTurns && trialFaults.length === 0; turn += 1) {
+    await press("PageDown");
+    look(turn);
+  }
+  if (trialFaults.length > 0) return;
+  const back = ["PageUp", "ArrowUp", "ArrowLeft"].slice(0, trialTurns);
+  for (let i = 0; i < back.length; i += 1) {
+    await press(back[i]);
+    look(trialTurns - i - 1);
+  }
+  if (trialTurns < 4) return;
+  for (const [key, turn] of [["ArrowRight", trialTurns - 2], ["ArrowDown", trialTurns - 1], ["End", trialTurns], ["Home", 0]]) {
+    await press(key);
+    look(turn);
+  }
+}
+
+// Chooses a script in the page, and tells what the page says of it.
+async function choose(text) {
+  const files = new DataTransfer(), file = new File([text], "script.txt");
+  files.items.add(file);
+  one("#chosen").textContent = "not read";
+  one("#file").files = files.files;
+  one("#file").dispatchEvent(new Event("change"));
+  await file.text(); // behind the page, which began to read it before
+  await new Promise(done => setTimeout(done, 20));
+  return one("#chosen").textContent;
+}
+
+// Beside the turns stand the script's commands, in their order, and its first comment is the title. Another script is refused.
+async function scripts() {
+  const other = await choose("turn 63\n" + trialScript);
+  expect(other.startsWith("This isn't"), `of another script it says ${other}`);
+  expect(one("h1").textContent === "A script's run, turn by turn", "another script gives the title");
+  const said = await choose(trialScript);
+  expect(said === "", `of its script it says ${said}`);
+  expect(one("h1").textContent === trialScript.split("\n")[0].slice(2), `its title is ${one("h1").textContent}`);
+  const beside = all("#grid .command").map(it => it.textContent).filter(it => it).join("; ").split("; ");
+  const acts = trialScript.split("\n").filter(it => /^(load|store|add|evict|turn|done) /.test(it));
+  expect(acts.length === 0 || beside.join() === acts.join(), `beside its turns stands ${beside.slice(0, 3)}`);
+}
+
+async function trial() {
+  look(Math.min(1, trialTurns));
+  strips();
+  const cells = all("#grid tbody tr").map(it => it.cells.length), columns = all("#grid th").length;
+  expect(cells.length === trialTurns && cells.every(it => it === columns), `its grid has ${cells.length} rows and ${columns} columns`);
+  await keys();
+  if (trialTurns > 0) await scripts();
+  expect(document.documentElement.scrollWidth <= innerWidth, `it is ${document.documentElement.scrollWidth} wide`);
+  expect(!isWide || smallest >= 20, `its picture has text of ${smallest} px`);
+  const text = smallest === Infinity ? 0 : Math.floor(smallest);
+  parent.postMessage({ turns: trialTurns, columns: columns - 3, text, faults: trialFaults }, "*");
+}
+
+trial().catch(error => {
+  blame("trial: " + error);
+  parent.postMessage({ turns: 0, columns: 0, text: 0, faults: trialFaults }, "*");
+});

@@ -1,0 +1,109 @@
+"""Tries the page of each example in a browser, and keeps what it found with the page's checksum."""
+
+import hashlib
+import html
+import json
+import pathlib
+import re
+
+from pages import EXAMPLES, browse, page_of, page_of_text, with_script
+
+HERE = pathlib.Path(__file__).resolve().parent
+RESULTS = HERE / "trial.txt"
+# The example whose grid must stand on one sheet of paper.
+PRINTED = "evict_in_purge"
+# A script with more nodes than a picture has.
+CROWD = "(18 nodes)"
+MANY = "# A crowd.\n" + "memory 18 1\n" + "".join(f"load {node} 0 0\ndone {node}\n" for node in range(18))
+TOLD = re.compile(r'(?s)<pre id="told">(.*?)</pre>')
+WIDTHS = [(1280, 900), (390, 844)]
+# Opens the pages one after another, and tells what each has said of itself.
+HARNESS = """<!DOCTYPE html>
+<meta charset="utf-8">
+<pre id="told"></pre>
+<script>
+const pages = PAGES, told = [];
+let frame = null;
+function next() {
+  if (frame) frame.remove();
+  const page = pages[told.length];
+  if (!page) { document.getElementById("told").textContent = JSON.stringify(told); return; }
+  frame = document.createElement("iframe");
+  [frame.src, frame.width, frame.height, frame.style.border] = [page.file, page.width, page.height, "0"];
+  document.body.append(frame);
+}
+addEventListener("message", event => { told.push(event.data); next(); });
+next();
+</script>
+"""
+
+
+def with_trial(page, name):
+    """Returns a page that is tried: at its head what notes its faults, at its end what looks at it, and the script that it is of."""
+    text = (HERE / "trial.js").read_text(encoding="utf-8")
+    head, end = text.split("// --- behind the page ---\n")
+    script = (EXAMPLES / f"{name}.txt").read_text(encoding="utf-8") if name != CROWD else MANY
+    page = page.replace("<style>", f"<script>\n{head}const trialScript = {json.dumps(script)};\n</script>\n<style>", 1)
+    return page.replace("</body>", f"<script>\n{end}</script>\n</body>", 1)
+
+
+def tried(browser, room, pages):
+    """Opens each page at each width, and returns what was told of them in this order."""
+    frames = []
+    for name, page in pages.items():
+        file = room / f"trial_{len(frames)}.html"
+        file.write_text(with_trial(page, name), encoding="utf-8")
+        frames += [{"file": f"file://{file}", "width": width, "height": height} for width, height in WIDTHS]
+    harness = room / "harness.html"
+    harness.write_text(HARNESS.replace("PAGES", json.dumps(frames)), encoding="utf-8")
+    words = ["--enable-logging=stderr", "--virtual-time-budget=600000", "--dump-dom", f"file://{harness}"]
+    said, log = browse(browser, room, words)
+    found = TOLD.search(said)
+    console = [line for line in log.split("\n") if "CONSOLE" in line]
+    return json.loads(html.unescape(found[1]) or "[]") if found else [], console
+
+
+def sheets_of(browser, room, page):
+    """Prints a page, and returns how many sheets of paper that takes."""
+    file, paper = room / "printed.html", room / "printed.pdf"
+    file.write_text(page, encoding="utf-8")
+    browse(browser, room, ["--no-pdf-header-footer", f"--print-to-pdf={paper}", f"file://{file}"])
+    return len(re.findall(rb"/Type\s*/Page\b(?!s)", paper.read_bytes()))
+
+
+def results_of(browser, room, pages):
+    """Tries the pages. Returns a line of results for each, and what is wrong."""
+    told, faults = tried(browser, room, pages)
+    if len(told) != len(pages) * len(WIDTHS):
+        return {}, faults + [f"the browser tells of {len(told)} pages and widths"]
+    results = {}
+    for i, name in enumerate(pages):
+        wide, narrow = told[2 * i : 2 * i + 2]
+        faults += [f"the page of {name}: {it}" for it in wide["faults"] + narrow["faults"]]
+        results[name] = f"{wide['turns']} turns, {wide['columns']} columns, text of {wide['text']} px"
+    sheets = sheets_of(browser, room, with_script(pages[PRINTED], PRINTED))
+    if sheets != 1:
+        faults.append(f"the grid of {PRINTED} takes {sheets} sheets of paper")
+    return results, faults
+
+
+def stored():
+    """Returns the results that are kept: of each example, the page's checksum and what was found."""
+    lines = RESULTS.read_text(encoding="utf-8").split("\n") if RESULTS.exists() else []
+    return {name: (digest, found) for digest, name, found in (line.split(": ") for line in lines if line)}
+
+
+def run(program, browser, room, is_check):
+    """Tries the pages, and keeps or compares the results. Returns how many there are, and what is wrong."""
+    pages = {it.stem: page_of(program, it.stem) for it in sorted(EXAMPLES.glob("*.txt"))}
+    pages[CROWD] = page_of_text(program, MANY)
+    digests = {name: hashlib.sha256(page.encode()).hexdigest() for name, page in pages.items()}
+    results, faults = results_of(browser, room, pages) if browser else ({}, [])
+    kept = stored()
+    if is_check:
+        right = {name: (digest, results.get(name, kept.get(name, ("", ""))[1])) for name, digest in digests.items()}
+        names = [it for it in sorted({*kept, *right}) if kept.get(it) != right.get(it)]
+        faults += [f"tools/pictures/trial.txt isn't of the page of {it}; python3 tools/pictures tries it in chromium" for it in names]
+    elif results and not faults:
+        RESULTS.write_text("".join(f"{digests[name]}: {name}: {found}\n" for name, found in results.items()), encoding="utf-8")
+    return len(pages), faults
