@@ -108,10 +108,9 @@ fn last_loads<R: Abort + Wait>(rt: &R, alloc: Global, nodes: u16, last: u16) -> 
     let Ok((line, mut seats)) = FineLine::opened(alloc, nodes, 7, OPENING) else {
         return Err(Fail::new("new answered 7"));
     };
-    let seen = Answer::Seen {
-        words: OPENING.words,
-        stamp: OPENING.stamp,
-    };
+    let words = OPENING.words;
+    let stamp = OPENING.stamp;
+    let seen = Answer::Seen { words, stamp };
     let answer = load_by(rt, &line, seats.as_mut_slice(), last);
     same_at(rt, &nodes, &answer, &Some(seen));
     match closed(alloc, line, seats) {
