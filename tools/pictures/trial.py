@@ -17,6 +17,8 @@ CROWD = "(18 nodes)"
 MANY = "# A crowd.\n" + "memory 18 1\n" + "".join(f"load {node} 0 0\ndone {node}\n" for node in range(18))
 TOLD = re.compile(r'(?s)<pre id="told">(.*?)</pre>')
 WIDTHS = [(1280, 900), (390, 844)]
+# How often the browser may end before its first page has said anything, as it does on a busy machine.
+MOST_IDLE = 5
 # Opens the pages one after another, and tells what each has said of itself.
 HARNESS = """<!DOCTYPE html>
 <meta charset="utf-8">
@@ -27,12 +29,16 @@ let frame = null;
 function next() {
   if (frame) frame.remove();
   const page = pages[told.length];
-  if (!page) { document.getElementById("told").textContent = JSON.stringify(told); return; }
+  if (!page) return;
   frame = document.createElement("iframe");
   [frame.src, frame.width, frame.height, frame.style.border] = [page.file, page.width, page.height, "0"];
   document.body.append(frame);
 }
-addEventListener("message", event => { told.push(event.data); next(); });
+addEventListener("message", event => {
+  told.push(event.data);
+  document.getElementById("told").textContent = JSON.stringify(told);
+  next();
+});
 next();
 </script>
 """
@@ -54,6 +60,15 @@ def tried(browser, room, pages):
         file = room / f"trial_{len(frames)}.html"
         file.write_text(with_trial(page, name), encoding="utf-8")
         frames += [{"file": f"file://{file}", "width": width, "height": height} for width, height in WIDTHS]
+    told, console, idle = [], [], 0
+    while len(told) < len(frames) and idle < MOST_IDLE:
+        more, faults = told_of(browser, room, frames[len(told) :])
+        told, console, idle = told + more, console + faults, 0 if more else idle + 1
+    return told, console
+
+
+def told_of(browser, room, frames):
+    """Opens these frames, and returns what the first of them have told, all or as many as the browser came to, and its console."""
     harness = room / "harness.html"
     harness.write_text(HARNESS.replace("PAGES", json.dumps(frames)), encoding="utf-8")
     words = ["--enable-logging=stderr", "--virtual-time-budget=600000", "--dump-dom", f"file://{harness}"]
