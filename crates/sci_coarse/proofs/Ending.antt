@@ -1,11 +1,10 @@
 -- A table that was closed with the first seat, to which all others were joined, has the whole line at home, and every step Idle.
-use Rattle.std.proofs.Common.{◌≡◌, ◌≢◌, ℕ, ◌+◌, ◌<◌, ◌≤◌, Bool, false, Option, Some, None, List, length, get_or, set, get_or-set_same, sym, ap, ◌∙◌, subst, ⊎_elim, arith}
+use Rattle.std.proofs.Common.{◌≡◌, ◌≢◌, ℕ, ◌<◌, ◌≤◌, Bool, false, Option, Some, None, List, length, get_or, set, get_or-set_same, sym, ap, ◌∙◌, subst, ⊎_elim, arith}
 use mathlib.Core.Logic.{dite}
 use mathlib.Core.Option.{some, some-injective}
 use native.Mathlib.Decide.{ℕ_discrete}
 use lib.ListN.{get_elem?}
 use Rattle.atomic_table.specs.Table.{Final, Seen}
-use Rattle.atomic_table.proofs.Lists.{at_index}
 use Rattle.sci_core.specs.declared.pending.Pending.{Pending}
 use Rattle.sci_core.specs.Whole.{WholeLine, nodes_of, state_of}
 use Rattle.sci_port.specs.Runs.{Leads, done_by}
@@ -59,13 +58,3 @@ pub emptied : (filled more : List Bool) (n : ℕ) → n ≡ 1 → n ≡ length f
 emptied filled more n one long is k below =
     let first : k ≡ 0 = omega arith in
     subst (λ (i : ℕ). get_or more i false ≡ false) (sym first) (ap (λ (l : List Bool). get_or l 0 false) is ∙ get_or-set_same filled 0 false false (omega arith))
-
--- one more place was looked at
-pub looked_at : {A : Type 0} (P : ℕ → A → Type 0) (xs : List A) (i : ℕ) (x : A) → i < length xs → x ≡ get_or xs i x → P i x → ((k : ℕ) (y : A) → k < i → get_elem? xs k ≡ some y → P k y) → (k : ℕ) (y : A) → k < i + 1 → get_elem? xs k ≡ some y → P k y
-looked_at {A} P xs i x near is here old k y below at = dite (ℕ_discrete k i)
-    (λ e. subst (λ (z : ℕ × A). P z.0 z.1) (λ j. (sym e j, some-injective x y (sym (at_index xs i x near is) ∙ (ap (get_elem? xs) (sym e) ∙ at)) j)) here)
-    (λ ne. old k y (omega arith) at)
-
--- and at last all were
-pub looked_all : {A : Type 0} (P : ℕ → A → Type 0) (xs : List A) (i : ℕ) → length xs ≤ i → ((k : ℕ) (y : A) → k < i → get_elem? xs k ≡ some y → P k y) → (k : ℕ) (y : A) → get_elem? xs k ≡ some y → P k y
-looked_all P xs i far all k y at = let near = inside xs y k at in all k y (omega arith) at

@@ -10,6 +10,5 @@ pub mod Histories
 pub mod Unslipped
 pub mod Told
 pub mod Staying
-pub mod Banked
 pub mod TwoLines
 pub mod Appending

@@ -1,64 +1,65 @@
--- A node's seats at the lines of a memory, one at each. This project's profile.
-use Rattle.std.specs.Prelude.{◌≡◌, ℕ, ◌<◌, ◌≤◌, List, length, map, slice_set}
-use mathlib.Core.Option.{some}
-use lib.ListN.{get_elem?}
+-- A node's seats at the lines of a memory, one at each: what sci_port says of lines that threads share, of these. This project's
+-- profile.
+use Rattle.std.specs.Prelude.{ℕ, ◌<◌, List}
+use Rattle.std.proofs.Common.{ap, subst, ◌∙◌}
+use Rattle.std.specs.Coded.{×_prop}
+use base.Stored.{Coded, Coded-set, coded×, coded_ℕ, coded_via}
+use Rattle.atomic_table.specs.Seated.{table_id_coded}
 use Rattle.sci_core.specs.declared.keeps.Keeps as keeps
-use Rattle.sci_port.specs.declared.calls.Call.{Call}
 use Rattle.sci_port.specs.Seated.{Seated}
+use Rattle.sci_port.specs.SeatBanks as shared
+use Rattle.sci_port.specs.SeatBanks.{IsShared, LineTerms, Seating, content_coded}
 use Rattle.sci_coarse.specs.declared.line.CoarseLine.{CoarseLine}
 use Rattle.sci_coarse.specs.declared.seats.Seat.{Seat}
+use Rattle.sci_coarse.specs.declared.views.Terms.{Terms}
 use Rattle.sci_coarse.specs.Seats.{IsSeatOf, HasMade}
 
+abbrev pub terms_of : {K : Type 0} → Terms K → LineTerms K
+terms_of t = record { nodes = t.nodes; number = t.number; keep = t.keep }
+
+abbrev pub seating_of : {K : Type 0} {g : keeps.Ghosts K} → Seat K g → Seating K
+seating_of s = record { terms = terms_of s.standing.terms; node = s.node; pending = s.standing.pending }
+
 -- the line numbered k, of so many nodes and under this fact
-pub record IsLine {K : Type 0} (nodes : ℕ) (keep : K) (k : ℕ) (l : CoarseLine K) : Type 0 where
-  pub number : l.terms.number ≡ k
-  pub nodes_are : l.terms.nodes ≡ nodes
-  pub fact : l.terms.keep ≡ keep
+abbrev pub IsLine : {K : Type 0} → ℕ → K → ℕ → CoarseLine K → Type 0
+IsLine nodes keep k l = shared.IsLine nodes keep k (terms_of l.terms)
 
 -- lines of one memory: 1 to 1,024, numbered from 0, of one number of nodes and under one fact
-pub record AreLines {K : Type 0} (lines : List (CoarseLine K)) : Type 0 where
-  pub some_are : 0 < length lines
-  pub few : length lines ≤ 1024
-  pub nodes : ℕ
-  pub keep : K
-  pub each : (k : ℕ) (l : CoarseLine K) → get_elem? lines k ≡ some l → IsLine nodes keep k l
-
--- the seat is the node's, at a line of this number
-abbrev pub SitsOn : {K : Type 0} {g : keeps.Ghosts K} → ℕ → ℕ → Seat K g → Type 0
-SitsOn node number s = (s.node ≡ node) × (s.standing.terms.number ≡ number)
+abbrev pub AreLines : {K : Type 0} → List (CoarseLine K) → Type 0
+AreLines {K} lines = shared.AreLines (λ (l : CoarseLine K). terms_of l.terms) lines
 
 -- one seat per line, in the order of the lines, and of one node
-pub record IsOnePerLine {K : Type 0} {g : keeps.Ghosts K} (lines : List (CoarseLine K)) (seats : List (Seat K g)) : Type 0 where
-  pub count : length seats ≡ length lines
-  pub node : ℕ
-  pub each : (k : ℕ) (s : Seat K g) → get_elem? seats k ≡ some s → SitsOn node k s
+abbrev pub IsOnePerLine : {K : Type 0} {g : keeps.Ghosts K} → List (CoarseLine K) → List (Seat K g) → Type 0
+IsOnePerLine {K} {g} lines seats = shared.IsOnePerLine (λ (s : Seat K g). seating_of s) lines seats
 
 -- the seat at each place is one of the very line there
 abbrev pub AreSeatsOf : {K : Type 0} {g : keeps.Ghosts K} → List (CoarseLine K) → List (Seat K g) → Type 0
-AreSeatsOf {K} {g} lines seats = (k : ℕ) (l : CoarseLine K) (s : Seat K g) → get_elem? lines k ≡ some l → get_elem? seats k ≡ some s → IsSeatOf l s
-
--- the line numbered k, and the node's seat at it
-pub record IsSeatAt {K : Type 0} {g : keeps.Ghosts K} (keep : K) (node k : ℕ) (l : CoarseLine K) (s : Seat K g) : Type 0 where
-  pub of : IsSeatOf l s
-  pub number : l.terms.number ≡ k
-  pub fact : l.terms.keep ≡ keep
-  pub node_is : s.node ≡ node
+AreSeatsOf {K} {g} lines seats = shared.AreSeatsOf (λ (l : CoarseLine K) (s : Seat K g). IsSeatOf l s) lines seats
 
 -- the node's seats at lines of a memory, one at each
-pub record AreSeatsAt {K : Type 0} {g : keeps.Ghosts K} (keep : K) (node : ℕ) (lines : List (CoarseLine K)) (seats : List (Seat K g)) : Type 0 where
-  pub some_are : 0 < length lines
-  pub few : length lines ≤ 1024
-  pub count : length seats ≡ length lines
-  pub each : (k : ℕ) (l : CoarseLine K) (s : Seat K g) → get_elem? lines k ≡ some l → get_elem? seats k ≡ some s → IsSeatAt keep node k l s
+abbrev pub AreSeatsAt : {K : Type 0} {g : keeps.Ghosts K} → K → ℕ → List (CoarseLine K) → List (Seat K g) → Type 0
+AreSeatsAt {K} {g} keep node lines seats = shared.AreSeatsAt (λ (l : CoarseLine K). terms_of l.terms) (λ (s : Seat K g). seating_of s) (λ (l : CoarseLine K) (s : Seat K g). IsSeatOf l s) keep node lines seats
 
 -- how they stand: how many nodes each line has, and the node's pending step on each
 abbrev pub seated : {K : Type 0} {g : keeps.Ghosts K} → K → ℕ → List (CoarseLine K) → List (Seat K g) → Seated K
-seated {K} {g} keep node lines seats = record { keep = keep; node = node; nodes = map (λ (l : CoarseLine K). l.terms.nodes) lines; steps = map (λ (s : Seat K g). s.standing.pending) seats }
+seated {K} {g} keep node lines seats = shared.seated (λ (l : CoarseLine K). terms_of l.terms) (λ (s : Seat K g). seating_of s) keep node lines seats
 
--- the seat at the line's place made the call, as a port of it does, and every other seat is as it was
-pub record MakesCall {K : Type 0} {g : keeps.Ghosts K} (fits : K → ℕ → List ℕ → Type 0) (before : List (Seat K g)) (line : ℕ) (call : Call) (after : List (Seat K g)) : Type 0 where
-  pub seat : Seat K g
-  pub later : Seat K g
-  pub at : get_elem? before line ≡ some seat
-  pub made : HasMade fits seat call later
-  pub seats : after ≡ slice_set before line later
+-- a line's terms, as a ghost value is kept
+abbrev terms_coded : {K : Type 0} → Coded K → Coded (Terms K)
+terms_coded {K} c = coded_via (coded× coded_ℕ (coded× coded_ℕ (coded× content_coded c))) (λ (t : Terms K). (t.nodes, (t.number, (t.opening, t.keep))))
+    (λ x y e i. record { nodes = (e i).0; number = (e i).1.0; opening = (e i).1.1.0; keep = (e i).1.1.1 })
+
+-- that a seat is one of a line has one proof at most
+pub seat_of_prop : {K : Type 0} {g : keeps.Ghosts K} → Coded K → (l : CoarseLine K) (s : Seat K g) → IsProp (IsSeatOf l s)
+seat_of_prop c l s = ×_prop (Coded-set table_id_coded s.token.table_id l.table.shared.table_id) (Coded-set (terms_coded c) s.standing.terms l.terms)
+
+-- what every line that threads share owes of its seats
+pub laws_of_seats : {K : Type 0} {g : keeps.Ghosts K} (fits : K → ℕ → List ℕ → Type 0)
+    → IsShared fits (λ (l : CoarseLine K). terms_of l.terms) (λ (s : Seat K g). seating_of s) (λ (l : CoarseLine K) (s : Seat K g). IsSeatOf l s) (λ s call t. HasMade fits s call t)
+laws_of_seats {K} {g} fits = record {
+  same_terms = λ l s of. ap (λ (t : Terms K). terms_of t) of.1;
+  below = λ l s of. subst (λ (n : ℕ). s.node < n) (ap (λ (t : Terms K). t.nodes) of.1) s.below;
+  stays = λ l s call t of made. (made.same.0 ∙ of.0, made.same.3 ∙ of.1);
+  same_node = λ s call t made. made.same.2;
+  owes = λ s call t made. made.owes;
+}

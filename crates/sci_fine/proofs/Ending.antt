@@ -6,7 +6,7 @@ use mathlib.Core.Option.{some, some-injective, some-ne-none}
 use native.Mathlib.Decide.{ℕ_discrete, dec_le}
 use lib.ListN.{get_elem?}
 use Rattle.atomic_table.specs.Table.{Final, Seen}
-use Rattle.atomic_table.proofs.Lists.{at_longer, at_last, at_index}
+use Rattle.atomic_table.proofs.Lists.{at_longer, at_last}
 use Rattle.sci_words.specs.Codes.{tag_code, mem_code}
 use Rattle.sci_words.specs.Mem.{mem_well_formed, mem_links_below}
 use Rattle.sci_words.specs.Tag.{tag_well_formed, tag_links_below}
@@ -36,7 +36,6 @@ use Rattle.sci_fine.specs.declared.views.View.{View}
 use Rattle.sci_fine.specs.Ends.{IsAtRest, HasRead, IsEnd}
 use Rattle.sci_fine.specs.Rule.{lies_at, word_at, slot_in, home_of, Stands}
 use Rattle.sci_fine.proofs.Coming.{mem_reads, tag_reads}
-use Rattle.sci_fine.proofs.Elements.{inside}
 
 index_at : (l : List ℕ) (i : ℕ) → i < length l → get_elem? l i ≡ some (get_or l i 0)
 index_at [] i h = absurd (omega arith)
@@ -180,16 +179,6 @@ module _ {K : Type 0} (fits : K → ℕ → List ℕ → Type 0) (t : Terms K) (
                 (λ i. (sym read.tag_count i, sym mem_is i, ap line_in (sym memory_at) i, tags_are i, lines_are i)) there,
           );
         }
-
--- one more place was looked at
-pub looked_at : {A : Type 0} (P : ℕ → A → Type 0) (xs : List A) (i : ℕ) (x : A) → i < length xs → x ≡ get_or xs i x → P i x → ((k : ℕ) (y : A) → k < i → get_elem? xs k ≡ some y → P k y) → (k : ℕ) (y : A) → k < i + 1 → get_elem? xs k ≡ some y → P k y
-looked_at {A} P xs i x near is here old k y below at = dite (ℕ_discrete k i)
-    (λ e. subst (λ (z : ℕ × A). P z.0 z.1) (λ j. (sym e j, some-injective x y (sym (at_index xs i x near is) ∙ (ap (get_elem? xs) (sym e) ∙ at)) j)) here)
-    (λ ne. old k y (omega arith) at)
-
--- and at last all were
-pub looked_all : {A : Type 0} (P : ℕ → A → Type 0) (xs : List A) (i : ℕ) → length xs ≤ i → ((k : ℕ) (y : A) → k < i → get_elem? xs k ≡ some y → P k y) → (k : ℕ) (y : A) → get_elem? xs k ≡ some y → P k y
-looked_all P xs i far all k y at = let near = inside xs y k at in all k y (omega arith) at
 
 module _ (filled more : List Bool) (i : ℕ) (is : more ≡ set filled i false) where
   pub taken_on : i < length filled → ((k : ℕ) → k < i → get_or filled k false ≡ false) → (k : ℕ) → k < i + 1 → get_or more k false ≡ false

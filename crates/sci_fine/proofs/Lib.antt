@@ -14,6 +14,5 @@ pub mod Ordered
 pub mod Ending
 pub mod Staying
 pub mod Telling
-pub mod Banked
 pub mod TwoLines
 pub mod Appending

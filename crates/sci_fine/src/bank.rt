@@ -1,178 +1,81 @@
-//! A node's ways to the lines of a memory, by its seats at them.
-ghost use Rattle.std.specs.Prelude.{◌≡◌, ◌<◌, ◌↔◌, IsTrue, IfOk, IfErr};
-ghost use Rattle.sci_fine.specs.Banks.{AreLines, AreSeatsAt, AreSeatsOf, IsOnePerLine, MakesCall, SitsOn, seated};
-ghost use Rattle.sci_port.specs.Seated.{CallsOn, nodes_on, seated_way, step_on};
+//! The line as a node's bank takes it, by the node's seats.
+ghost use Rattle.sci_fine.specs.Banks.{laws_of_seats, seat_of_prop, seating_of, terms_of};
+ghost use Rattle.sci_fine.specs.Seats.{IsSeatOf, HasMade};
 
 use crate::line::FineLine;
 use crate::seats::Seat;
 use sci_core::{Event, Keeps, Outcome, Pending, Stage};
-use sci_port::Bank;
+use sci_port::{SeatBank, SharedLine};
 use sci_words::{LineNo, Mem, NodeId, Tag};
 
 /// A node's ports to the lines of a memory, by its seat at each. A call on a line is that of the line's port, and leaves every
 /// other seat as it is.
-#[derive(Drop)]
-pub struct FineBank<'a, K: Keeps> {
-    lines: &'a [FineLine<K>],
-    seats: Vec<Seat<K>>,
-    node: NodeId,
-    keep: K,
-    ghost of: { AreSeatsAt keep node lines.now seats.items },
-}
+pub type FineBank<'a, K> = SeatBank<'a, FineLine<K>>;
 
 /// Refusal 9: the seats are not one per line, in the order of the lines and of one node. They come back as they were.
-#[derive(Drop)]
-pub struct SeatOfAnother<K: Keeps> {
-    pub seats: Vec<Seat<K>>,
-}
+pub type SeatOfAnother<K> = sci_port::SeatOfAnother<Seat<K>>;
 
-impl<K: Keeps> SeatOfAnother<K> {
-    /// The refusal's number.
-    pub fn number(&self) -> u8
-        ensures { result ≡ 9 }
-    {
-        9
-    }
-}
-
-// The seat is the node's, at a line of this number.
-fn is_seat_at<K: Keeps>(seat: &Seat<K>, node: NodeId, number: usize) -> bool
-    ensures { IsTrue result ↔ SitsOn node number seat.now }
-{
-    seat.node() == node && usize::from(seat.number()) == number
-}
-
-// There is one seat per line, in the order of the lines and of one node.
-fn is_one_per_line<K: Keeps>(lines: &[FineLine<K>], seats: &[Seat<K>]) -> bool
-    requires { AreLines lines.now }
-    ensures { IsTrue result ↔ IsOnePerLine lines.now seats.now }
-{
-    if seats.len() != lines.len() {
-        return false;
-    }
-    let node = seats[0].node();
-    for (place, seat) in seats.iter().enumerate() {
-        if !is_seat_at(seat, node, place) {
-            return false;
-        }
-    }
-    true
-}
-
-impl<'a, K: Keeps> FineBank<'a, K> {
-    /// The bank of a node over 1 to 1,024 lines, numbered from 0, of one number of nodes and one `keep`, by its seats at these
-    /// very lines. Refusal 9 where the seats are not one per line, in the order of the lines and of one node: it hands them
-    /// back.
-    pub fn new(
-        lines: &'a [FineLine<K>],
-        seats: Vec<Seat<K>>,
-    ) -> Result<FineBank<'a, K>, SeatOfAnother<K>>
-        requires lines { AreLines lines.now }
-        requires seats { IsOnePerLine lines.now seats.items → AreSeatsOf lines.now seats.items }
-        ensures ok { IfOk result (λ bank. IsOnePerLine lines.now seats.items × (bank.lines ≡ lines.entry) × (bank.seats ≡ seats)) }
-        ensures err { IfErr result (λ e. (IsOnePerLine lines.now seats.items → ⊥) × (e.seats ≡ seats)) }
-    {
-        if !is_one_per_line(lines, &seats) {
-            return Err(SeatOfAnother { seats });
-        }
-        let node = seats[0].node();
-        let keep = lines[0].terms.keep;
-        Ok(FineBank {
-            lines,
-            seats,
-            node,
-            keep,
-        })
-    }
-
-    /// The seats as they stand.
-    pub fn into_seats(self) -> Vec<Seat<K>>
-        ensures { result ≡ self.entry.seats }
-    {
-        let FineBank {
-            seats,
-            lines: _,
-            node: _,
-            keep: _,
-        } = self;
-        seats
-    }
-}
-
-impl<K: Keeps> Bank for FineBank<'_, K> {
+/// Each call is one load or one compare-exchange, and is answered: no load gives None, and no step Busy.
+impl<K: Keeps> SharedLine for FineLine<K> {
     type Keep = K;
 
-    ghost way = { λ s. seated_way (seated s.keep s.node s.lines.now s.seats.items) };
+    type Seat = Seat<K>;
 
-    ghost nodes_on = { λ s line. nodes_on (seated s.keep s.node s.lines.now s.seats.items) line };
+    ghost terms = { λ l. terms_of l.terms };
 
-    ghost keep = { λ s. s.keep };
+    ghost seating = { λ s. seating_of s };
 
-    ghost at_step = { λ s line. step_on (seated s.keep s.node s.lines.now s.seats.items) line };
+    ghost is_seat = { λ l s. IsSeatOf l s };
 
-    ghost gives = { λ s line call t. (t.lines ≡ s.lines) × MakesCall K.fits s.seats.items line call t.seats.items × CallsOn K.fits (seated s.keep s.node s.lines.now s.seats.items) line call (seated t.keep t.node t.lines.now t.seats.items) };
+    ghost is_fact = { λ c l s. seat_of_prop c l s };
 
-    ghost same_way = { λ s line call t h. h.2.way };
+    ghost makes = { λ s call t. HasMade K.fits s call t };
 
-    ghost same_nodes = { λ s line call t h. h.2.nodes };
+    ghost laws = { laws_of_seats K.fits };
 
-    ghost same_fact = { λ s line call t h. h.2.fact };
-
-    ghost others = { λ s line call t h. h.2.others };
-
-    ghost owes = { λ s line call t h. h.2.owes };
-
-    fn node(&self) -> NodeId {
-        self.node
+    fn nodes(&self) -> u16 {
+        self.terms.nodes
     }
 
-    fn lines(&self) -> u16 {
-        self.lines.len() as u16
+    fn number(&self) -> LineNo {
+        self.terms.number
     }
 
-    fn nodes(&self, line: LineNo) -> u16 {
-        let lines = self.lines;
-        lines[usize::from(line)].terms.nodes
+    fn keep(&self) -> K {
+        self.terms.keep
     }
 
-    fn number(&self, line: LineNo) -> LineNo {
-        let lines = self.lines;
-        lines[usize::from(line)].terms.number
+    fn seat_node(seat: &Seat<K>) -> NodeId {
+        seat.node()
     }
 
-    fn pending(&self, line: LineNo) -> Pending {
-        let seats = &self.seats;
-        seats[usize::from(line)].standing.pending()
+    fn seat_number(seat: &Seat<K>) -> LineNo {
+        seat.number()
     }
 
-    fn stage(&self, line: LineNo) -> Stage {
-        let seats = &self.seats;
-        seats[usize::from(line)].standing.stage()
+    fn seat_pending(seat: &Seat<K>) -> Pending {
+        seat.standing.pending()
+    }
+
+    fn seat_stage(seat: &Seat<K>) -> Stage {
+        seat.standing.stage()
     }
 
     #[inline(always)]
-    fn own(&mut self, line: LineNo) -> Option<Tag> {
-        let at = &self.lines[usize::from(line)];
-        let seats = self.seats.as_mut_slice();
-        Some(seats[usize::from(line)].own(at))
+    fn own(&self, seat: &mut Seat<K>) -> Option<Tag> {
+        Some(seat.own(self))
     }
 
-    fn mem(&mut self, line: LineNo) -> Option<Mem> {
-        let at = &self.lines[usize::from(line)];
-        let seats = self.seats.as_mut_slice();
-        Some(seats[usize::from(line)].mem(at))
+    fn mem(&self, seat: &mut Seat<K>) -> Option<Mem> {
+        Some(seat.mem(self))
     }
 
-    fn tag(&mut self, line: LineNo, node: NodeId) -> Option<Tag> {
-        let at = &self.lines[usize::from(line)];
-        let seats = self.seats.as_mut_slice();
-        Some(seats[usize::from(line)].tag(at, node))
+    fn tag(&self, seat: &mut Seat<K>, node: NodeId) -> Option<Tag> {
+        Some(seat.tag(self, node))
     }
 
     #[inline(always)]
-    fn step(&mut self, line: LineNo, event: Event) -> Outcome {
-        let at = &self.lines[usize::from(line)];
-        let seats = self.seats.as_mut_slice();
-        seats[usize::from(line)].step(at, &event)
+    fn step(&self, seat: &mut Seat<K>, event: Event) -> Outcome {
+        seat.step(self, &event)
     }
 }

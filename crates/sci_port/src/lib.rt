@@ -6,6 +6,8 @@ mod bank;
 mod calls;
 mod port;
 pub mod recording;
+mod seat_bank;
+mod shared;
 mod solo;
 mod solo_bank;
 
@@ -14,5 +16,7 @@ pub use bank::Bank;
 pub use calls::Call;
 pub use port::Port;
 pub use sci_core::{AnyWords, Keeps};
+pub use seat_bank::{SeatBank, SeatOfAnother};
+pub use shared::SharedLine;
 pub use solo::Solo;
 pub use solo_bank::SoloBank;

@@ -1,8 +1,7 @@
 use Rattle.std.proofs.Common.{refl, sym, ◌∙◌, arith}
 use Rattle.atomic_table.proofs.Lists.{at_index}
 use Rattle.sci_coarse.specs.Seats.{SitsAt}
-use Rattle.sci_coarse.proofs.Listed.{clash}
-use Rattle.sci_coarse.proofs.Ending.{looked_at, looked_all}
+use Rattle.sci_coarse.proofs.Listed.{clash, looked_at, looked_all}
 use Rattle.sci_coarse.proofs.line.CoarseLine.has_seats.Goals as goal
 
 pub returns-then-seats-from : goal.returns-then-seats-from

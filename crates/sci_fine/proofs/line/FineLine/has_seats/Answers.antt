@@ -1,8 +1,7 @@
 use Rattle.std.proofs.Common.{refl, sym, ◌∙◌, arith}
 use Rattle.atomic_table.proofs.Lists.{at_index}
 use Rattle.sci_fine.specs.Seats.{SitsAt}
-use Rattle.sci_fine.proofs.Elements.{clash}
-use Rattle.sci_fine.proofs.Ending.{looked_at, looked_all}
+use Rattle.sci_fine.proofs.Elements.{clash, looked_at, looked_all}
 use Rattle.sci_fine.proofs.line.FineLine.has_seats.Goals as goal
 
 pub returns-then-seats-from : goal.returns-then-seats-from

@@ -1,0 +1,7 @@
+use Rattle.sci_fine.proofs.bank.FineLineSharedLine.tag.Goals as goal
+
+pub tag-requires : goal.tag-requires
+tag-requires g c = record { of = c.requires.of; node = c.requires.node }
+
+pub returns : goal.returns
+returns g c = c.tag.ensures.made

@@ -1,5 +1,0 @@
-use Rattle.std.proofs.Common.{refl}
-use Rattle.sci_fine.proofs.bank.SeatOfAnother.number.Goals as goal
-
-pub returns : goal.returns
-returns g c = refl

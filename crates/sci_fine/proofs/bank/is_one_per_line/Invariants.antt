@@ -1,8 +1,0 @@
-use Rattle.std.proofs.Common.{◌≡◌, ℕ, ◌<◌}
-use mathlib.Core.Option.{some}
-use lib.ListN.{get_elem?}
-use Rattle.sci_fine.specs.Banks.{SitsOn}
-use Rattle.sci_fine.proofs.bank.is_one_per_line.Given as goal
-
-abbrev pub invariant-loop-place : goal.invariant-loop-place
-invariant-loop-place g l = (k : ℕ) (s : _) → k < l.place → get_elem? l.seats k ≡ some s → SitsOn l.node k s
