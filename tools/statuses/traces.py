@@ -1,6 +1,6 @@
 """What `trace` tells of each turn, worked by hand from the walks and the tables of docs/PROTOCOL.md. A page of `draw` has the same text."""
 
-from kinds import WholePage, refused
+from kinds import Little, WholePage, refused
 
 # Each walk: a script, the status, the trace, and what is told on standard error.
 WALKS = [
@@ -241,7 +241,13 @@ ITS_TRACE = (
 
 TRACED = [*WALKS, EACH_NODE, (UNENDED, 1, ITS_TRACE, refused("18 at line 7"))]
 
+# They are written as they come: this memory hasn't room for them.
+LITTLE = Little(UNENDED, 6_000_000)
+assert len(ITS_TRACE) > LITTLE.memory
+
 CASES = [
+    (["trace"], LITTLE, 1, ITS_TRACE, refused("18 at line 7")),
+    (["draw"], LITTLE, 1, WholePage(ITS_TRACE), refused("18 at line 7")),
     *((["trace"], script, status, text, error) for script, status, text, error in TRACED),
     *((["draw"], script, status, WholePage(text), error) for script, status, text, error in TRACED),
 ]

@@ -23,7 +23,7 @@ use std::io::Write;
 pub const NODES: usize = MOST_NODES as usize;
 
 /// How many turns a call may take under `done`.
-const TURNS: u32 = 100_000;
+pub const TURNS: u32 = 100_000;
 
 /// Whether the turn ended the call.
 pub fn is_end(turn: Turn) -> bool

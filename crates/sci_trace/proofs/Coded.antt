@@ -68,3 +68,7 @@ err_then (Err e) P Q h f = f e h
 pub ok_then : {X E : Type 0} (r : Result X E) (P Q : Type 0) → OnOk r P → (P → Q) → OnOk r Q
 ok_then (Ok x) P Q h f = f h
 ok_then (Err e) P Q h f = tt
+
+pub both_then : {X E : Type 0} (r : Result X E) (P Q R : Type 0) → OnOk r P → OnOk r Q → (P → Q → R) → OnOk r R
+both_then (Ok x) P Q R h k f = f h k
+both_then (Err e) P Q R h k f = tt

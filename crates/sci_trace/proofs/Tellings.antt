@@ -10,12 +10,12 @@ use Rattle.sci_cache.specs.declared.requests.Request.{Request}
 use Rattle.sci_script.specs.declared.commands.Step.{Step}
 use Rattle.sci_script.specs.declared.commands.Command.{Command}
 use Rattle.sci_script.specs.declared.watching.Passed.{Passed}
-use Rattle.sci_script.specs.Event.{Event, Began, Turned, SawMem, SawTag, SawResidents}
+use Rattle.sci_script.specs.Event.{Event, Began, Turned, SawMem, SawTag, SawResidents, IsNoEnd}
 use Rattle.sci_script.specs.Passed.{shared_passes}
 use Rattle.sci_script.specs.Request.{words_after}
-use Rattle.sci_script.specs.Run.{Prints}
+use Rattle.sci_script.specs.Run.{Unended, Prints}
 use Rattle.sci_script.specs.Shared.{Shared, shared_does}
-use Rattle.sci_script.proofs.Runs.{words_behind}
+use Rattle.sci_script.proofs.Runs.{unended_none, unended_more, words_behind}
 use Rattle.sci_trace.specs.Lists.{walked}
 use Rattle.sci_trace.specs.Notes.{Told, line_of_turn}
 use Rattle.sci_trace.specs.Texts.{is_waiting, note_line}
@@ -68,6 +68,50 @@ told_so words command text s t before after cut still none whole kept h =
     subst (λ (b : Bool). Prints telling_is_open tells words (telling s []) command text (record { shared = t; notes = after; is_cut = b })) kept
     (subst (λ (b : Bool). Prints telling_is_open tells words (record { shared = s; notes = []; is_cut = b }) command text (record { shared = t; notes = after; is_cut = still })) whole
     (subst (λ (l : List ℕ). Prints telling_is_open tells words (record { shared = s; notes = l; is_cut = cut }) command text (record { shared = t; notes = after; is_cut = still })) none h))
+
+abbrev pub telling_in : Shared → List ℕ → Bool → Telling
+telling_in s notes cut = record { shared = s; notes = notes; is_cut = cut }
+
+-- with lines in front, which were written before
+abbrev pub with_front : List ℕ → Telling → Telling
+with_front put s = telling_in s.shared (put ++ s.notes) s.is_cut
+
+same_telling : (s t : Shared) (before after : List ℕ) (cut still : Bool) → s ≡ t → before ≡ after → cut ≡ still → telling_in s before cut ≡ telling_in t after still
+same_telling s t before after cut still same is kept =
+    ap (λ (x : Shared). telling_in x before cut) same ∙ ap (λ (x : List ℕ). telling_in t x cut) is ∙ ap (λ (x : Bool). telling_in t after x) kept
+
+-- a turn's line is added behind these too
+adds_behind : (put : List ℕ) (node : ℕ) (turn : Turn) (s t : Telling) → tells s (Turned node turn) t → tells (with_front put s) (Turned node turn) (with_front put t)
+adds_behind put node turn s t (does, inl h) = (does, inl h)
+adds_behind put node turn s t (does, inr (kept, told, is, added)) = (
+  does,
+  inr (kept, told, is, ap (λ (x : List ℕ). put ++ x) added ∙ sym (append_assoc put s.notes (line_of_turn told))),
+)
+
+-- no turn was taken, and no line told
+pub unended_first : (node : ℕ) (s : Shared) (notes : List ℕ) (cut : Bool) → notes ≡ [] → cut ≡ false → Unended tells node 0 (telling s []) (with_front [] (telling_in s notes cut))
+unended_first node s notes cut none whole =
+    subst (λ (x : Telling). Unended tells node 0 (telling s []) x) (sym (same_telling s s notes [] cut false refl none whole)) (unended_none tells node (telling s []))
+
+-- one turn more, and then the first of the lines are written
+pub unended_put : (node n : ℕ) (turn : Turn) (first s mid : Telling) (t : Shared) (put now notes : List ℕ) (cut : Bool) → Unended tells node n first (with_front put s) → IsNoEnd turn → tells s (Turned node turn) mid
+    → mid.notes ≡ now ++ notes → cut ≡ mid.is_cut → t ≡ mid.shared → Unended tells node (n + 1) first (with_front (put ++ now) (telling_in t notes cut))
+unended_put node n turn first s mid t put now notes cut before no-end turned parts kept same =
+    subst (λ (x : Telling). Unended tells node (n + 1) first x)
+    (same_telling mid.shared t (put ++ mid.notes) ((put ++ now) ++ notes) mid.is_cut cut (sym same) (ap (λ (x : List ℕ). put ++ x) parts ∙ sym (append_assoc put now notes)) (sym kept))
+    (unended_more tells node n first (with_front put s) (with_front put mid) turn before no-end (adds_behind put node turn s mid turned))
+
+-- the last turn, whose line is written with those before
+pub ends_behind : (put : List ℕ) (node : ℕ) (turn : Turn) (s mid : Telling) (t : Shared) → tells s (Turned node turn) mid → mid.is_cut ≡ false → t ≡ mid.shared
+    → tells (with_front put s) (Turned node turn) (telling t (put ++ mid.notes))
+ends_behind put node turn s mid t turned whole same =
+    subst (λ (x : Telling). tells (with_front put s) (Turned node turn) x)
+    (same_telling mid.shared t (put ++ mid.notes) (put ++ mid.notes) mid.is_cut false (sym same) refl whole) (adds_behind put node turn s mid turned)
+
+-- the lines of turns of which none is the last are written
+pub unended_behind : (node n : ℕ) (first s : Telling) (t : Shared) (put : List ℕ) → Unended tells node n first (with_front put s) → s.is_cut ≡ false → t ≡ s.shared → Unended tells node n first (telling t (put ++ s.notes))
+unended_behind node n first s t put before whole same =
+    subst (λ (x : Telling). Unended tells node n first x) (same_telling s.shared t (put ++ s.notes) (put ++ s.notes) s.is_cut false (sym same) refl whole) before
 
 pub tells_none : (words : List ℕ) (s : Shared) → TellsAll words s [] [] s
 tells_none words s = (refl, refl)

@@ -1,8 +1,9 @@
 -- One more command of a traced run, and where it stops.
-use Rattle.std.proofs.Common.{◌≡◌, ◌∙◌, ◌<◌, ◌+◌, ℕ, List, [], ◌++◌, Some, length, get_or, take, refl, sym, ap, subst, append-nil, append_assoc}
+use Rattle.std.proofs.Common.{◌≡◌, ◌∙◌, ◌<◌, ◌+◌, ℕ, List, [], ◌++◌, Some, Result, IfErr, length, get_or, take, refl, sym, ap, subst, append-nil, append_assoc}
 use Rattle.std.proofs.lemmas.List.Sums.{AllPass-from_list_all}
 use Rattle.std.specs.Prelude.{slice_get}
 use Rattle.sci_script.specs.declared.commands.Size.{Size}
+use Rattle.sci_script.specs.declared.commands.Command.{Command}
 use Rattle.sci_script.specs.declared.commands.Step.{Step}
 use Rattle.sci_script.specs.declared.refusals.ScriptRefusal.{ScriptRefusal}
 use Rattle.sci_script.specs.declared.refusals.ScriptRefusal.TheVariants.{OutOfMemory, BadCommand, BadNumber, NotDone, WriteFailed}
@@ -14,9 +15,9 @@ use Rattle.sci_script.proofs.Runs.{prints_none, run_step, words_behind}
 use Rattle.sci_trace.specs.Notes.{AreNotes, IsWoven}
 use Rattle.sci_trace.specs.declared.coding.Coding.{Coding}
 use Rattle.sci_trace.specs.Coding.{coded, IsFront}
-use Rattle.sci_trace.specs.Traces.{Traces, TraceStops, NotesLeft, TraceLeaves, FormLeaves}
-use Rattle.sci_trace.proofs.Coded.{coded_front}
-use Rattle.sci_trace.proofs.Weaving.{woven_none, woven_more, woven_notes}
+use Rattle.sci_trace.specs.Traces.{Traces, TraceStops, NotesLeft, StepLeaves, TraceLeaves, FormLeaves}
+use Rattle.sci_trace.proofs.Coded.{coded_append, coded_front}
+use Rattle.sci_trace.proofs.Weaving.{notes_append, woven_none, woven_more, woven_notes}
 
 pub traces_none : (s : Shared) → Traces [] s [] s
 traces_none s = ([], prints_none shared_is_open shared_does no_words s, woven_none)
@@ -41,30 +42,46 @@ command_fits size has items steps i x fit e lt is same =
 pub traces_notes : (steps : List Step) (traced notes : List ℕ) (s t : Shared) → Traces steps s traced t → AreNotes notes → Traces steps s (traced ++ notes) t
 traces_notes steps traced notes s t (text, printed, woven) are = (text, printed, woven_notes text traced notes woven are)
 
--- a command failed
-pub trace_stops : (coding : Coding) (nodes : ℕ) (steps : List Step) (k : ℕ) (step : Step) (traced : List ℕ) (e : ScriptRefusal) (s mid t : Shared) → Traces (take k steps) s traced mid
-    → slice_get steps k ≡ Some step → StopsAt shared_is_open shared_does nodes mid step e t → FormLeaves (coded coding) nodes steps s e (coded coding traced) t
-trace_stops coding nodes steps k step traced OutOfMemory s mid t so_far at stop = (traced, (k, mid, so_far), refl)
-trace_stops coding nodes steps k step traced (BadCommand n) s mid t so_far at stop = (traced, (k, mid, step, so_far, at, stop), refl)
-trace_stops coding nodes steps k step traced (BadNumber n) s mid t so_far at stop = absurd stop
-trace_stops coding nodes steps k step traced (NotDone n) s mid t so_far at stop = (traced, (k, mid, step, so_far, at, stop), refl)
-trace_stops coding nodes steps k step traced WriteFailed s mid t so_far at stop = absurd stop
-
 -- a front of a traced text, and not all
 pub trace_cut : (coding : Coding) (nodes : ℕ) (steps : List Step) (k : ℕ) (traced more front : List ℕ) (s mid t : Shared) → Traces (take k steps) s (traced ++ more) mid
     → IsFront (coded coding more) front → FormLeaves (coded coding) nodes steps s WriteFailed (coded coding traced ++ front) t
 trace_cut coding nodes steps k traced more front s mid t all cut = (traced ++ more, (k, mid, all), coded_front coding traced more front cut)
 
--- the lines of the turns of a command weren't all written
-pub notes_stop : (coding : Coding) (nodes : ℕ) (steps : List Step) (k : ℕ) (traced notes written : List ℕ) (e : ScriptRefusal) (s mid t : Shared) → Traces (take k steps) s traced mid
-    → AreNotes notes → NotesLeft coding e notes written → FormLeaves (coded coding) nodes steps s e (coded coding traced ++ written) t
-notes_stop coding nodes steps k traced notes written OutOfMemory s mid t so_far are left =
-    (traced, (k, mid, so_far), ap (λ (x : List ℕ). coded coding traced ++ x) left ∙ append-nil (coded coding traced))
-notes_stop coding nodes steps k traced notes written (BadCommand n) s mid t so_far are left = absurd left
-notes_stop coding nodes steps k traced notes written (BadNumber n) s mid t so_far are left = absurd left
-notes_stop coding nodes steps k traced notes written (NotDone n) s mid t so_far are left = absurd left
-notes_stop coding nodes steps k traced notes written WriteFailed s mid t so_far are left =
-    trace_cut coding nodes steps k traced notes written s mid t (traces_notes (take k steps) traced notes s mid so_far are) left
+-- a command failed, whose turns' lines are written
+pub step_left : (coding : Coding) (nodes : ℕ) (s : Shared) (step : Step) (notes : List ℕ) (e : ScriptRefusal) (t : Shared) → AreNotes notes → StopsAt shared_is_open shared_does nodes s step e t
+    → StepLeaves coding nodes s step e (coded coding notes) t
+step_left coding nodes s step notes OutOfMemory t are stop = (notes, are, tt, refl)
+step_left coding nodes s step notes (BadCommand n) t are stop = (notes, are, stop, refl)
+step_left coding nodes s step notes (BadNumber n) t are stop = absurd stop
+step_left coding nodes s step notes (NotDone n) t are stop = (notes, are, stop, refl)
+step_left coding nodes s step notes WriteFailed t are stop = absurd stop
+
+-- behind lines that were written, others weren't all written
+pub notes_left : (coding : Coding) (nodes : ℕ) (s : Shared) (step : Step) (put notes written : List ℕ) (e : ScriptRefusal) (t : Shared) → AreNotes put → AreNotes notes → NotesLeft coding e notes written
+    → StepLeaves coding nodes s step e (coded coding put ++ written) t
+notes_left coding nodes s step put notes written OutOfMemory t are also left = (put, are, tt, ap (λ (x : List ℕ). coded coding put ++ x) left ∙ append-nil (coded coding put))
+notes_left coding nodes s step put notes written (BadCommand n) t are also left = absurd left
+notes_left coding nodes s step put notes written (BadNumber n) t are also left = absurd left
+notes_left coding nodes s step put notes written (NotDone n) t are also left = absurd left
+notes_left coding nodes s step put notes written WriteFailed t are also left = (put ++ notes, notes_append put notes are also, tt, coded_front coding put notes written left)
+
+-- what is said of a command's fields is said of it
+pub of_command : {T : Type 0} (result : Result T ScriptRefusal) (P : Step → ScriptRefusal → Type 0) (step : Step) (command : Command) → step.command ≡ command
+    → IfErr result (P (record { number = step.number; command = command })) → IfErr result (P step)
+of_command result P step command is h = subst (λ (k : Command). IfErr result (P (record { number = step.number; command = k }))) (sym is) h
+
+-- a command failed behind those that were traced
+pub trace_leaves : (coding : Coding) (nodes : ℕ) (steps : List Step) (k : ℕ) (step : Step) (traced written : List ℕ) (e : ScriptRefusal) (s mid t : Shared) → Traces (take k steps) s traced mid
+    → slice_get steps k ≡ Some step → StepLeaves coding nodes mid step e written t → FormLeaves (coded coding) nodes steps s e (coded coding traced ++ written) t
+trace_leaves coding nodes steps k step traced written OutOfMemory s mid t so_far at (notes, are, stop, is) =
+    (traced ++ notes, (k, mid, traces_notes (take k steps) traced notes s mid so_far are), ap (λ (x : List ℕ). coded coding traced ++ x) is ∙ sym (coded_append coding traced notes))
+trace_leaves coding nodes steps k step traced written (BadCommand n) s mid t so_far at (notes, are, stop, is) =
+    (traced ++ notes, (k, mid, step, traces_notes (take k steps) traced notes s mid so_far are, at, stop), ap (λ (x : List ℕ). coded coding traced ++ x) is ∙ sym (coded_append coding traced notes))
+trace_leaves coding nodes steps k step traced written (BadNumber n) s mid t so_far at (notes, are, stop, is) = absurd stop
+trace_leaves coding nodes steps k step traced written (NotDone n) s mid t so_far at (notes, are, stop, is) =
+    (traced ++ notes, (k, mid, step, traces_notes (take k steps) traced notes s mid so_far are, at, stop), ap (λ (x : List ℕ). coded coding traced ++ x) is ∙ sym (coded_append coding traced notes))
+trace_leaves coding nodes steps k step traced written WriteFailed s mid t so_far at (notes, are, stop, cut) =
+    trace_cut coding nodes steps k traced notes written s mid t (traces_notes (take k steps) traced notes s mid so_far are) cut
 
 -- what is left of a trace that is written as it is
 pub plain_leaves : (nodes : ℕ) (steps : List Step) (s : Shared) (e : ScriptRefusal) (written : List ℕ) (t : Shared) → FormLeaves (coded Coding.Plain) nodes steps s e written t

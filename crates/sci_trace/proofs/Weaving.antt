@@ -19,6 +19,17 @@ notes_none = λ none. none ([], refl)
 pub notes_more : (notes : List ℕ) (told : Told) → AreNotes notes → AreNotes (notes ++ line_of_turn told)
 notes_more notes told are = λ none. are (λ lines. none (lines_more notes told lines))
 
+lines_append : (notes more : List ℕ) → AreLines notes → AreLines more → AreLines (notes ++ more)
+lines_append notes more (turns, is) (others, also) = (
+  turns ++ others,
+  ap (λ (x : List ℕ). x ++ more) is
+      ∙ ap (λ (x : List ℕ). flat_map line_of_turn turns ++ x) also
+      ∙ sym (flat_map-append line_of_turn turns others),
+)
+
+pub notes_append : (notes more : List ℕ) → AreNotes notes → AreNotes more → AreNotes (notes ++ more)
+notes_append notes more are also = λ none. are (λ lines. also (λ others. none (lines_append notes more lines others)))
+
 pub woven_none : IsWoven [] []
 woven_none = ([], refl, refl)
 

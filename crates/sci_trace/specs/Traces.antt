@@ -8,7 +8,7 @@ use Rattle.sci_script.specs.Run.{PrintsAll, StopsAt}
 use Rattle.sci_script.specs.Shared.{Shared, shared_is_open, shared_does}
 use Rattle.sci_trace.specs.declared.coding.Coding.{Coding}
 use Rattle.sci_trace.specs.Coding.{coded, IsFront}
-use Rattle.sci_trace.specs.Notes.{IsWoven}
+use Rattle.sci_trace.specs.Notes.{AreNotes, IsWoven}
 
 -- the commands print a text, one after the other, and this is it with lines of turns between
 abbrev pub Traces : List Step → Shared → List ℕ → Shared → Type 0
@@ -50,3 +50,13 @@ IsWrittenOf _ text written = written ≡ text
 -- what is left of a run that is written in some form
 abbrev pub FormLeaves : (List ℕ → List ℕ) → ℕ → List Step → Shared → ScriptRefusal → List ℕ → Shared → Type 0
 FormLeaves form nodes steps s e written t = (traced : List ℕ) × TracedTo nodes steps s e traced t × IsWrittenOf e (form traced) written
+
+-- how a command stops, from s to t; nothing is said of that where memory was refused or the writer failed
+abbrev pub StepStops : ℕ → Shared → Step → ScriptRefusal → Shared → Type 0
+StepStops nodes s step OutOfMemory t = Unit {0}
+StepStops nodes s step WriteFailed t = Unit {0}
+StepStops nodes s step e t = StopsAt shared_is_open shared_does nodes s step e t
+
+-- what is written of a command that fails: lines of turns, or, where the writer failed, a front of such lines, and not all of it
+abbrev pub StepLeaves : Coding → ℕ → Shared → Step → ScriptRefusal → List ℕ → Shared → Type 0
+StepLeaves coding nodes s step e written t = (notes : List ℕ) × AreNotes notes × StepStops nodes s step e t × IsWrittenOf e (coded coding notes) written

@@ -7,21 +7,18 @@ use Rattle.std.proofs.lemmas.Result.{err_from_is_err_and}
 use Rattle.sci_core.specs.declared.whole.TheConstants.{MOST_NODES}
 use Rattle.sci_script.specs.declared.commands.Size.{Size}
 use Rattle.sci_script.specs.declared.commands.Step.{Step}
-use Rattle.sci_script.specs.declared.wholes.WholeDesk.{WholeDesk}
 use Rattle.sci_script.specs.Request.{no_words, words_after}
-use Rattle.sci_script.specs.Run.{Prints, StopsAt}
+use Rattle.sci_script.specs.Run.{Prints}
 use Rattle.sci_script.specs.Shared.{shared_is_open, shared_does}
 use Rattle.sci_script.specs.Wholes.{shared_of}
 use Rattle.sci_script.proofs.Runs.{step_is, words_behind, words_step}
-use Rattle.sci_script.proofs.Through.{prints, stops_at}
-use Rattle.sci_trace.specs.NoteText.{note_bytes}
-use Rattle.sci_trace.specs.declared.desk.TraceDesk.{TraceDesk}
+use Rattle.sci_script.proofs.Through.{prints}
 use Rattle.sci_trace.specs.Coding.{coded}
-use Rattle.sci_trace.specs.Telling.{telling, telling_of, telling_is_open, tells, TellsAll}
-use Rattle.sci_trace.specs.Traces.{Traces}
+use Rattle.sci_trace.specs.Telling.{Telling, telling, telling_is_open, tells, TellsAll}
+use Rattle.sci_trace.specs.Traces.{Traces, StepLeaves}
 use Rattle.sci_trace.proofs.Coded.{coded_nil, coded_behind}
-use Rattle.sci_trace.proofs.Tellings.{told_does, told_so, tells_none, tells_step}
-use Rattle.sci_trace.proofs.Tracing.{command_fits, traces_none, traces_more, traces_notes, trace_stops, trace_cut, notes_stop}
+use Rattle.sci_trace.proofs.Tellings.{told_does, tells_none, tells_step}
+use Rattle.sci_trace.proofs.Tracing.{command_fits, traces_none, traces_more, trace_cut, trace_leaves}
 use Rattle.sci_trace.proofs.running.trace_as.Goals as goal
 
 pub loop-step-init : goal.loop-step-init
@@ -35,11 +32,13 @@ loop-step-init g c =
       written = ([], traces_none (shared_of c.args.desk.now.desk), tells_none no_words (shared_of c.args.desk.now.desk), coded_nil c.args.coding _);
     }
 
-pub perform-performed-requires : goal.perform-performed-requires
-perform-performed-requires g c =
+pub trace_step-requires : goal.trace_step-requires
+trace_step-requires g c =
     let script = c.args.script.now in
     record {
       empty = c.clear.ensures.bytes;
+      none = c.loop-step.invariant.empty;
+      whole = c.loop-step.invariant.whole;
       command = command_fits script.size c.loop-step.desk.size c.steps-step-items.result.now script.steps.items c.loop-step.step-index c.step-item.result script.fits c.steps-step-items.ensures c.loop-step-test.true c.step-item.is c.loop-step.invariant.size;
       few = subst (λ (size : Size). size.nodes ≤ MOST_NODES) (sym c.loop-step.invariant.size) script.is_size.few_nodes;
       words = c.loop-step.invariant.range;
@@ -54,25 +53,17 @@ note-requires g c =
       words = c.loop-step.invariant.range;
     }
 
-pub returns-in_err-put_notes-clause-ok : goal.returns-in_err-put_notes-clause-ok
-returns-in_err-put_notes-clause-ok g c = let p = err_from_is_err_and c.from_residual.result c.from_residual.ensures.1 in rw p.1 tt
+pub returns-in_err-trace_step-clause-ok : goal.returns-in_err-trace_step-clause-ok
+returns-in_err-trace_step-clause-ok g c = let p = err_from_is_err_and c.from_residual.result c.from_residual.ensures.1 in rw p.1 tt
 
-pub returns-in_err-put_notes-clause-size : goal.returns-in_err-put_notes-clause-size
-returns-in_err-put_notes-clause-size g c = c.in_err-put_notes.ensures.size ∙ c.perform-performed.ensures.size ∙ c.loop-step.invariant.size ∙ sym c.requires
-
-pub returns-in_err-performed-clause-ok : goal.returns-in_err-performed-clause-ok
-returns-in_err-performed-clause-ok g c =
-    let p = err_from_is_err_and c.from_residual-in_err-performed.result c.from_residual-in_err-performed.ensures.1 in
-    rw p.1 tt
-
-pub returns-in_err-performed-clause-size : goal.returns-in_err-performed-clause-size
-returns-in_err-performed-clause-size g c = c.in_ok-put_notes.ensures.size ∙ c.in_err-performed.ensures.size ∙ c.loop-step.invariant.size ∙ sym c.requires
+pub returns-in_err-trace_step-clause-size : goal.returns-in_err-trace_step-clause-size
+returns-in_err-trace_step-clause-size g c = c.in_err-trace_step.ensures.size ∙ c.loop-step.invariant.size ∙ sym c.requires
 
 pub returns-in-Err-clause-ok : goal.returns-in-Err-clause-ok
 returns-in-Err-clause-ok g c = tt
 
 pub returns-in-Err-clause-size : goal.returns-in-Err-clause-size
-returns-in-Err-clause-size g c = c.in_ok-put_notes.ensures.size ∙ c.in_ok-performed.ensures.size ∙ c.loop-step.invariant.size ∙ sym c.requires
+returns-in-Err-clause-size g c = c.in_ok-trace_step.ensures.size ∙ c.loop-step.invariant.size ∙ sym c.requires
 
 pub loop-step-smaller : goal.loop-step-smaller
 loop-step-smaller g c = falls _ _ c.loop-step-test.true
@@ -96,95 +87,71 @@ returns-clause-err g c = tt
 pub returns-clause-size : goal.returns-clause-size
 returns-clause-size g c = c.loop-step.invariant.size ∙ sym c.requires
 
-pub returns-in_err-put_notes-clause-err : goal.returns-in_err-put_notes-clause-err
-returns-in_err-put_notes-clause-err g c =
+pub returns-in_err-trace_step-clause-err : goal.returns-in_err-trace_step-clause-err
+returns-in_err-trace_step-clause-err g c =
     let p = err_from_is_err_and c.from_residual.result c.from_residual.ensures.1 in
     let (traced, so_far, told, appended) = c.loop-step.invariant.written in
-    let (written, left, front) = c.in_err-put_notes.ensures.err in
-    let notes = c.perform-performed.new.desk.notes in
-    rw (p.1, p.2) (
-      coded c.args.coding traced ++ written,
-      notes_stop c.args.coding c.args.script.now.size.nodes c.args.script.now.steps.items c.loop-step.step-index traced (note_bytes notes.text) written c.in_err-put_notes.field-0.0 (shared_of c.args.desk.now.desk)
-          (shared_of c.loop-step.desk.desk) (shared_of c.put_notes.new.desk.desk) so_far notes.lines left,
-      Appends-trans _ _ _ _ _ appended front,
-    )
-
-pub returns-in_err-performed-clause-err : goal.returns-in_err-performed-clause-err
-returns-in_err-performed-clause-err g c =
-    let p = err_from_is_err_and c.from_residual-in_err-performed.result c.from_residual-in_err-performed.ensures.1 in
-    let (traced, so_far, told, appended) = c.loop-step.invariant.written in
+    let (written, left, more) = c.in_err-trace_step.ensures.err in
     let steps = c.args.script.now.steps.items in
     let i = c.loop-step.step-index in
-    let s = shared_of c.args.desk.now.desk in
     let mid = shared_of c.loop-step.desk.desk in
-    let desk = c.perform-performed.new.desk in
-    let notes = note_bytes desk.notes.text in
-    let e = c.in_err-performed.field-0.0 in
+    let t = shared_of c.trace_step.new.desk.desk in
+    let e = c.in_err-trace_step.field-0.0 in
     let at = step_is c.steps-step-items.result.now steps i c.step-item.result c.steps-step-items.ensures c.loop-step-test.true c.step-item.is in
-    let seen = stops_at (λ (d : TraceDesk). shared_of d.desk) shared_is_open (λ d event e. tells (telling_of d) event (telling_of e)) shared_does (λ d event e h. told_does (telling_of d) event (telling_of e) h) c.args.desk.now.size.nodes c.loop-step.desk c.step-item.result e desk c.in_err-performed.ensures.err in
-    let sized = subst (λ (z : Size). StopsAt shared_is_open shared_does z.nodes mid c.step-item.result e (shared_of desk.desk)) c.requires seen in
-    let stops = subst (λ (d : WholeDesk). StopsAt shared_is_open shared_does c.args.script.now.size.nodes mid c.step-item.result e (shared_of d)) (sym c.in_ok-put_notes.ensures.desk) sized in
+    let sized = subst (λ (z : Size). StepLeaves c.args.coding z.nodes mid c.step-item.result e written t) c.loop-step.invariant.size left in
     rw (p.1, p.2) (
-      coded c.args.coding (traced ++ notes),
-      trace_stops c.args.coding c.args.script.now.size.nodes steps i c.step-item.result (traced ++ notes) e s mid (shared_of c.put_notes.new.desk.desk) (traces_notes (take i steps) traced notes s mid so_far desk.notes.lines) at stops,
-      coded_behind c.args.coding _ _ _ traced notes appended c.in_ok-put_notes.ensures.ok,
+      coded c.args.coding traced ++ written,
+      trace_leaves c.args.coding c.args.script.now.size.nodes steps i c.step-item.result traced written e (shared_of c.args.desk.now.desk) mid t so_far at sized,
+      Appends-trans _ _ _ _ _ appended more,
     )
 
 pub returns-in-Err-clause-err : goal.returns-in-Err-clause-err
 returns-in-Err-clause-err g c =
     let (traced, so_far, told, appended) = c.loop-step.invariant.written in
+    let (notes, are, prints_so, noted) = c.in_ok-trace_step.ensures.ok in
     let items = c.steps-step-items.result.now in
     let steps = c.args.script.now.steps.items in
     let i = c.loop-step.step-index in
     let s = shared_of c.args.desk.now.desk in
     let mid = shared_of c.loop-step.desk.desk in
-    let desk = c.perform-performed.new.desk in
-    let notes = note_bytes desk.notes.text in
-    let text = string_bytes c.perform-performed.new.text in
+    let t = shared_of c.trace_step.new.desk.desk in
+    let text = string_bytes c.trace_step.new.text in
     let n = c.in-Err.ensures.err.0 in
     let front = rw c.as_bytes.ensures.value at c.in-Err.ensures.err.2 in
     let less = rw c.as_bytes.ensures.value at c.in-Err.ensures.err.1 in
-    let seen = prints (λ (d : TraceDesk). shared_of d.desk) shared_is_open (λ d event e. tells (telling_of d) event (telling_of e)) shared_does (λ d event e h. told_does (telling_of d) event (telling_of e) h) c.loop-step.words c.loop-step.desk c.step-item.result.command text desk c.in_ok-performed.ensures.ok in
-    let printed = subst (λ (step : Step). Prints shared_is_open shared_does c.loop-step.words mid step.command text (shared_of desk.desk)) c.step-item.is seen in
-    let shown = subst (λ (words : List ℕ). Prints shared_is_open shared_does words mid (get_or items i c.step-item.result).command text (shared_of desk.desk)) c.loop-step.invariant.noted printed in
-    let after = subst (λ (d : WholeDesk). Prints shared_is_open shared_does (words_behind no_words (take i steps)) mid (get_or items i c.step-item.result).command text (shared_of d)) (sym c.in_ok-put_notes.ensures.desk) shown in
-    let t = shared_of c.put_notes.new.desk.desk in
-    let all = traces_more items steps i c.step-item.result traced notes text s mid t c.steps-step-items.ensures c.loop-step-test.true so_far desk.notes.lines after in (
+    let as_read = subst (λ (step : Step). Prints telling_is_open tells c.loop-step.words (telling mid []) step.command text (telling t notes)) c.step-item.is prints_so in
+    let as_noted = subst (λ (words : List ℕ). Prints telling_is_open tells words (telling mid []) (get_or items i c.step-item.result).command text (telling t notes)) c.loop-step.invariant.noted as_read in
+    let shown = prints (λ (x : Telling). x.shared) shared_is_open tells shared_does told_does (words_behind no_words (take i steps)) (telling mid []) (get_or items i c.step-item.result).command text (telling t notes) as_noted in
+    let all = traces_more items steps i c.step-item.result traced notes text s mid t c.steps-step-items.ensures c.loop-step-test.true so_far are shown in (
       coded c.args.coding (traced ++ notes) ++ take n (coded c.args.coding text),
       trace_cut c.args.coding c.args.script.now.size.nodes steps (i + 1) (traced ++ notes) text (take n (coded c.args.coding text)) s t t all (n, less, refl),
-      Appends-trans _ _ _ _ _ (coded_behind c.args.coding _ _ _ traced notes appended c.in_ok-put_notes.ensures.ok) front,
+      Appends-trans _ _ _ _ _ (coded_behind c.args.coding _ _ _ traced notes appended noted) front,
     )
 
 pub loop-step-preserved : goal.loop-step-preserved
 loop-step-preserved g c =
     let (traced, so_far, told, appended) = c.loop-step.invariant.written in
+    let (notes, are, prints_so, noted) = c.in_ok-trace_step.ensures.ok in
     let items = c.steps-step-items.result.now in
     let steps = c.args.script.now.steps.items in
     let i = c.loop-step.step-index in
     let s = shared_of c.args.desk.now.desk in
     let mid = shared_of c.loop-step.desk.desk in
-    let desk = c.perform-performed.new.desk in
-    let notes = note_bytes desk.notes.text in
-    let text = string_bytes c.perform-performed.new.text in
+    let t = shared_of c.trace_step.new.desk.desk in
+    let text = string_bytes c.trace_step.new.text in
     let put = rw c.as_bytes.ensures.value at c.in-Ok.ensures.ok in
-    let seen = prints (λ (d : TraceDesk). shared_of d.desk) shared_is_open (λ d event e. tells (telling_of d) event (telling_of e)) shared_does (λ d event e h. told_does (telling_of d) event (telling_of e) h) c.loop-step.words c.loop-step.desk c.step-item.result.command text desk c.in_ok-performed.ensures.ok in
-    let printed = subst (λ (step : Step). Prints shared_is_open shared_does c.loop-step.words mid step.command text (shared_of desk.desk)) c.step-item.is seen in
-    let shown = subst (λ (words : List ℕ). Prints shared_is_open shared_does words mid (get_or items i c.step-item.result).command text (shared_of desk.desk)) c.loop-step.invariant.noted printed in
-    let after = subst (λ (d : WholeDesk). Prints shared_is_open shared_does (words_behind no_words (take i steps)) mid (get_or items i c.step-item.result).command text (shared_of d)) (sym c.in_ok-put_notes.ensures.desk) shown in
-    let all = traces_more items steps i c.step-item.result traced notes text s mid (shared_of c.put_notes.new.desk.desk) c.steps-step-items.ensures c.loop-step-test.true so_far desk.notes.lines after in
-    let telling_so = prints telling_of telling_is_open (λ (d : TraceDesk) event e. tells (telling_of d) event (telling_of e)) tells (λ d event e h. h) c.loop-step.words c.loop-step.desk c.step-item.result.command text desk c.in_ok-performed.ensures.ok in
-    let now = told_so c.loop-step.words c.step-item.result.command text mid (shared_of desk.desk) (note_bytes c.loop-step.desk.notes.text) notes c.loop-step.desk.notes.is_cut desk.notes.is_cut c.loop-step.invariant.empty c.loop-step.invariant.whole c.in_ok-put_notes.ensures.whole telling_so in
-    let as_read = subst (λ (step : Step). Prints telling_is_open tells c.loop-step.words (telling mid []) step.command text (telling (shared_of desk.desk) notes)) c.step-item.is now in
-    let as_noted = subst (λ (words : List ℕ). Prints telling_is_open tells words (telling mid []) (get_or items i c.step-item.result).command text (telling (shared_of desk.desk) notes)) c.loop-step.invariant.noted as_read in
-    let as_put = subst (λ (d : WholeDesk). Prints telling_is_open tells (words_behind no_words (take i steps)) (telling mid []) (get_or items i c.step-item.result).command text (telling (shared_of d) notes)) (sym c.in_ok-put_notes.ensures.desk) as_noted in
-    let more = tells_step no_words items steps i c.step-item.result traced notes text s mid (shared_of c.put_notes.new.desk.desk) c.steps-step-items.ensures c.loop-step-test.true told as_put in
+    let as_read = subst (λ (step : Step). Prints telling_is_open tells c.loop-step.words (telling mid []) step.command text (telling t notes)) c.step-item.is prints_so in
+    let as_noted = subst (λ (words : List ℕ). Prints telling_is_open tells words (telling mid []) (get_or items i c.step-item.result).command text (telling t notes)) c.loop-step.invariant.noted as_read in
+    let shown = prints (λ (x : Telling). x.shared) shared_is_open tells shared_does told_does (words_behind no_words (take i steps)) (telling mid []) (get_or items i c.step-item.result).command text (telling t notes) as_noted in
+    let all = traces_more items steps i c.step-item.result traced notes text s mid t c.steps-step-items.ensures c.loop-step-test.true so_far are shown in
+    let more = tells_step no_words items steps i c.step-item.result traced notes text s mid t c.steps-step-items.ensures c.loop-step-test.true told as_noted in
     record {
-      size = c.in_ok-put_notes.ensures.size ∙ c.in_ok-performed.ensures.size ∙ c.loop-step.invariant.size;
+      size = c.in_ok-trace_step.ensures.size ∙ c.loop-step.invariant.size;
       noted = c.note.ensures.words ∙ ap (λ (step : Step). words_after c.loop-step.words step.command) c.step-item.is
           ∙ ap (λ (words : List ℕ). words_after words (get_or items i c.step-item.result).command) c.loop-step.invariant.noted
           ∙ sym (words_step no_words items steps i c.step-item.result c.steps-step-items.ensures c.loop-step-test.true);
       range = c.note.ensures.range;
-      empty = c.in_ok-put_notes.ensures.dropped.0;
-      whole = c.in_ok-put_notes.ensures.dropped.1;
-      written = ((traced ++ notes) ++ text, all, more, coded_behind c.args.coding _ _ _ (traced ++ notes) text (coded_behind c.args.coding _ _ _ traced notes appended c.in_ok-put_notes.ensures.ok) put);
+      empty = c.in_ok-trace_step.ensures.dropped.0;
+      whole = c.in_ok-trace_step.ensures.dropped.1;
+      written = ((traced ++ notes) ++ text, all, more, coded_behind c.args.coding _ _ _ (traced ++ notes) text (coded_behind c.args.coding _ _ _ traced notes appended noted) put);
     }
