@@ -66,7 +66,6 @@ fn a_list_of_three_and_its_changes(rt: HostRuntime) -> Result<(), Fail> {
         tag(Kind::Fresh, Some(one), None),
         tag(Kind::Valid, None, Some(one)),
     );
-    let middle = tag(Kind::Valid, Some(zero), Some(two));
     let words = Words {
         mem: Mem {
             state: MemState::Fresh,
@@ -75,12 +74,12 @@ fn a_list_of_three_and_its_changes(rt: HostRuntime) -> Result<(), Fail> {
         },
         nodes: [
             (Pending::Idle, tail),
-            (Pending::Idle, middle),
+            (Pending::Idle, tag(Kind::Valid, Some(zero), Some(two))),
             (Pending::Idle, head),
         ],
     };
     let read = Pending::Holding {
-        word: middle,
+        word: tag(Kind::Valid, Some(zero), Some(two)),
         line: Line::ZERO,
     };
     check(
@@ -108,7 +107,7 @@ fn a_list_of_three_and_its_changes(rt: HostRuntime) -> Result<(), Fail> {
             Change::Tag(2, tag(Kind::Valid, Some(one), Some(zero))),
             Change::Tag(2, tag(Kind::Dirty, Some(one), None)),
             // nobody does what these say
-            Change::Tag(1, held(middle)),
+            Change::Tag(1, held(tag(Kind::Valid, Some(zero), Some(two)))),
             Change::Tag(1, tag(Kind::Roll, Some(zero), Some(two))),
             Change::Tag(1, tag(Kind::Purged, Some(zero), Some(two))),
             Change::Tag(2, tag(Kind::Queued, Some(one), None)),
@@ -124,16 +123,15 @@ fn a_list_of_three_and_its_changes(rt: HostRuntime) -> Result<(), Fail> {
 #[test]
 fn a_purge_and_its_changes(rt: HostRuntime) -> Result<(), Fail> {
     let [zero, one, two] = nodes().ok_or("no nodes")?;
-    let purged = tag(Kind::Purged, Some(zero), Some(two));
     let advancing = Pending::Advancing {
         line: Line::ZERO,
         victim: one,
-        word: purged,
+        word: tag(Kind::Purged, Some(zero), Some(two)),
     };
     let clearing = Pending::Clearing {
         line: Line::ZERO,
         victim: one,
-        word: purged,
+        word: tag(Kind::Purged, Some(zero), Some(two)),
     };
     let words = Words {
         mem: Mem {
@@ -143,7 +141,7 @@ fn a_purge_and_its_changes(rt: HostRuntime) -> Result<(), Fail> {
         },
         nodes: [
             (Pending::Idle, tag(Kind::Valid, None, Some(one))),
-            (Pending::Idle, purged),
+            (Pending::Idle, tag(Kind::Purged, Some(zero), Some(two))),
             (advancing, tag(Kind::Purging, Some(one), None)),
         ],
     };
@@ -153,7 +151,7 @@ fn a_purge_and_its_changes(rt: HostRuntime) -> Result<(), Fail> {
         &[
             Change::Mem(MemState::Fresh, false, Some(two)),
             Change::Tag(1, tag(Kind::Valid, Some(zero), Some(two))),
-            Change::Tag(0, purged),
+            Change::Tag(0, tag(Kind::Purged, Some(zero), Some(two))),
             Change::Tag(2, tag(Kind::Purging, Some(zero), None)),
             Change::Tag(2, tag(Kind::Dirty, Some(one), None)),
             Change::Step(2, clearing),
