@@ -130,9 +130,10 @@ def changed(was, now, path):
 
 
 def places_of(function, types):
-    """Returns the modules that a method may stand in: that of its type, wherever its impl is written."""
+    """Returns the modules that a method may stand in: that of its type, wherever its impl is written; a trait's method also where it is
+    written."""
     places = {tuple(modules) for name, modules in types if name == function.type} or {function.modules}
-    return {function.modules} & places or places
+    return {function.modules} & places or (places | {function.modules} if function.trait else places)
 
 
 def names_of(function, types, crate):
