@@ -107,7 +107,7 @@ CASES = [
     # the words are of the other layout
     (["check"], DUMP_1.replace("scidump 1", "scidump 2"), 1, "", refused("21 at line 2")),
     (["check"], DUMP.replace("scidump 2", "scidump 1"), 1, "", refused("21 at line 2")),
-    (["check"], DUMP[: DUMP.index("tag 0 0") + 20], 1, "", refused("21 at line 3")),
+    *((["check"], dump[: dump.index("tag 0 0") + 20], 1, "", refused("21 at line 3")) for dump in (DUMP, DUMP_1)),
     (["check"], DUMP[:-1], 1, "", refused("21 at line 6")),
     (["check"], DUMP + "\n", 1, "", refused("21 at line 7")),
     (["check"], DUMP.replace("\n", "\r\n"), 1, "", refused("21 at line 1")),

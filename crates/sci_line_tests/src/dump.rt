@@ -218,18 +218,23 @@ fn the_first_line_that_breaks_a_rule(rt: HostRuntime) {
     same(&rt, &judged, &Some((2, unlawful)));
 }
 
-/// A dump without its last bytes is refused at the line that is cut or missing.
-#[test]
-fn cut_at_each_byte(rt: HostRuntime) -> Result<(), Fail> {
+// Each proper front of a dump is refused at the line that is cut or missing.
+fn is_refused_cut(rt: &impl Abort, alloc: Global, text: &str) -> Result<(), Fail> {
     let mut line = 1;
-    let mut cut = Vec::new(rt.alloc());
-    for byte in SHARED.as_bytes() {
-        same_at(&rt, &line, &fault_of(rt.alloc(), &cut), &Some(line));
+    let mut cut = Vec::new(alloc);
+    for byte in text.as_bytes() {
+        same_at(rt, &line, &fault_of(alloc, &cut), &Some(line));
         cut.push(*byte)?;
         line = line_behind(line, *byte);
     }
-    assert!(rt; read_dump(rt.alloc(), &cut).is_ok());
+    assert!(rt; read_dump(alloc, &cut).is_ok());
     Ok(())
+}
+
+#[test]
+fn cut_at_each_byte(rt: HostRuntime) -> Result<(), Fail> {
+    is_refused_cut(&rt, rt.alloc(), SHARED)?;
+    is_refused_cut(&rt, rt.alloc(), SHARED_2)
 }
 
 /// Texts that are no dumps, and the line of the first fault.

@@ -35,6 +35,30 @@ fn reads_and_writes_tags(rt: HostRuntime) {
     is_tag(&rt, 0x20007, tag(Kind::Valid, false, node(0), node(2)));
     is_tag(&rt, 0x20017, tag(Kind::Valid, true, node(0), node(2)));
     is_tag(&rt, 0x1ff07, tag(Kind::Valid, false, None, node(1)));
+    is_tag(&rt, 0xfefe07, tag(Kind::Valid, false, node(254), node(254)));
+}
+
+/// Each kind, without links; of a body entry with back link 0.
+#[test]
+fn numbers_kinds(rt: HostRuntime) {
+    for (word, kind) in [
+        (0xffff00, Kind::Invalid),
+        (0xffff01, Kind::Queued),
+        (0xffff02, Kind::Fresh),
+        (0xffff03, Kind::Dirty),
+        (0xffff04, Kind::Convert),
+        (0xffff05, Kind::Purging),
+        (0xffff06, Kind::Leaving),
+    ] {
+        is_tag(&rt, word, tag(kind, false, None, None));
+    }
+    for (word, kind) in [
+        (0xff07, Kind::Valid),
+        (0xff08, Kind::Roll),
+        (0xff09, Kind::Purged),
+    ] {
+        is_tag(&rt, word, tag(kind, false, None, NodeId::new(0)));
+    }
 }
 
 #[test]
@@ -45,8 +69,16 @@ fn refuses_tags(rt: HostRuntime) {
         (0x800000000000ff00, WordRefusal::SpareBits, 2),
         (0xff0007, WordRefusal::LinkMissing, 3),
         (0xffff11, WordRefusal::HeldNotValid, 5),
+        // the lowest spare bit, and the one behind the links
+        (0xffff20, WordRefusal::SpareBits, 2),
+        (0x1ffff00, WordRefusal::SpareBits, 2),
+        // of two reasons the first
+        (0x2f, WordRefusal::UnknownKind, 1),
+        (0xff0027, WordRefusal::SpareBits, 2),
+        (0xff0018, WordRefusal::LinkMissing, 3),
+        (0x10, WordRefusal::LinkUnwanted, 4),
     ] {
-        same(&rt, &read_tag(word), &Err(refusal));
+        same_at(&rt, &word, &read_tag(word), &Err(refusal));
         same(&rt, &refusal.number(), &number);
     }
 }
@@ -76,6 +108,11 @@ fn refuses_memory_words(rt: HostRuntime) {
         (0xff01, WordRefusal::LinkMissing, 3),
         (0, WordRefusal::LinkUnwanted, 4),
         (3, WordRefusal::UnknownKind, 1),
+        // where a tag has its back link
+        (0x1ff00, WordRefusal::SpareBits, 2),
+        // of two reasons the first
+        (0x23, WordRefusal::UnknownKind, 1),
+        (0xff21, WordRefusal::SpareBits, 2),
     ] {
         same_at(&rt, &word, &read_mem(word), &Err(refusal));
         same(&rt, &refusal.number(), &number);

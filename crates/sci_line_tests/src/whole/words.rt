@@ -57,6 +57,35 @@ fn reads_and_writes_tags(rt: HostRuntime) {
         tag(Kind::Valid, false, None, node(1)),
         "TAIL_VALID",
     );
+    is_tag(
+        &rt,
+        0xfffefffe0007,
+        tag(Kind::Valid, false, node(65534), node(65534)),
+        "MID_VALID",
+    );
+}
+
+/// Each kind, without links; of a body entry with back link 0.
+#[test]
+fn numbers_kinds(rt: HostRuntime) {
+    for (word, kind, text) in [
+        (0xffffffff0000, Kind::Invalid, "INVALID"),
+        (0xffffffff0001, Kind::Queued, "QUEUED"),
+        (0xffffffff0002, Kind::Fresh, "ONLY_FRESH"),
+        (0xffffffff0003, Kind::Dirty, "ONLY_DIRTY"),
+        (0xffffffff0004, Kind::Convert, "CONVERT"),
+        (0xffffffff0005, Kind::Purging, "PURGING"),
+        (0xffffffff0006, Kind::Leaving, "LEAVING"),
+    ] {
+        is_tag(&rt, word, tag(kind, false, None, None), text);
+    }
+    for (word, kind, text) in [
+        (0xffff0007, Kind::Valid, "TAIL_VALID"),
+        (0xffff0008, Kind::Roll, "ROLL"),
+        (0xffff0009, Kind::Purged, "PURGED"),
+    ] {
+        is_tag(&rt, word, tag(kind, false, None, NodeId::new(0)), text);
+    }
 }
 
 #[test]
@@ -68,8 +97,13 @@ fn refuses_tags(rt: HostRuntime) {
         (0xffffffff0020, WordRefusal::SpareBits, 2),
         (0xffff00000007, WordRefusal::LinkMissing, 3),
         (0xffffffff0011, WordRefusal::HeldNotValid, 5),
+        // of two reasons the first
+        (0x2f, WordRefusal::UnknownKind, 1),
+        (0xffff00000027, WordRefusal::SpareBits, 2),
+        (0xffff00000018, WordRefusal::LinkMissing, 3),
+        (0x10, WordRefusal::LinkUnwanted, 4),
     ] {
-        same(&rt, &read_tag(word), &Err(refusal));
+        same_at(&rt, &word, &read_tag(word), &Err(refusal));
         same(&rt, &refusal.number(), &number);
     }
 }
@@ -97,6 +131,11 @@ fn refuses_memory_words(rt: HostRuntime) {
         (0xffff0001, WordRefusal::LinkMissing, 3),
         (0, WordRefusal::LinkUnwanted, 4),
         (3, WordRefusal::UnknownKind, 1),
+        // where a tag has its back link
+        (0x1ffff0000, WordRefusal::SpareBits, 2),
+        // of two reasons the first
+        (0x23, WordRefusal::UnknownKind, 1),
+        (0xffff0021, WordRefusal::SpareBits, 2),
     ] {
         same_at(&rt, &word, &read_mem(word), &Err(refusal));
         same(&rt, &refusal.number(), &number);
