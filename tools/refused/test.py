@@ -9,6 +9,7 @@ import re
 import subprocess
 import sys
 import tempfile
+import time
 import types
 
 TOOL = pathlib.Path(__file__).resolve().parent
@@ -134,12 +135,13 @@ WORDS = [
 
 
 def make(root, edits=EDITS):
-    """Makes a repository of one crate with these edits."""
+    """Makes a repository of one crate with these edits. Its text is new each time: what `rt ci` has proved of a text before, it keeps."""
     crate = root / "crates" / "lib_of_halves"
     (crate / "src").mkdir(parents=True)
     (crate / "refused").mkdir()
     (root / "crates.txt").write_text("lib_of_halves:\n", encoding="utf-8")
-    (crate / "src" / "lib.rt").write_text(CODE, encoding="utf-8")
+    code = CODE.replace("their sums.", f"their sums, made at {time.time_ns()}.", 1)
+    (crate / "src" / "lib.rt").write_text(code, encoding="utf-8")
     (crate / "proofs" / "third").mkdir(parents=True)
     (crate / "proofs" / "third" / "Answers.antt").write_text(ANSWERS, encoding="utf-8")
     for name, text, _ in edits:
