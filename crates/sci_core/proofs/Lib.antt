@@ -17,6 +17,10 @@ pub mod Ruled
 pub mod Answered
 pub mod Lawfully
 pub mod Costs
+pub mod Progress
+pub mod GoingOn
+pub mod Exchanging
+pub mod Moved
 pub mod Walking
 pub mod Fitting
 pub mod Handing

@@ -14,6 +14,7 @@ pub mod Outcomes
 pub mod Answers
 pub mod Run
 pub mod Costs
+pub mod Progress
 pub mod Carrying
 pub mod Chain
 pub mod Fronts

@@ -8,6 +8,7 @@ mod keeps;
 mod laws;
 mod line_readers;
 mod lines;
+mod movers;
 mod outcomes;
 mod outlines;
 mod pending;

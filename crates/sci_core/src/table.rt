@@ -8,7 +8,7 @@ ghost use Rattle.sci_core.specs.Table.{has_row, row_of};
 ghost use Rattle.sci_core.specs.Step.{look_of, is_look, CanCount};
 
 mod converting;
-mod found;
+pub mod found;
 mod idle;
 mod in_queue;
 mod leaving;

@@ -8,6 +8,7 @@ mod closing;
 mod growths;
 mod layout1_words;
 mod memory;
+mod movers;
 mod texts;
 mod words;
 

@@ -75,7 +75,7 @@ fn read(whole: &Whole<AnyWords>, number: u16) -> Option<Tag> {
     let allowed = whole
         .pending(node)
         .allows(node, whole.nodes(), &Event::Settle);
-    let _ = (lines, allowed, whole.number(), whole.keep());
+    let _ = (lines, allowed, whole.number(), whole.keep(), whole.mover());
     Some(whole.tag(node))
 }
 
