@@ -69,9 +69,15 @@ fn neighbours_roll() -> [Step; 7] {
         (node(2), Event::Queue(Some(node(0)))),
         (node(2), Event::PrependValid),
         (node(2), Event::ReturnMemory),
-        (node(2), Event::AttachFresh(tag(Kind::Fresh, Some(node(1)), None))),
+        (
+            node(2),
+            Event::AttachFresh(tag(Kind::Fresh, Some(node(1)), None)),
+        ),
         (node(2), Event::Settle),
-        (node(0), Event::Roll(tag(Kind::Valid, Some(node(1)), Some(node(2))))),
+        (
+            node(0),
+            Event::Roll(tag(Kind::Valid, Some(node(1)), Some(node(2)))),
+        ),
         (node(1), Event::Roll(tag(Kind::Valid, None, Some(node(0))))),
     ]
 }
@@ -96,7 +102,10 @@ fn zero_purges_what_rolls() -> [Step; 12] {
         (node(0), Event::AttachDirty(tag(Kind::Dirty, None, None))),
         (node(0), Event::ReturnCopy),
         (node(0), Event::Settle),
-        (node(0), Event::BeginPurge(tag(Kind::Dirty, Some(node(1)), None))),
+        (
+            node(0),
+            Event::BeginPurge(tag(Kind::Dirty, Some(node(1)), None)),
+        ),
         (node(1), Event::Roll(tag(Kind::Valid, None, Some(node(0))))),
         (node(0), Event::Look),
     ]
