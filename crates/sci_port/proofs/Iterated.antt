@@ -1,18 +1,16 @@
 -- Where every write makes the same of the words before it, the words at the end are that, as often as there are writes.
-use Rattle.std.proofs.Common.{◌≡◌, ℕ, zero, suc, ◌+◌, ◌≤◌, true, false, List, sym, ap, ◌∙◌, subst, arith}
+use Rattle.std.proofs.Common.{◌≡◌, ℕ, zero, suc, ◌+◌, ◌≤◌, true, false, List, refl, sym, ap, ◌∙◌, subst, arith}
 use Rattle.sci_core.specs.declared.lines.Line.{Line}
 use Rattle.sci_core.specs.declared.receipts.Receipt.{Receipt}
 use Rattle.sci_core.specs.declared.receipts.Receipt.TheVariants.{Read, Passed, Wrote}
 use Rattle.sci_core.specs.Legal.{stamp_of, is_write, IsShown, IsLegal}
+use Rattle.sci_port.proofs.Elements.{clash}
 use Rattle.sci_port.specs.Receipts.{sum_below, writes_of, IsWhole, WritesBy, AllWriteBy, times}
-
-false_true : false ≡ true → ⊥
-false_true h = cc
 
 -- one write
 wrote : (f : List ℕ → List ℕ) (h : ℕ → List ℕ) (first last k : ℕ) (r : Receipt) → is_write r ≡ true → stamp_of r ≡ k + 1 → WritesBy f r → IsShown h first last r → h (k + 1) ≡ f (h k)
-wrote f h first last k (Read words stamp) w at by shown = absurd (false_true w)
-wrote f h first last k (Passed words stamp) w at by shown = absurd (false_true w)
+wrote f h first last k (Read words stamp) w at by shown = absurd (clash false w refl)
+wrote f h first last k (Passed words stamp) w at by shown = absurd (clash false w refl)
 wrote f h first last k (Wrote before words stamp) w at by shown =
     let below : shown.0 ≡ k = (let a = shown.1 in omega arith) in
     subst (λ (z : ℕ). h (z + 1) ≡ f (h z)) below (shown.5 ∙ (by ∙ ap f (sym shown.4)))

@@ -1,6 +1,7 @@
 -- The last receipt of a list.
 use Rattle.std.proofs.Common.{◌≡◌, ℕ, suc, ◌<◌, ◌-◌, Bool, true, false, Bor, Option, Some, None, option_copied, List, [], ◌∷◌, ◌++◌, length, slice_set, slice_get, refl, sym, ap, ◌∙◌, arith}
 use Rattle.sci_core.specs.declared.receipts.Receipt.{Receipt}
+use Rattle.sci_port.proofs.Elements.{clash}
 use Rattle.sci_port.specs.ReceiptList.{Replaces, ReceiptList, is_passed, last_passed}
 
 -- a receipt that may be there was passed
@@ -22,11 +23,8 @@ pub record IsLast (l : List Receipt) : Type 0 where
   pub set : (r : Receipt) → slice_set l (length l - 1) r ≡ before ++ r ∷ []
   pub some : 0 < length l
 
-no : false ≡ true → ⊥
-no h = cc
-
 pub last_is : (l : List Receipt) → last_passed l ≡ true → IsLast l
-last_is [] h = absurd (no h)
+last_is [] h = absurd (clash false h refl)
 last_is (r ∷ []) h = record { before = []; last = r; was = refl; passed = h; set = λ s. refl; some = omega arith }
 last_is (r ∷ s ∷ rs) h =
     let k = last_is (s ∷ rs) h in

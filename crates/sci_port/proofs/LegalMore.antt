@@ -20,8 +20,8 @@ module _ (lists : ℕ → List Receipt) (x : ℕ) (r : Receipt) where
   more_here = update_here lists x (lists x ++ r ∷ [])
 
   -- what was there is there
-  still : (j p : ℕ) (s : Receipt) → get_elem? (lists j) p ≡ some s → get_elem? (more j) p ≡ some s
-  still j p s e = dite (ℕ_discrete j x)
+  still_there : (j p : ℕ) (s : Receipt) → get_elem? (lists j) p ≡ some s → get_elem? (more j) p ≡ some s
+  still_there j p s e = dite (ℕ_discrete j x)
       (λ is. ap (λ (l : List Receipt). get_elem? l p) (ap more is ∙ more_here) ∙ at_longer (lists x) r p s (ap (λ (z : ℕ). get_elem? (lists z) p) (sym is) ∙ e))
       (λ ne. ap (λ (l : List Receipt). get_elem? l p) (update_else lists x (lists x ++ r ∷ []) j ne) ∙ e)
 
@@ -32,8 +32,8 @@ module _ (lists : ℕ → List Receipt) (x : ℕ) (r : Receipt) where
   IsNew j p s = (j ≡ x) × (p ≡ length (lists x)) × (r ≡ s)
 
   -- what is there was there, or is new
-  was : (j p : ℕ) (s : Receipt) → get_elem? (more j) p ≡ some s → (get_elem? (lists j) p ≡ some s) ⊎ IsNew j p s
-  was j p s e = dite (ℕ_discrete j x)
+  was_or_new : (j p : ℕ) (s : Receipt) → get_elem? (more j) p ≡ some s → (get_elem? (lists j) p ≡ some s) ⊎ IsNew j p s
+  was_or_new j p s e = dite (ℕ_discrete j x)
       (λ is. ⊎_elim
       (λ h. inl (ap (λ (z : ℕ). get_elem? (lists z) p) is ∙ h))
       (λ h. inr (is, h.0, h.1))
@@ -62,30 +62,30 @@ module _ (o v w : Line) (lists : ℕ → List Receipt) (x : ℕ) (r : Receipt) (
     rises = let a = g.rises in omega arith;
     first = same o.stamp g.rises ∙ g.first;
     last = last;
-    shown = λ j p s e. ⊎_elim (λ k. shown_still s (g.shown j p s k)) (λ (k : IsNew lists x r j p s). subst (IsShown h o.stamp w.stamp) k.2 new) (was lists x r j p s e);
+    shown = λ j p s e. ⊎_elim (λ k. shown_still s (g.shown j p s k)) (λ (k : IsNew lists x r j p s). subst (IsShown h o.stamp w.stamp) k.2 new) (was_or_new lists x r j p s e);
     ordered = λ j p q s u lt e f. ⊎_elim
         (λ k. ⊎_elim
         (λ m. g.ordered j p q s u lt k m)
         (λ (m : IsNew lists x r j q u). subst (λ (z : Receipt). (stamp_of s ≤ stamp_of z) × (is_write z ≡ true → stamp_of s < stamp_of z)) m.2 (let a = below j p s k in (omega arith, λ wr. let b = over wr in omega arith)))
-        (was lists x r j q u f))
+        (was_or_new lists x r j q u f))
         (λ (k : IsNew lists x r j p s). ⊎_elim
         (λ m. let a : q < length (lists j) = inside (lists j) u q m in let b : length (lists j) ≡ length (lists x) = ap (λ (z : ℕ). length (lists z)) k.0 in let c = k.1 in absurd (omega arith))
         (λ (m : IsNew lists x r j q u). let b = k.1 in let c = m.1 in absurd (omega arith))
-        (was lists x r j q u f))
-        (was lists x r j p s e);
+        (was_or_new lists x r j q u f))
+        (was_or_new lists x r j p s e);
     written = λ k a b. dite (dec_le v.stamp k)
         (λ far. let n = next k far b in (x, length (lists x), r, new_there lists x r, n.0, n.1))
-        (λ near. let old = g.written k a (omega arith) in (old.0, old.1, old.2, still lists x r old.0 old.1 old.2 old.3, old.4, old.5));
+        (λ near. let old = g.written k a (omega arith) in (old.0, old.1, old.2, still_there lists x r old.0 old.1 old.2 old.3, old.4, old.5));
     once = λ i j p q s u e f ws wu same_stamp. ⊎_elim
         (λ k. ⊎_elim
         (λ m. g.once i j p q s u k m ws wu same_stamp)
         (λ (m : IsNew lists x r j q u). let a = below i p s k in let b = over (ap is_write m.2 ∙ wu) in let c : stamp_of r ≡ stamp_of u = ap stamp_of m.2 in absurd (omega arith))
-        (was lists x r j q u f))
+        (was_or_new lists x r j q u f))
         (λ (k : IsNew lists x r i p s). ⊎_elim
         (λ m. let a = below j q u m in let b = over (ap is_write k.2 ∙ ws) in let c : stamp_of r ≡ stamp_of s = ap stamp_of k.2 in absurd (omega arith))
         (λ (m : IsNew lists x r j q u). (k.0 ∙ sym m.0, k.1 ∙ sym m.1))
-        (was lists x r j q u f))
-        (was lists x r i p s e);
+        (was_or_new lists x r j q u f))
+        (was_or_new lists x r i p s e);
   }
 
 -- no receipt is one history, that of a line that nobody wrote

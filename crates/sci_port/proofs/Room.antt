@@ -2,7 +2,9 @@
 use Rattle.std.proofs.Common.{◌≡◌, ◌<◌, Bool, true, false, ◌&&◌, Some, None, sym, ◌∙◌}
 use Rattle.sci_core.specs.declared.lines.Line.{Line}
 use Rattle.sci_core.specs.declared.events.Event.{Event}
-use Rattle.sci_port.specs.ReceiptList.{ReceiptList, HasRoom, CountsOver, last_passed}
+use Rattle.sci_port.proofs.Elements.{clash}
+use Rattle.sci_port.proofs.Tested.{and_true}
+use Rattle.sci_port.specs.ReceiptList.{ReceiptList, HasRoom, CountsOver, last_passed, replaces}
 
 -- room for one is room for any event's
 pub has_room : (e : Event) (s : ReceiptList) → 0 < s.room → HasRoom e s
@@ -18,10 +20,6 @@ counts_over (Event.Written (Some words)) l h = h
 counts_over (Event.Written None) l h = tt
 counts_over _ l h = tt
 
-both : (a b : Bool) → a ≡ true → b ≡ true → (a && b) ≡ true
-both true b h k = k
-both false b h k = absurd (cc)
-
 -- a settle that is to be passed has the place of a last one that was
 pub has_place : (s : ReceiptList) → s.passing ≡ true → last_passed s.list ≡ true → HasRoom Event.Settle s
-has_place s passing last k = absurd (let z : true ≡ false = sym (both s.passing (last_passed s.list) passing last) ∙ k in cc)
+has_place s passing last k = absurd (clash (replaces s) (and_true s.passing (last_passed s.list) passing last) k)
