@@ -32,3 +32,4 @@ pub mod Headline
 pub mod Exact
 pub mod Hands
 pub mod Closed
+pub mod Legal

@@ -3,6 +3,7 @@ ghost use Rattle.std.specs.Prelude.{◌≡◌, ◌<◌, IfSome};
 ghost use Rattle.sci_port.specs.Missing.{MissesOther};
 
 mod memory;
+mod receipts;
 
 use crate::checks::same;
 use sci_core::{Event, Line, Outcome, Pending, Whole};
