@@ -10,5 +10,4 @@ pub mod Histories
 pub mod Unslipped
 pub mod Told
 pub mod Staying
-pub mod TwoLines
 pub mod Appending

@@ -5,6 +5,5 @@ pub mod Rule
 pub mod Laws
 pub mod Regions
 pub mod Seats
-pub mod Ports
 pub mod Ends
 pub mod Banks

@@ -14,5 +14,4 @@ pub mod Ordered
 pub mod Ending
 pub mod Staying
 pub mod Telling
-pub mod TwoLines
 pub mod Appending

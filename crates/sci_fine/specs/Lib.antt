@@ -4,7 +4,6 @@ pub mod Standings
 pub mod Steps
 pub mod Calls
 pub mod Seats
-pub mod Ports
 pub mod Ends
 pub mod Laws
 pub mod Banks

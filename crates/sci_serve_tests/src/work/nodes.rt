@@ -79,7 +79,7 @@ fn works<B: Bank<Keep = AnyWords>, R: Abort + Wait>(
 }
 
 #[test]
-#[tactic(auto, using(sci_fine::proofs::TwoLines::one_line))]
+#[tactic(auto, using(sci_port::proofs::TwoLines::one_line))]
 fn a_node_works_over_separate_words(rt: HostRuntime) -> Result<(), Fail> {
     let (line, seat) = line_of(rt.alloc(), 0, AnyWords).ok_or("no line")?;
     let lines = [line];

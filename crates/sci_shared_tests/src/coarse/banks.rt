@@ -155,7 +155,7 @@ fn seats_in_another_order_make_no_bank(rt: HostRuntime) -> Result<(), Fail> {
 }
 
 #[test]
-#[tactic(auto, using(sci_coarse::proofs::TwoLines::one_line))]
+#[tactic(auto, using(sci_port::proofs::TwoLines::one_line))]
 fn no_seats_make_no_bank(rt: HostRuntime) -> Result<(), Fail> {
     let (line, _) = line_of(rt.alloc(), 0, AnyWords).ok_or("no line")?;
     let lines = [line];

@@ -5,7 +5,7 @@ use Rattle.sci_coarse.specs.declared.line.CoarseLine.{CoarseLine}
 use Rattle.sci_coarse.specs.declared.seats.Seat.{Seat}
 use Rattle.sci_coarse.specs.Seats.{IsSeatOf}
 use Rattle.sci_coarse.specs.Banks.{AreSeatsOf}
-use Rattle.sci_coarse.proofs.TwoLines.{two_lines}
+use Rattle.sci_port.proofs.TwoLines.{two_lines}
 use Rattle.sci_shared_tests.proofs.coarse.banks.two_lines.Goals as goal
 
 two_seats : {K : Type 0} {g : keeps.Ghosts K} (a b : CoarseLine K) (s t : Seat K g) → IsSeatOf a s → IsSeatOf b t → AreSeatsOf (a ∷ b ∷ []) (s ∷ t ∷ [])

@@ -1,6 +1,6 @@
 use Rattle.std.proofs.Common.{rules, sym, subst}
 use Rattle.sci_fine.specs.Banks.{AreLines}
-use Rattle.sci_fine.proofs.TwoLines.{one_line}
+use Rattle.sci_port.proofs.TwoLines.{one_line}
 use Rattle.sci_shared_tests.proofs.fine.banks.no_seats_make_no_bank.Goals as goal
 
 pub new-requires-clause-lines : goal.new-requires-clause-lines

@@ -5,7 +5,7 @@ use Rattle.sci_fine.specs.declared.line.FineLine.{FineLine}
 use Rattle.sci_fine.specs.declared.seats.Seat.{Seat}
 use Rattle.sci_fine.specs.Seats.{IsSeatOf}
 use Rattle.sci_fine.specs.Banks.{AreSeatsOf}
-use Rattle.sci_fine.proofs.TwoLines.{two_lines}
+use Rattle.sci_port.proofs.TwoLines.{two_lines}
 use Rattle.sci_shared_tests.proofs.fine.banks.two_lines.Goals as goal
 
 two_seats : {K : Type 0} {g : keeps.Ghosts K} (a b : FineLine K) (s t : Seat K g) → IsSeatOf a s → IsSeatOf b t → AreSeatsOf (a ∷ b ∷ []) (s ∷ t ∷ [])
