@@ -1,19 +1,37 @@
-"""What is left to do on a line, as crates/sci_core/specs/Costs.antt has it."""
+"""What is left to do on a line, as crates/sci_core/specs/Costs.antt has it: `differing` compares the two."""
+import pathlib
+import re
+
 from states import part
+
+COSTS = pathlib.Path(__file__).resolve().parents[2] / 'crates/sci_core/specs/Costs.antt'
+LINE = re.compile(r'(?m)^(of_kind|of_step|cost) \(?(?:(?:Kind|Pending|Event)\.)?(\w+)(.*) = (\d+)$')
 
 OF_KIND = {'Fresh': 3, 'Dirty': 3, 'Valid': 3}
 OF_STEP = {'Idle': 0, 'Holding': 1, 'Queueing': 8, 'Fetching': 7, 'InQueue': 6, 'Copying': 5, 'Ready': 4, 'Purging': 4,
            'Advancing': 6, 'Clearing': 5, 'Leaving': 8, 'Promoted': 7, 'WritingBack': 2, 'Parted': 1, 'Unlinked': 1}
+# before its flag is set, and behind it
+OF_FLAG = {'Converting': (6, 5), 'Rolling': (3, 2)}
 COST = {'Queue': 9, 'Hold': 2, 'Convert': 4, 'BeginPurge': 2, 'Roll': 1, 'Leave': 6, 'Requeue': 1, 'Adopt': 1, 'Look': 1}
 STALES = ('Queueing', 'Leaving', 'Promoted', 'Converting', 'Purging', 'Advancing', 'Clearing')
 
 
+def differing():
+    """The numbers that the definitions have and these tables don't, or the other way round."""
+    said = {}
+    for name, case, rest, number in LINE.findall(COSTS.read_text(encoding='utf-8')):
+        flag = re.search(r'\b(true|false)\b', rest)
+        said[name, case, flag and flag[1]] = int(number)
+    here = {(name, case, None): number for name, table in (('of_kind', OF_KIND), ('of_step', OF_STEP), ('cost', COST)) for case, number in table.items()}
+    here |= {('of_step', case, flag): numbers[flag == 'true'] for case, numbers in OF_FLAG.items() for flag in ('false', 'true')}
+    here |= {('of_kind', '_', None): 0, ('cost', '_', None): 0}
+    return sorted(map(str, said.items() ^ here.items()))
+
+
 def of_step(step):
     """What a pending step leaves."""
-    if step.phase == 'Converting':
-        return 5 if part(step, 'flag') else 6
-    if step.phase == 'Rolling':
-        return 2 if part(step, 'flag') else 3
+    if step.phase in OF_FLAG:
+        return OF_FLAG[step.phase][bool(part(step, 'flag'))]
     return OF_STEP[step.phase]
 
 
