@@ -16,6 +16,7 @@ mod rows;
 mod stages;
 mod stepping;
 mod table;
+mod waiting;
 mod whole;
 
 pub use closing::Closed;

@@ -1,126 +1,177 @@
-//! Who goes on, in states worked out by hand.
-use super::{ALONE, LINE, node, run};
+//! Who goes on, and whom the others wait for, in states worked out by hand.
+use super::{ALONE, LINE, node, step};
 use crate::checks::same_at;
-use sci_core::{AnyWords, Event, Whole};
+use sci_core::{AnyWords, Event, Outcome, Whole};
 use sci_words::{Kind, NodeId, Tag};
 use std::alloc::Global;
 use std::process::Abort;
 use std::test::Fail;
 
-/// An event of a node.
-type Step = (NodeId, Event);
+/// A node's event, and after it the mover, and whom each of three nodes waits for.
+type Row = (u16, Event, Option<u16>, [Option<u16>; 3]);
 
-fn tag(kind: Kind, forw: Option<NodeId>, back: Option<NodeId>) -> Tag {
+fn tag(kind: Kind, forw: Option<u16>, back: Option<u16>) -> Tag {
     Tag {
         kind,
         held: false,
-        forw,
-        back,
+        forw: forw.and_then(NodeId::new),
+        back: back.and_then(NodeId::new),
     }
 }
 
-/// Events of three nodes in parts, one after another, and the mover's number after them.
-type Row<'a> = (&'a [&'a [Step]], Option<u16>);
+/// Three readers in a queue; then two of them roll out, and the head leaves.
+fn readers() -> [Row; 22] {
+    [
+        (1, Event::Queue(None), Some(1), [None, None, None]),
+        (1, Event::PrependValid, Some(1), [None, None, None]),
+        (
+            0,
+            Event::Queue(Some(node(1))),
+            Some(1),
+            [Some(1), None, None],
+        ),
+        (1, Event::ReturnMemory, Some(0), [None, None, None]),
+        (0, Event::PrependValid, Some(0), [None, None, None]),
+        (
+            2,
+            Event::Queue(Some(node(0))),
+            Some(0),
+            [None, None, Some(0)],
+        ),
+        (0, Event::ReturnMemory, Some(1), [Some(1), None, None]),
+        (2, Event::PrependValid, Some(1), [Some(1), None, None]),
+        (2, Event::ReturnMemory, Some(1), [Some(1), None, Some(0)]),
+        (1, Event::Settle, Some(0), [None, None, Some(0)]),
+        (0, Event::AttachFresh(ALONE), Some(0), [None, None, Some(0)]),
+        (0, Event::Settle, Some(2), [None, None, None]),
+        (
+            2,
+            Event::AttachFresh(tag(Kind::Fresh, Some(1), None)),
+            Some(2),
+            [None, None, None],
+        ),
+        (2, Event::Settle, None, [None, None, None]),
+        (
+            0,
+            Event::Roll(tag(Kind::Valid, Some(1), Some(2))),
+            Some(0),
+            [None, None, None],
+        ),
+        (
+            1,
+            Event::Roll(tag(Kind::Valid, None, Some(0))),
+            Some(1),
+            [Some(1), None, None],
+        ),
+        (1, Event::Look, Some(1), [Some(1), None, None]),
+        (
+            1,
+            Event::TellPredecessor(tag(Kind::Roll, Some(1), Some(2))),
+            Some(0),
+            [None, None, None],
+        ),
+        (
+            2,
+            Event::Hold(tag(Kind::Fresh, Some(0), None)),
+            Some(1),
+            [Some(2), None, None],
+        ),
+        (1, Event::Rolled, Some(2), [Some(2), None, None]),
+        (2, Event::Unhold, Some(0), [None, None, None]),
+        (
+            2,
+            Event::Leave(tag(Kind::Fresh, Some(0), None)),
+            Some(0),
+            [None, None, Some(0)],
+        ),
+    ]
+}
 
-fn moves(rt: &impl Abort, alloc: Global, row: &Row) -> Result<(), Fail> {
-    let (parts, want) = *row;
+/// A writer, and another one behind it, which purges it while it rolls out.
+fn writers() -> [Row; 16] {
+    [
+        (1, Event::Queue(None), Some(1), [None, None, None]),
+        (1, Event::HomeWrite, Some(1), [None, None, None]),
+        (1, Event::ReturnMemory, Some(1), [None, None, None]),
+        (1, Event::Settle, None, [None, None, None]),
+        (0, Event::Queue(Some(node(1))), Some(0), [None, None, None]),
+        (0, Event::PrependGone, Some(0), [None, None, None]),
+        (
+            1,
+            Event::Hold(tag(Kind::Dirty, None, None)),
+            Some(1),
+            [Some(1), None, None],
+        ),
+        (1, Event::Unhold, Some(0), [None, None, None]),
+        (
+            0,
+            Event::AttachDirty(tag(Kind::Dirty, None, None)),
+            Some(0),
+            [None, None, None],
+        ),
+        (0, Event::ReturnCopy, Some(0), [None, None, None]),
+        (0, Event::Settle, None, [None, None, None]),
+        (
+            0,
+            Event::BeginPurge(tag(Kind::Dirty, Some(1), None)),
+            Some(0),
+            [None, None, None],
+        ),
+        (
+            1,
+            Event::Roll(tag(Kind::Valid, None, Some(0))),
+            Some(1),
+            [Some(1), None, None],
+        ),
+        (0, Event::Look, Some(1), [Some(1), None, None]),
+        (1, Event::Look, Some(1), [Some(1), None, None]),
+        (
+            1,
+            Event::TellPredecessor(tag(Kind::Purging, Some(1), None)),
+            Some(0),
+            [None, None, None],
+        ),
+    ]
+}
+
+/// The number of a node.
+fn number_of(node: Option<NodeId>) -> Option<u16> {
+    match node {
+        Some(node) => Some(node.get()),
+        None => None,
+    }
+}
+
+/// Whom the node of this number waits for.
+fn waits(whole: &Whole<AnyWords>, number: u16) -> Option<u16> {
+    let node = NodeId::new(number)?;
+    if node.get() < whole.nodes() {
+        number_of(whole.waits_for(node))
+    } else {
+        None
+    }
+}
+
+/// The node's event is done, and leads to a state with this mover and these waits.
+fn leads_to(rt: &impl Abort, whole: &mut Whole<AnyWords>, row: &Row) {
+    let (number, event, mover, waiting) = *row;
+    let done = matches!(step(whole, number, event), Some(Ok(Outcome::Done(_))));
+    same_at(rt, row, &done, &true);
+    same_at(rt, row, &number_of(whole.mover()), &mover);
+    let found = [waits(whole, 0), waits(whole, 1), waits(whole, 2)];
+    same_at(rt, row, &found, &waiting);
+}
+
+fn all_lead_to(rt: &impl Abort, alloc: Global, rows: &[Row]) -> Result<(), Fail> {
     let mut whole = Whole::open(alloc, 3, 7, LINE, AnyWords)?;
-    for part in parts {
-        same_at(rt, row, &run(&mut whole, part), &Some(Ok(part.len())));
+    for row in rows {
+        leads_to(rt, &mut whole, row);
     }
-    let mover = whole.mover().map(|node| node.get());
-    same_at(rt, row, &mover, &want);
     Ok(())
-}
-
-/// Node 1 reads a line that nobody has used, and is the only one in its list.
-fn one_reads() -> [Step; 4] {
-    [
-        (node(1), Event::Queue(None)),
-        (node(1), Event::PrependValid),
-        (node(1), Event::ReturnMemory),
-        (node(1), Event::Settle),
-    ]
-}
-
-/// Node 0 reads behind it, and is the new head.
-fn zero_reads_too() -> [Step; 5] {
-    [
-        (node(0), Event::Queue(Some(node(1)))),
-        (node(0), Event::PrependValid),
-        (node(0), Event::ReturnMemory),
-        (node(0), Event::AttachFresh(ALONE)),
-        (node(0), Event::Settle),
-    ]
-}
-
-/// Node 1 fetches, and node 0 has found it as the head: it waits for memory's slot.
-fn zero_waits_for_memory() -> [Step; 3] {
-    [
-        (node(1), Event::Queue(None)),
-        (node(1), Event::PrependValid),
-        (node(0), Event::Queue(Some(node(1)))),
-    ]
-}
-
-/// Node 0 rolls out in front of node 1, which does so too and has nobody behind it: node 2 is the head.
-fn neighbours_roll() -> [Step; 7] {
-    [
-        (node(2), Event::Queue(Some(node(0)))),
-        (node(2), Event::PrependValid),
-        (node(2), Event::ReturnMemory),
-        (node(2), Event::AttachFresh(tag(Kind::Fresh, Some(node(1)), None))),
-        (node(2), Event::Settle),
-        (node(0), Event::Roll(tag(Kind::Valid, Some(node(1)), Some(node(2))))),
-        (node(1), Event::Roll(tag(Kind::Valid, None, Some(node(0))))),
-    ]
-}
-
-/// Node 0 is to leave its list to node 1, which is held.
-fn zero_leaves_what_one_holds() -> [Step; 2] {
-    [
-        (node(1), Event::Hold(tag(Kind::Valid, None, Some(node(0))))),
-        (node(0), Event::Leave(tag(Kind::Fresh, Some(node(1)), None))),
-    ]
-}
-
-/// Node 1 writes, and node 0 behind it; it is to purge node 1, which rolls out.
-fn zero_purges_what_rolls() -> [Step; 12] {
-    [
-        (node(1), Event::Queue(None)),
-        (node(1), Event::HomeWrite),
-        (node(1), Event::ReturnMemory),
-        (node(1), Event::Settle),
-        (node(0), Event::Queue(Some(node(1)))),
-        (node(0), Event::PrependGone),
-        (node(0), Event::AttachDirty(tag(Kind::Dirty, None, None))),
-        (node(0), Event::ReturnCopy),
-        (node(0), Event::Settle),
-        (node(0), Event::BeginPurge(tag(Kind::Dirty, Some(node(1)), None))),
-        (node(1), Event::Roll(tag(Kind::Valid, None, Some(node(0))))),
-        (node(0), Event::Look),
-    ]
 }
 
 #[test]
 fn somebody_moves(rt: HostRuntime) -> Result<(), Fail> {
-    let (one, zero, memory) = (one_reads(), zero_reads_too(), zero_waits_for_memory());
-    let (roll, leave) = (neighbours_roll(), zero_leaves_what_one_holds());
-    let purge = zero_purges_what_rolls();
-    let rows: [Row; 10] = [
-        (&[], None),
-        (&[&memory[..1]], Some(1)),
-        (&[&memory], Some(1)),
-        (&[&one], None),
-        (&[&one, &zero[..3]], Some(0)),
-        (&[&one, &zero], None),
-        (&[&one, &zero, &roll], Some(1)),
-        (&[&one, &zero, &leave], Some(1)),
-        (&[&purge[..10]], Some(0)),
-        (&[&purge], Some(1)),
-    ];
-    for row in &rows {
-        moves(&rt, rt.alloc(), row)?;
-    }
-    Ok(())
+    all_lead_to(&rt, rt.alloc(), &readers())?;
+    all_lead_to(&rt, rt.alloc(), &writers())
 }
