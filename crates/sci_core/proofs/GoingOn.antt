@@ -1,7 +1,7 @@
 -- Where a step isn't Idle, somebody goes on.
-use Rattle.std.proofs.Common.{◌≡◌, ◌≢◌, ◌⊎◌, ℕ, ◌<◌, ◌≤◌, Bool, true, false, ◌&&◌, ◌||◌, not, Option, Some, None, refl, sym, ap, subst, inl, inr, ⊎_elim, ◌∙◌, arith}
+use Rattle.std.proofs.Common.{◌≡◌, ◌≢◌, ◌⊎◌, ℕ, ◌<◌, ◌≤◌, Bool, true, false, ◌&&◌, ◌||◌, not, Option, Some, None, refl, sym, ap, subst, ⊎_elim, ◌∙◌, arith}
 use Rattle.std.proofs.lemmas.Bool.Decides.{nat_tests}
-use Rattle.std.proofs.lemmas.Bool.{cases_lt, cases_Bool}
+use Rattle.std.proofs.lemmas.Bool.{cases_lt}
 use Rattle.sci_words.specs.declared.tags.Kind.{Kind}
 use Rattle.sci_words.specs.declared.tags.Tag.{Tag}
 use Rattle.sci_words.specs.declared.memory.Mem.{Mem}
@@ -14,8 +14,8 @@ use Rattle.sci_core.specs.Law.{Law, Witness, suits}
 use Rattle.sci_core.specs.Found.{names, is_fresh, is_dirty, is_settled_body, is_rolling, can_be_told, is_found}
 use Rattle.sci_core.specs.Stage.{stage_of}
 use Rattle.sci_core.specs.WellFormed.{HasWellFormedWords}
-use Rattle.sci_core.specs.Progress.{IsAtRest, tag_at, attaches, purges_or_adopts, is_next, is_before, goes_in, goes}
-use Rattle.sci_core.proofs.Progress.{TellsOn, TellsBack, Adopts, RollsOn, Enters, Purges, Leaves, GoesOn, SomebodyGoes, never_waits, rest_or_goes}
+use Rattle.sci_core.specs.Progress.{IsAtRest, tag_at, purges_or_adopts, is_next, is_before, goes_in, goes}
+use Rattle.sci_core.proofs.Progress.{TellsOn, TellsBack, RollsOn, Enters, Purges, Leaves, SomebodyGoes, never_waits, rest_or_goes}
 
 both : (a b : Bool) → a ≡ true → b ≡ true → (a && b) ≡ true
 both true b p q = q
