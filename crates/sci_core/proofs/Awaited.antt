@@ -1,11 +1,10 @@
 -- A node that isn't Idle and doesn't go on waits for another one that isn't Idle.
-use Rattle.std.proofs.Common.{◌≡◌, ◌≢◌, ◌⊎◌, ℕ, ◌<◌, ◌≤◌, Bool, true, false, cond, ◌&&◌, ◌||◌, not, ◌==◌, Option, Some, None, is_some, refl, sym, ap, subst, inl, inr, ⊎_elim, ◌∙◌, arith}
+use Rattle.std.proofs.Common.{◌≡◌, ◌≢◌, ◌⊎◌, ℕ, ◌<◌, ◌≤◌, Bool, true, false, cond, ◌&&◌, ◌||◌, not, Option, Some, None, is_some, refl, sym, ap, subst, inl, inr, ⊎_elim, ◌∙◌, arith}
 use Rattle.std.proofs.lemmas.Bool.Decides.{nat_tests}
-use Rattle.std.proofs.lemmas.Bool.{cases_lt, cases_eq, cases_Bool}
+use Rattle.std.proofs.lemmas.Bool.{cases_lt, cases_Bool}
 use Rattle.std.specs.Option.{option_or}
 use Rattle.sci_words.specs.declared.tags.Kind.{Kind}
 use Rattle.sci_words.specs.declared.tags.Tag.{Tag}
-use Rattle.sci_words.specs.declared.memory.Mem.{Mem}
 use Rattle.sci_words.specs.declared.memory.MemState.{MemState}
 use Rattle.sci_words.specs.Tag.{tag_well_formed}
 use Rattle.sci_core.specs.declared.lines.Line.{Line}
@@ -17,11 +16,11 @@ use Rattle.sci_core.specs.Shape.{Phase, shape, phase_of, flag_of, has_copy, kept
 use Rattle.sci_core.specs.Law.{Law, Witness, suits, purges, is_body, is_front, has_memory_slot}
 use Rattle.sci_core.specs.Chain.{forward}
 use Rattle.sci_core.specs.Facts.{IsUntold}
-use Rattle.sci_core.specs.Found.{names, is_fresh, is_dirty, is_settled_body, is_rolling, can_be_told, is_found}
+use Rattle.sci_core.specs.Found.{names, is_fresh, is_dirty, can_be_told, is_found}
 use Rattle.sci_core.specs.Stage.{stage_of}
 use Rattle.sci_core.specs.WellFormed.{HasWellFormedWords}
 use Rattle.sci_core.specs.Progress.{tag_at, attaches, purges_or_adopts, is_next, is_before, goes_in, goes}
-use Rattle.sci_core.specs.Waiting.{is_purged, is_purging, is_rolling_out, borrows, is_taken, works_on, is_in_front, is_due, IsDue, IsDueAt, IsDueInFront, WaitsIn, first, first_due, due_at, due_at_link, sought}
+use Rattle.sci_core.specs.Waiting.{is_purged, is_purging, is_rolling_out, borrows, is_taken, works_on, is_in_front, is_due, IsDue, IsDueAt, IsDueInFront, WaitsIn, first_due, due_at, due_at_link, sought}
 use Rattle.sci_core.proofs.First.{first_holds, first_some, first_none}
 use Rattle.sci_core.proofs.Progress.{rolling_in, rolling_kind, rolling_body, roll_rolling, rolling_before}
 use Rattle.sci_core.proofs.GoingOn.{found, next_at, before_at, purges_at}

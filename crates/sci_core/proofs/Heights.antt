@@ -1,24 +1,23 @@
 -- Nobody waits in a circle: who waits for the entry behind it waits for one that does so too, nearer the tail; who waits in front, for one nearer the head.
-use Rattle.std.proofs.Common.{◌≡◌, ◌≢◌, ◌⊎◌, ℕ, ◌<◌, ◌≤◌, ◌-◌, Bool, true, false, cond, ◌&&◌, ◌||◌, not, Option, Some, None, is_some, refl, sym, ap, subst, inl, inr, ⊎_elim, ◌∙◌, arith}
+use Rattle.std.proofs.Common.{◌≡◌, ◌≢◌, ◌⊎◌, ℕ, ◌<◌, ◌≤◌, ◌-◌, Bool, true, false, ◌&&◌, ◌||◌, not, Option, Some, None, refl, sym, ap, subst, inl, inr, ⊎_elim, ◌∙◌, arith}
 use Rattle.std.proofs.lemmas.Bool.Decides.{nat_tests}
-use Rattle.std.proofs.lemmas.Bool.{cases_lt, cases_eq, cases_Bool}
+use Rattle.std.proofs.lemmas.Bool.{cases_eq, cases_Bool}
 use Rattle.sci_words.specs.declared.tags.Kind.{Kind}
-use Rattle.sci_words.specs.declared.tags.Tag.{Tag}
 use Rattle.sci_core.specs.declared.pending.Pending.{Pending}
 use Rattle.sci_core.specs.declared.stages.Stage.{Stage}
 use Rattle.sci_core.specs.declared.waiting.Obstacle.{Obstacle}
 use Rattle.sci_core.specs.State.{State}
 use Rattle.sci_core.specs.Shape.{Phase, shape, phase_of, flag_of}
-use Rattle.sci_core.specs.Law.{Law, Witness, Below, suits, is_body, can_be_held, has_attached}
+use Rattle.sci_core.specs.Law.{Law, Witness, Below, suits, is_body, has_attached}
 use Rattle.sci_core.specs.Found.{names, is_settled_body, is_rolling, can_be_told, is_found}
 use Rattle.sci_core.specs.Stage.{stage_of}
 use Rattle.sci_core.specs.WellFormed.{HasWellFormedWords}
-use Rattle.sci_core.specs.Progress.{tag_at, is_next, is_before, goes_in, goes}
+use Rattle.sci_core.specs.Progress.{tag_at, goes_in, goes}
 use Rattle.sci_core.specs.Waiting.{is_purged, is_purging, is_rolling_out, borrows, is_taken, works_on, is_in_front, IsDue, IsDueAt, IsDueInFront, WaitsIn, Waits}
 use Rattle.sci_core.proofs.Progress.{never_waits, rolling_in, rolling_kind, rolling_body}
 use Rattle.sci_core.proofs.GoingOn.{found, always, tells_back_at, adopting, adopts_at, before_at}
 use Rattle.sci_core.proofs.Exchanging.{moves_of}
-use Rattle.sci_core.proofs.Awaited.{untaken, next_body, last_in, neighbour_is, untold_back, queued_in, back_is_front}
+use Rattle.sci_core.proofs.Awaited.{untaken, last_in, neighbour_is, untold_back, queued_in, back_is_front}
 use Rattle.sci_core.proofs.ReadBack.PendingStep.{not_held, only_purging}
 
 not_both : (b : Bool) → b ≡ true → b ≡ false → ⊥

@@ -1,8 +1,7 @@
 -- Whom a node of a line that is sound waits for.
-use Rattle.std.proofs.Common.{◌≡◌, ◌≢◌, ◌⊎◌, ℕ, ◌<◌, ◌≤◌, Bool, true, false, Option, Some, None, List, MatchOption, refl, sym, ap, subst, inl, inr, ⊎_elim, ◌∙◌, arith}
+use Rattle.std.proofs.Common.{◌≡◌, ◌≢◌, ◌⊎◌, ℕ, ◌<◌, ◌≤◌, Bool, true, false, Option, List, MatchOption, refl, sym, ap, subst, inl, inr, ⊎_elim, ◌∙◌, arith}
 use Rattle.std.proofs.lemmas.List.{get_or_past}
 use Rattle.sci_core.specs.declared.pending.Pending.{Pending}
-use Rattle.sci_core.specs.Shape.{phase_of}
 use Rattle.sci_core.specs.Stage.{stage_of}
 use Rattle.sci_core.specs.Whole.{WholeLine, nodes_of, state_of, IsSound}
 use Rattle.sci_core.specs.Progress.{Moves, goes}

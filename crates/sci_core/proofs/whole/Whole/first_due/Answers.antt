@@ -1,6 +1,6 @@
-use Rattle.std.proofs.Common.{◌≡◌, ◌∙◌, ℕ, ◌<◌, ◌+◌, Bool, true, false, Option, Some, None, rules, suc, refl, sym, ap, subst, arith}
+use Rattle.std.proofs.Common.{◌≡◌, ℕ, ◌<◌, ◌+◌, true, false, None, rules, suc, sym, subst, arith}
 use Rattle.sci_core.specs.Stage.{stage_of}
-use Rattle.sci_core.specs.Waiting.{first, first_due, is_due}
+use Rattle.sci_core.specs.Waiting.{first_due, is_due}
 use Rattle.sci_core.specs.Whole.{nodes_of, state_of}
 use Rattle.sci_core.proofs.First.{none_more, first_at}
 use Rattle.sci_core.proofs.whole.Whole.first_due.Goals as goal

@@ -1,4 +1,4 @@
-use Rattle.std.proofs.Common.{◌≡◌, ℕ, None}
+use Rattle.std.proofs.Common.{◌≡◌, None}
 use Rattle.sci_core.specs.Waiting.{first_due}
 use Rattle.sci_core.specs.Whole.{state_of}
 use Rattle.sci_core.proofs.whole.Whole.first_due.Given as goal

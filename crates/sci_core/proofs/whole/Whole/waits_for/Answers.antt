@@ -1,4 +1,4 @@
-use Rattle.std.proofs.Common.{◌≡◌, ℕ, rules, subst}
+use Rattle.std.proofs.Common.{rules, subst}
 use Rattle.sci_core.specs.Whole.{WholeLine, IsSound}
 use Rattle.sci_core.proofs.Waited.{moves_as, waits_as, circle}
 use Rattle.sci_core.proofs.whole.Whole.waits_for.Goals as goal
