@@ -1,5 +1,5 @@
 -- A run makes no more exchanges than what its events cost and what was left to do.
-use Rattle.std.proofs.Common.{◌≡◌, ◌⊎◌, ℕ, ◌+◌, ◌<◌, ◌≤◌, zero, suc, Bool, true, false, cond, ◌&&◌, ◌||◌, not, Option, Some, None, is_some, is_none, Result, Ok, Err, List, [], ◌∷◌, All, take, refl, sym, ap, subst, inl, inr, ⊎_elim, arith}
+use Rattle.std.proofs.Common.{◌≡◌, ◌⊎◌, ℕ, ◌+◌, ◌<◌, ◌≤◌, zero, suc, Bool, true, false, cond, Option, Some, None, Result, Ok, Err, List, [], ◌∷◌, All, take, refl, sym, ap, subst, inl, inr, ⊎_elim, arith}
 use Rattle.std.proofs.lemmas.Bool.Decides.{nat_tests}
 use Rattle.std.proofs.lemmas.Bool.{cases_eq, cases_lt, false≢true}
 use Rattle.std.proofs.lemmas.List.Elements.{All-contains, All-head, All-tail, All-take}
@@ -12,22 +12,21 @@ use Rattle.sci_core.specs.declared.outcomes.Outcome.{Outcome}
 use Rattle.sci_core.specs.declared.rows.Change.{Change}
 use Rattle.sci_core.specs.State.{State, update, opened, invalid}
 use Rattle.sci_core.specs.Law.{is_valid}
-use Rattle.sci_core.specs.Found.{is_fresh, is_dirty, is_settled, is_settled_front, is_settled_body, is_rolling, can_be_told, is_found, names}
-use Rattle.sci_core.specs.Row.{Row, exchange_with}
+use Rattle.sci_core.specs.Found.{is_fresh, is_dirty, is_settled_front, is_settled_body, is_found, names}
 use Rattle.sci_core.specs.Table.{has_row, row_of}
 use Rattle.sci_core.specs.Table.Idle.{idle_allows, idle_row}
 use Rattle.sci_core.specs.Table.Queueing.{queueing_allows, queueing_row}
 use Rattle.sci_core.specs.Table.InQueue.{in_queue_allows, in_queue_row}
 use Rattle.sci_core.specs.Table.Converting.{converting_allows, converting_row}
-use Rattle.sci_core.specs.Table.Purging.{purging_allows, purging_row, saw_entry}
+use Rattle.sci_core.specs.Table.Purging.{purging_allows, purging_row}
 use Rattle.sci_core.specs.Table.Leaving.{leaving_allows, leaving_row}
 use Rattle.sci_core.specs.Table.Rolling.{rolling_allows, rolling_row}
-use Rattle.sci_core.specs.Step.{Finds, tags_after, taken_line, stepped, looked, look_of, look_back}
+use Rattle.sci_core.specs.Step.{Finds, tags_after, taken_line, looked, look_of, look_back}
 use Rattle.sci_core.specs.Answers.{Answers, Makes, IsDone, row_at}
 use Rattle.sci_core.specs.Run.{HasValue, Trail, RunsTo, done_in}
 use Rattle.sci_core.specs.Costs.{of_kind, of_step, of_tag, total, measure, cost, costs, IsPaid}
 use Rattle.sci_core.proofs.Answered.{update_same}
-use Rattle.sci_core.proofs.Going.Facts.{and_left, and_right, Found, found, fresh_kind, dirty_kind, body_kind}
+use Rattle.sci_core.proofs.Going.Facts.{and_left, found, fresh_kind, dirty_kind, body_kind}
 
 update_other : {A : Type 0} (f : ℕ → A) (i j : ℕ) (x : A) → (j ≡ i → ⊥) → update f i x j ≡ f j
 update_other f i j x h = grind (arith, nat_tests, h)

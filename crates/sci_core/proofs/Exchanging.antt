@@ -1,28 +1,27 @@
 -- Who goes on moves, and who moves goes on.
-use Rattle.std.proofs.Common.{◌≡◌, ◌≢◌, ◌⊎◌, ℕ, ◌<◌, ◌≤◌, Bool, true, false, cond, ◌&&◌, ◌||◌, not, Option, Some, None, List, is_some, refl, sym, ap, subst, inl, inr, ⊎_elim, ◌∙◌, arith}
+use Rattle.std.proofs.Common.{◌≡◌, ◌≢◌, ◌⊎◌, ℕ, Bool, true, false, cond, ◌&&◌, ◌||◌, not, Option, Some, None, is_some, refl, sym, ap, subst, inl, inr, ⊎_elim, ◌∙◌, arith}
 use Rattle.std.proofs.lemmas.Bool.Decides.{nat_tests}
 use Rattle.std.proofs.lemmas.Bool.{cases_lt, cases_eq, cases_Bool}
 use Rattle.sci_words.specs.declared.tags.Kind.{Kind}
 use Rattle.sci_words.specs.declared.tags.Tag.{Tag}
 use Rattle.sci_words.specs.declared.memory.Mem.{Mem}
 use Rattle.sci_words.specs.declared.memory.MemState.{MemState}
-use Rattle.sci_words.specs.Tag.{link_below}
 use Rattle.sci_core.specs.declared.lines.Line.{Line}
 use Rattle.sci_core.specs.declared.pending.Pending.{Pending}
 use Rattle.sci_core.specs.declared.stages.Stage.{Stage}
 use Rattle.sci_core.specs.declared.events.Event.{Event}
-use Rattle.sci_core.specs.State.{State, word, lent_word}
+use Rattle.sci_core.specs.State.{State, word}
 use Rattle.sci_core.specs.Shape.{Phase, shape, phase_of, flag_of}
 use Rattle.sci_core.specs.Law.{Law, Witness, Below, is_dirty_front, suits, has_dirty, is_body}
 use Rattle.sci_core.specs.Chain.{forward}
-use Rattle.sci_core.specs.Found.{names, is_fresh, is_dirty, is_settled_body, is_rolling, can_be_told, is_found}
-use Rattle.sci_core.specs.Row.{listed, home, purged_word}
+use Rattle.sci_core.specs.Found.{names, is_fresh, is_dirty, is_settled_body, is_rolling, is_found}
+use Rattle.sci_core.specs.Row.{listed, purged_word}
 use Rattle.sci_core.specs.Stage.{stage_of}
 use Rattle.sci_core.specs.Step.{Finds, look_of, look_back}
 use Rattle.sci_core.specs.Table.{has_row, row_of}
 use Rattle.sci_core.specs.PendingStep.{IsOwnWord}
 use Rattle.sci_core.specs.Facts.{KeptWordStands, LentWordStands}
-use Rattle.sci_core.specs.Progress.{GivesWayRightly, MovesIn, Moves, tag_at, attaches, purges_or_adopts, is_next, is_before, goes_in, goes}
+use Rattle.sci_core.specs.Progress.{GivesWayRightly, MovesIn, Moves, tag_at, is_next, is_before, goes_in, goes}
 use Rattle.sci_core.proofs.ReadBack.{path_of_law, facts_at}
 use Rattle.sci_core.proofs.ReadBack.Ranked.{stands}
 use Rattle.sci_core.proofs.ReadBack.PendingStep.{tag_is, not_held, steps_of_law}

@@ -1,7 +1,7 @@
 -- Where a step isn't Idle, somebody goes on.
-use Rattle.std.proofs.Common.{◌≡◌, ◌≢◌, ◌⊎◌, ℕ, ◌<◌, ◌≤◌, Bool, true, false, ◌&&◌, ◌||◌, not, Option, Some, None, refl, sym, ap, subst, inl, inr, ⊎_elim, ◌∙◌, arith}
+use Rattle.std.proofs.Common.{◌≡◌, ◌≢◌, ◌⊎◌, ℕ, ◌<◌, ◌≤◌, Bool, true, false, ◌&&◌, ◌||◌, not, Option, Some, None, refl, sym, ap, subst, ⊎_elim, ◌∙◌, arith}
 use Rattle.std.proofs.lemmas.Bool.Decides.{nat_tests}
-use Rattle.std.proofs.lemmas.Bool.{cases_lt, cases_Bool}
+use Rattle.std.proofs.lemmas.Bool.{cases_lt}
 use Rattle.sci_words.specs.declared.tags.Kind.{Kind}
 use Rattle.sci_words.specs.declared.tags.Tag.{Tag}
 use Rattle.sci_words.specs.declared.memory.Mem.{Mem}
@@ -14,8 +14,8 @@ use Rattle.sci_core.specs.Law.{Law, Witness, suits}
 use Rattle.sci_core.specs.Found.{names, is_fresh, is_dirty, is_settled_body, is_rolling, can_be_told, is_found}
 use Rattle.sci_core.specs.Stage.{stage_of}
 use Rattle.sci_core.specs.WellFormed.{HasWellFormedWords}
-use Rattle.sci_core.specs.Progress.{IsAtRest, tag_at, attaches, purges_or_adopts, is_next, is_before, goes_in, goes}
-use Rattle.sci_core.proofs.Progress.{TellsOn, TellsBack, Adopts, RollsOn, Enters, Purges, Leaves, GoesOn, SomebodyGoes, never_waits, rest_or_goes}
+use Rattle.sci_core.specs.Progress.{IsAtRest, tag_at, purges_or_adopts, is_next, is_before, goes_in, goes}
+use Rattle.sci_core.proofs.Progress.{TellsOn, TellsBack, RollsOn, Enters, Purges, Leaves, SomebodyGoes, never_waits, rest_or_goes}
 
 both : (a b : Bool) → a ≡ true → b ≡ true → (a && b) ≡ true
 both true b p q = q
@@ -29,7 +29,7 @@ or_left : (a b : Bool) → a ≡ true → (a || b) ≡ true
 or_left true b q = refl
 or_left false b q = absurd (cc)
 
-found : (f : Kind → Bool) (t : Tag) → f t.kind ≡ true → t.held ≡ false → tag_well_formed t ≡ true → is_found f t ≡ true
+pub found : (f : Kind → Bool) (t : Tag) → f t.kind ≡ true → t.held ≡ false → tag_well_formed t ≡ true → is_found f t ≡ true
 found f t k h w = both (f t.kind) (not t.held && tag_well_formed t) k (both (not t.held) (tag_well_formed t) (ap not h) w)
 
 names_it : (i : ℕ) (l : Option ℕ) → l ≡ Some i → names i l ≡ true
@@ -61,7 +61,7 @@ queueing_stage : (p : Pending) → phase_of p ≡ Phase.Queueing → (f : Option
 queueing_stage (Pending.Queueing f) e = (f, refl)
 queueing_stage _ e = absurd (grind (arith, e))
 
-always : (me : ℕ) (m : Mem) (p : Pending) (next before : Option Tag) → never_waits (phase_of p) ≡ true → goes_in me m (stage_of p) next before ≡ true
+pub always : (me : ℕ) (m : Mem) (p : Pending) (next before : Option Tag) → never_waits (phase_of p) ≡ true → goes_in me m (stage_of p) next before ≡ true
 always me m (Pending.Holding w l) next before h = refl
 always me m (Pending.Fetching f d l) next before h = refl
 always me m (Pending.Copying f w l) next before h = refl
@@ -82,18 +82,18 @@ module _ (s : State) (formed : HasWellFormedWords s) where
       (subst (λ (l : Option ℕ). goes_in i s.memory p (tag_at s l) (tag_at s (s.tags i).back) ≡ true) (sym ef)
       (subst (λ (l : Option ℕ). goes_in i s.memory p (tag_at s f) (tag_at s l) ≡ true) (sym eb) h))
 
-  next_at : (i x : ℕ) → (s.tags x).kind ≡ Kind.Valid → (s.tags x).held ≡ false → (s.tags x).back ≡ Some i → is_next i (s.tags x) ≡ true
+  pub next_at : (i x : ℕ) → (s.tags x).kind ≡ Kind.Valid → (s.tags x).held ≡ false → (s.tags x).back ≡ Some i → is_next i (s.tags x) ≡ true
   next_at i x k h b = both (is_found is_settled_body (s.tags x)) (names i (s.tags x).back) (found is_settled_body (s.tags x) (ap is_settled_body k) h (formed.tags x)) (names_it i (s.tags x).back b)
 
-  before_at : (i p : ℕ) → can_be_told (s.tags p).kind ≡ true → (s.tags p).held ≡ false → (s.tags p).forw ≡ Some i → is_before i (s.tags p) ≡ true
+  pub before_at : (i p : ℕ) → can_be_told (s.tags p).kind ≡ true → (s.tags p).held ≡ false → (s.tags p).forw ≡ Some i → is_before i (s.tags p) ≡ true
   before_at i p k h f = both (is_found can_be_told (s.tags p)) (names i (s.tags p).forw) (found can_be_told (s.tags p) k h (formed.tags p)) (names_it i (s.tags p).forw f)
 
-  adopts_at : (i y : ℕ) → (s.tags y).kind ≡ Kind.Roll → (s.tags y).held ≡ false → (s.tags y).back ≢ Some i → purges_or_adopts i (s.tags y) ≡ true
+  pub adopts_at : (i y : ℕ) → (s.tags y).kind ≡ Kind.Roll → (s.tags y).held ≡ false → (s.tags y).back ≢ Some i → purges_or_adopts i (s.tags y) ≡ true
   adopts_at i y k h b =
       or_right (is_found is_settled_body (s.tags y)) (is_found is_rolling (s.tags y) && not (names i (s.tags y).back))
       (both (is_found is_rolling (s.tags y)) (not (names i (s.tags y).back)) (found is_rolling (s.tags y) (ap is_rolling k) h (formed.tags y)) (ap not (names_not i (s.tags y).back b)))
 
-  purges_at : (i y : ℕ) → (s.tags y).kind ≡ Kind.Valid → (s.tags y).held ≡ false → purges_or_adopts i (s.tags y) ≡ true
+  pub purges_at : (i y : ℕ) → (s.tags y).kind ≡ Kind.Valid → (s.tags y).held ≡ false → purges_or_adopts i (s.tags y) ≡ true
   purges_at i y k h =
       or_left (is_found is_settled_body (s.tags y)) (is_found is_rolling (s.tags y) && not (names i (s.tags y).back))
       (found is_settled_body (s.tags y) (ap is_settled_body k) h (formed.tags y))
@@ -101,7 +101,7 @@ module _ (s : State) (formed : HasWellFormedWords s) where
   tells_on : (i : ℕ) → TellsOn s i → goes s i ≡ true
   tells_on i t = let q = rolling_stage (s.steps i) false t.1 t.2 in goes_at i (Stage.Rolling false q.0) (Some t.0) (s.tags i).back q.1 t.3 refl (next_at i t.0 t.4 t.5 t.6)
 
-  tells_back_at : (i p : ℕ) (f : Option ℕ) (u : Bool) → phase_of (s.steps i) ≡ Phase.Rolling → flag_of (s.steps i) ≡ u → (s.tags i).forw ≡ f → (u ≡ true) ⊎ (f ≡ None) → (s.tags i).back ≡ Some p → is_before i (s.tags p) ≡ true → goes s i ≡ true
+  pub tells_back_at : (i p : ℕ) (f : Option ℕ) (u : Bool) → phase_of (s.steps i) ≡ Phase.Rolling → flag_of (s.steps i) ≡ u → (s.tags i).forw ≡ f → (u ≡ true) ⊎ (f ≡ None) → (s.tags i).back ≡ Some p → is_before i (s.tags p) ≡ true → goes s i ≡ true
   tells_back_at i p f true e h ef c eb t = let q = rolling_stage (s.steps i) true e h in goes_at i (Stage.Rolling true q.0) f (Some p) q.1 ef eb t
   tells_back_at i p None false e h ef c eb t = let q = rolling_stage (s.steps i) false e h in goes_at i (Stage.Rolling false q.0) None (Some p) q.1 ef eb t
   tells_back_at i p (Some x) false e h ef c eb t = absurd (⊎_elim (λ a. grind (arith, a)) (λ a. grind (arith, a)) c)
@@ -109,7 +109,7 @@ module _ (s : State) (formed : HasWellFormedWords s) where
   tells_back : (i : ℕ) → TellsBack s i → goes s i ≡ true
   tells_back i t = tells_back_at i t.0 (s.tags i).forw (flag_of (s.steps i)) t.1 refl refl t.2 t.3 (before_at i t.0 t.4 t.5 t.6)
 
-  adopting : (i y : ℕ) (p : Pending) → s.steps i ≡ p → suits (phase_of p) (s.tags i).kind ≡ true → (s.tags i).kind ≡ Kind.Purging → (s.tags i).forw ≡ Some y → purges_or_adopts i (s.tags y) ≡ true → goes s i ≡ true
+  pub adopting : (i y : ℕ) (p : Pending) → s.steps i ≡ p → suits (phase_of p) (s.tags i).kind ≡ true → (s.tags i).kind ≡ Kind.Purging → (s.tags i).forw ≡ Some y → purges_or_adopts i (s.tags y) ≡ true → goes s i ≡ true
   adopting i y (Pending.Purging l q) e u k ef h = goes_at i (Stage.Purging q) (Some y) (s.tags i).back (ap stage_of e) ef refl h
   adopting i y (Pending.Advancing l v w) e u k ef h = goes_at i (Stage.Advancing v w) (s.tags i).forw (s.tags i).back (ap stage_of e) refl refl refl
   adopting i y (Pending.Clearing l v w) e u k ef h = goes_at i (Stage.Clearing v w) (s.tags i).forw (s.tags i).back (ap stage_of e) refl refl refl

@@ -21,6 +21,10 @@ pub mod Progress
 pub mod GoingOn
 pub mod Exchanging
 pub mod Moved
+pub mod First
+pub mod Awaited
+pub mod Heights
+pub mod Waited
 pub mod Walking
 pub mod Fitting
 pub mod Handing

@@ -1,9 +1,9 @@
 -- The mover of a line that is sound.
-use Rattle.std.proofs.Common.{◌≡◌, ◌≢◌, ℕ, ◌<◌, ◌≤◌, Bool, true, false, List, refl, sym, subst, arith}
+use Rattle.std.proofs.Common.{◌≡◌, ℕ, ◌<◌, Bool, true, false, List, arith}
 use Rattle.std.proofs.lemmas.List.{get_or_past}
 use Rattle.sci_core.specs.declared.pending.Pending.{Pending}
 use Rattle.sci_core.specs.Whole.{WholeLine, nodes_of, state_of, IsSound}
-use Rattle.sci_core.specs.Progress.{IsAtRest, IsMover, Moves, goes}
+use Rattle.sci_core.specs.Progress.{IsAtRest, IsMover, goes}
 use Rattle.sci_core.proofs.GoingOn.{goes_idle, rests}
 use Rattle.sci_core.proofs.Exchanging.{goes_of, moves_of}
 

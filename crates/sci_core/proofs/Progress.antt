@@ -1,5 +1,5 @@
 -- Where somebody is Rolling and nobody is in a step that goes on whatever it finds, a node in Rolling or the purger before it goes on.
-use Rattle.std.proofs.Common.{◌≡◌, ◌≢◌, ◌⊎◌, ℕ, ◌<◌, ◌≤◌, ◌+◌, zero, suc, Bool, true, false, Option, Some, None, refl, sym, ap, subst, inl, inr, ⊎_elim, ◌∙◌, arith}
+use Rattle.std.proofs.Common.{◌≡◌, ◌≢◌, ◌⊎◌, ℕ, ◌<◌, ◌≤◌, ◌+◌, zero, suc, Bool, true, false, Option, Some, None, refl, sym, subst, inl, inr, ⊎_elim, arith}
 use Rattle.std.proofs.lemmas.Bool.Decides.{nat_tests}
 use Rattle.std.proofs.lemmas.Bool.{cases_lt, cases_eq, cases_Bool}
 use Rattle.sci_words.specs.declared.tags.Kind.{Kind}
@@ -36,7 +36,7 @@ abbrev pub RollsOn : State → Type 0
 RollsOn s = (i : ℕ) × (TellsOn s i ⊎ TellsBack s i ⊎ Adopts s i)
 
 -- the entry before y
-abbrev Before : State → Witness → ℕ → Type 0
+abbrev pub Before : State → Witness → ℕ → Type 0
 Before s g y = (p : ℕ) × (0 < g.rank p) × (g.rank p ≤ g.rank g.last_front) × ((s.tags p).forw ≡ Some y)
 
 only_roll : (k : Kind) → suits Phase.Rolling k ≡ true → k ≡ Kind.Roll
@@ -50,31 +50,18 @@ purging_or_not : (k : Kind) → (k ≡ Kind.Purging) ⊎ (k ≢ Kind.Purging)
 purging_or_not Kind.Purging = inl refl
 purging_or_not _ = inr (λ e. grind (arith, e))
 
-module _ (s : State) (g : Witness) (o : Law (shape s) g) (q : Quiet s) where
-  -- no tag is held
-  unheld : (i : ℕ) → (s.tags i).held ≡ false
-  unheld i =
-      let c0 = o.slots.held_by i in
-      let c1 = q.holding i in
-      let c2 = q.copying (g.copier i) in
-      let o : ℕ = 0 in
-      grind (arith, c0, c1, c2)
-
-  -- no entry is Purged
-  not_purged : (i : ℕ) → 0 < g.rank i → (s.tags i).kind ≢ Kind.Purged
-  not_purged i p e = q.advancing g.last_front (o.fronts.purged i p e)
-
-  rolling_kind : (i : ℕ) → phase_of (s.steps i) ≡ Phase.Rolling → (s.tags i).kind ≡ Kind.Roll
+module _ (s : State) (g : Witness) (o : Law (shape s) g) where
+  pub rolling_kind : (i : ℕ) → phase_of (s.steps i) ≡ Phase.Rolling → (s.tags i).kind ≡ Kind.Roll
   rolling_kind i e = only_roll (s.tags i).kind (subst (λ (p : Phase). suits p (s.tags i).kind ≡ true) e (o.own.suited i))
 
-  rolling_in : (i : ℕ) → phase_of (s.steps i) ≡ Phase.Rolling → 0 < g.rank i
+  pub rolling_in : (i : ℕ) → phase_of (s.steps i) ≡ Phase.Rolling → 0 < g.rank i
   rolling_in i e = let c = o.outside.may_be i in let o : ℕ = 0 in grind (arith, c, e)
 
-  rolling_body : (i : ℕ) → phase_of (s.steps i) ≡ Phase.Rolling → g.rank i < g.rank g.last_front
+  pub rolling_body : (i : ℕ) → phase_of (s.steps i) ≡ Phase.Rolling → g.rank i < g.rank g.last_front
   rolling_body i e = let p = rolling_in i e in let k = rolling_kind i e in let c = o.fronts.front i p in let o : ℕ = 0 in grind (arith, c, k)
 
   -- an entry in Roll is Rolling
-  roll_rolling : (i : ℕ) → 0 < g.rank i → (s.tags i).kind ≡ Kind.Roll → phase_of (s.steps i) ≡ Phase.Rolling
+  pub roll_rolling : (i : ℕ) → 0 < g.rank i → (s.tags i).kind ≡ Kind.Roll → phase_of (s.steps i) ≡ Phase.Rolling
   roll_rolling i p k = let c0 = o.own.suited i in let c1 = o.outside.outside i in let o : ℕ = 0 in grind (arith, c0, c1, k, p)
 
   -- each entry behind another has one before it
@@ -90,102 +77,116 @@ module _ (s : State) (g : Witness) (o : Law (shape s) g) (q : Quiet s) where
   before zero x y h p l t = absurd (omega (arith, h, l))
   before (suc k) x y h p l t = before_at x y (s.tags x).forw refl p l t (λ j d m. before k j y (omega (arith, h, d)) p m (omega (arith, d, t)))
 
-  rolling_before : (y : ℕ) → phase_of (s.steps y) ≡ Phase.Rolling → Before s g y
+  pub rolling_before : (y : ℕ) → phase_of (s.steps y) ≡ Phase.Rolling → Before s g y
   rolling_before y e = before (g.rank g.last_front) g.last_front y (omega (arith)) (rolling_in y e) (rolling_body y e) (omega (arith))
 
-  -- that one can be told
-  can_tell : (y p : ℕ) → phase_of (s.steps y) ≡ Phase.Rolling → 0 < g.rank p → g.rank p ≤ g.rank g.last_front → (s.tags p).forw ≡ Some y → can_be_told (s.tags p).kind ≡ true
-  can_tell y p e i t h =
-      let c0 = o.fronts.front p i in
-      let c1 = o.fronts.body p i in
-      let c2 = o.order.apart p g.last_front i in
-      let c3 = o.fronts.attached y in
-      let c4 = o.own.suited p in
-      let c5 = not_purged p i in
-      let c6 = q.converting p in
-      let c7 = q.copying g.last_front in
-      let c8 = q.ready g.last_front in
-      let o : ℕ = 0 in
-      grind (arith, nat_tests, c0, c1, c2, c3, c4, c5, c6, c7, c8, i, t, h)
+  module _ (q : Quiet s) where
+    -- no tag is held
+    unheld : (i : ℕ) → (s.tags i).held ≡ false
+    unheld i =
+        let c0 = o.slots.held_by i in
+        let c1 = q.holding i in
+        let c2 = q.copying (g.copier i) in
+        let o : ℕ = 0 in
+        grind (arith, c0, c1, c2)
 
-  -- where y's back link is another's, that one is Purging, or has told y
-  other : (y p b : ℕ) → phase_of (s.steps y) ≡ Phase.Rolling → 0 < g.rank p → g.rank p ≤ g.rank g.last_front → (s.tags p).forw ≡ Some y → (s.tags y).back ≡ Some b → (b ≡ p → ⊥)
-      → ((s.tags p).kind ≢ Kind.Purging) → (phase_of (s.steps p) ≡ Phase.Rolling) × (flag_of (s.steps p) ≡ true)
-  other y p b e i t h d n u =
-      let yi = rolling_in y e in
-      let below = o.order.next_below p y i h in
-      let c0 = o.order.next_first p y b i h in
-      let c1 = o.order.apart p b i in
-      let c2 = o.backs.skip_roll y b p yi d below in
-      let c3 = o.backs.skip_roll_out y b p yi d below in
-      let c4 = o.backs.known_in y b yi d in
-      let c5 = o.backs.known y b yi d in
-      let c6 = o.backs.ahead y b yi d in
-      let c7 = o.order.apart p g.last_front i in
-      let roll : (s.tags p).kind ≡ Kind.Roll = let o : ℕ = 0 in grind (arith, nat_tests, c0, c1, c2, c3, c4, c5, c6, c7, i, t, n, u) in
-      let phase = roll_rolling p i roll in
-      let c8 = o.sees.untold p y b phase in
-      (phase, ⊎_elim (λ f. f) (λ f. absurd (n (c8 f h d))) (cases_Bool (flag_of (s.steps p))))
+    -- no entry is Purged
+    not_purged : (i : ℕ) → 0 < g.rank i → (s.tags i).kind ≢ Kind.Purged
+    not_purged i p e = q.advancing g.last_front (o.fronts.purged i p e)
 
-  -- from one that is ready towards the head
-  up_at : (y : ℕ) (b : Option ℕ) → (s.tags y).back ≡ b → Before s g y → phase_of (s.steps y) ≡ Phase.Rolling → (flag_of (s.steps y) ≡ true) ⊎ ((s.tags y).forw ≡ None)
-      → ((p : ℕ) → phase_of (s.steps p) ≡ Phase.Rolling → flag_of (s.steps p) ≡ true → g.rank y < g.rank p → RollsOn s) → RollsOn s
-  up_at y None d z e r again = absurd (let c = o.own.body_back y in let k = rolling_kind y e in let o : ℕ = 0 in grind (arith, c, k, d))
-  up_at y (Some b) d z e r again =
-      ⊎_elim
-      (λ same. (y, inr (inl (z.0, e, r, subst (λ (m : ℕ). (s.tags y).back ≡ Some m) same d, can_tell y z.0 e z.1 z.2 z.3, unheld z.0, z.3))))
-      (λ n. ⊎_elim
-      (λ k. (z.0, inr (inr (y, k, z.3, rolling_kind y e, unheld y, (λ w. n (let o : ℕ = 0 in grind (arith, w, d)))))))
-      (λ k. let told = other y z.0 b e z.1 z.2 z.3 d n k in again z.0 told.0 told.1 (o.order.next_below z.0 y z.1 z.3))
-      (purging_or_not (s.tags z.0).kind))
-      (cases_eq b z.0)
+    -- that one can be told
+    can_tell : (y p : ℕ) → phase_of (s.steps y) ≡ Phase.Rolling → 0 < g.rank p → g.rank p ≤ g.rank g.last_front → (s.tags p).forw ≡ Some y → can_be_told (s.tags p).kind ≡ true
+    can_tell y p e i t h =
+        let c0 = o.fronts.front p i in
+        let c1 = o.fronts.body p i in
+        let c2 = o.order.apart p g.last_front i in
+        let c3 = o.fronts.attached y in
+        let c4 = o.own.suited p in
+        let c5 = not_purged p i in
+        let c6 = q.converting p in
+        let c7 = q.copying g.last_front in
+        let c8 = q.ready g.last_front in
+        let o : ℕ = 0 in
+        grind (arith, nat_tests, c0, c1, c2, c3, c4, c5, c6, c7, c8, i, t, h)
 
-  up : (k y : ℕ) → phase_of (s.steps y) ≡ Phase.Rolling → (flag_of (s.steps y) ≡ true) ⊎ ((s.tags y).forw ≡ None) → g.rank g.last_front ≤ g.rank y + k → RollsOn s
-  up zero y e r l = absurd (let c = rolling_body y e in omega (arith, c, l))
-  up (suc k) y e r l = up_at y (s.tags y).back refl (rolling_before y e) e r (λ p a f d. up k p a (inl f) (omega (arith, l, d)))
+    -- where y's back link is another's, that one is Purging, or has told y
+    other : (y p b : ℕ) → phase_of (s.steps y) ≡ Phase.Rolling → 0 < g.rank p → g.rank p ≤ g.rank g.last_front → (s.tags p).forw ≡ Some y → (s.tags y).back ≡ Some b → (b ≡ p → ⊥)
+        → ((s.tags p).kind ≢ Kind.Purging) → (phase_of (s.steps p) ≡ Phase.Rolling) × (flag_of (s.steps p) ≡ true)
+    other y p b e i t h d n u =
+        let yi = rolling_in y e in
+        let below = o.order.next_below p y i h in
+        let c0 = o.order.next_first p y b i h in
+        let c1 = o.order.apart p b i in
+        let c2 = o.backs.skip_roll y b p yi d below in
+        let c3 = o.backs.skip_roll_out y b p yi d below in
+        let c4 = o.backs.known_in y b yi d in
+        let c5 = o.backs.known y b yi d in
+        let c6 = o.backs.ahead y b yi d in
+        let c7 = o.order.apart p g.last_front i in
+        let roll : (s.tags p).kind ≡ Kind.Roll = let o : ℕ = 0 in grind (arith, nat_tests, c0, c1, c2, c3, c4, c5, c6, c7, i, t, n, u) in
+        let phase = roll_rolling p i roll in
+        let c8 = o.sees.untold p y b phase in
+        (phase, ⊎_elim (λ f. f) (λ f. absurd (n (c8 f h d))) (cases_Bool (flag_of (s.steps p))))
 
-  -- the entry behind an untold one in Rolling: it is that one's back link, and Valid unless it is in Roll
-  behind_untold : (i x : ℕ) (b : Option ℕ) → (s.tags x).back ≡ b → phase_of (s.steps i) ≡ Phase.Rolling → flag_of (s.steps i) ≡ false → (s.tags i).forw ≡ Some x → (s.tags x).kind ≢ Kind.Roll
-      → ((s.tags x).kind ≡ Kind.Valid) × (b ≡ Some i)
-  behind_untold i x None d e f h n =
-      let ii = rolling_in i e in
-      let c0 = o.order.next_in i x ii h in
-      let c1 = o.order.next_below i x ii h in
-      let c2 = rolling_body i e in
-      let c3 = o.fronts.body x c0 (omega (arith, c1, c2)) in
-      absurd (o.own.body_back x c3 d)
-  behind_untold i x (Some m) d e f h n =
-      let ii = rolling_in i e in
-      let c0 = o.order.next_in i x ii h in
-      let c1 = o.order.next_below i x ii h in
-      let c2 = rolling_body i e in
-      let c3 = o.fronts.body x c0 (omega (arith, c1, c2)) in
-      let c4 = not_purged x c0 in
-      let c5 = o.sees.untold i x m e f h d in
-      let valid : (s.tags x).kind ≡ Kind.Valid = let o : ℕ = 0 in grind (arith, c3, c4, n) in
-      (valid, rw c5 refl)
+    -- from one that is ready towards the head
+    up_at : (y : ℕ) (b : Option ℕ) → (s.tags y).back ≡ b → Before s g y → phase_of (s.steps y) ≡ Phase.Rolling → (flag_of (s.steps y) ≡ true) ⊎ ((s.tags y).forw ≡ None)
+        → ((p : ℕ) → phase_of (s.steps p) ≡ Phase.Rolling → flag_of (s.steps p) ≡ true → g.rank y < g.rank p → RollsOn s) → RollsOn s
+    up_at y None d z e r again = absurd (let c = o.own.body_back y in let k = rolling_kind y e in let o : ℕ = 0 in grind (arith, c, k, d))
+    up_at y (Some b) d z e r again =
+        ⊎_elim
+        (λ same. (y, inr (inl (z.0, e, r, subst (λ (m : ℕ). (s.tags y).back ≡ Some m) same d, can_tell y z.0 e z.1 z.2 z.3, unheld z.0, z.3))))
+        (λ n. ⊎_elim
+        (λ k. (z.0, inr (inr (y, k, z.3, rolling_kind y e, unheld y, (λ w. n (let o : ℕ = 0 in grind (arith, w, d)))))))
+        (λ k. let told = other y z.0 b e z.1 z.2 z.3 d n k in again z.0 told.0 told.1 (o.order.next_below z.0 y z.1 z.3))
+        (purging_or_not (s.tags z.0).kind))
+        (cases_eq b z.0)
 
-  -- from any towards the tail
-  down_at : (i : ℕ) (f : Option ℕ) → (s.tags i).forw ≡ f → phase_of (s.steps i) ≡ Phase.Rolling → flag_of (s.steps i) ≡ false
-      → ((x : ℕ) → phase_of (s.steps x) ≡ Phase.Rolling → g.rank x < g.rank i → RollsOn s) → RollsOn s
-  down_at i None h e u again = up (g.rank g.last_front) i e (inr h) (omega (arith))
-  down_at i (Some x) h e u again =
-      let ii = rolling_in i e in
-      ⊎_elim
-      (λ k. again x (roll_rolling x (o.order.next_in i x ii h) k) (o.order.next_below i x ii h))
-      (λ k. let b = behind_untold i x (s.tags x).back refl e u h k in (i, inl (x, e, u, h, b.0, unheld x, b.1)))
-      (roll_or_not (s.tags x).kind)
+    up : (k y : ℕ) → phase_of (s.steps y) ≡ Phase.Rolling → (flag_of (s.steps y) ≡ true) ⊎ ((s.tags y).forw ≡ None) → g.rank g.last_front ≤ g.rank y + k → RollsOn s
+    up zero y e r l = absurd (let c = rolling_body y e in omega (arith, c, l))
+    up (suc k) y e r l = up_at y (s.tags y).back refl (rolling_before y e) e r (λ p a f d. up k p a (inl f) (omega (arith, l, d)))
 
-  down : (k i : ℕ) → phase_of (s.steps i) ≡ Phase.Rolling → g.rank i ≤ k → RollsOn s
-  down zero i e l = absurd (let c = rolling_in i e in omega (arith, c, l))
-  down (suc k) i e l =
-      ⊎_elim
-      (λ f. up (g.rank g.last_front) i e (inl f) (omega (arith)))
-      (λ f. down_at i (s.tags i).forw refl e f (λ x a d. down k x a (omega (arith, l, d))))
-      (cases_Bool (flag_of (s.steps i)))
+    -- the entry behind an untold one in Rolling: it is that one's back link, and Valid unless it is in Roll
+    behind_untold : (i x : ℕ) (b : Option ℕ) → (s.tags x).back ≡ b → phase_of (s.steps i) ≡ Phase.Rolling → flag_of (s.steps i) ≡ false → (s.tags i).forw ≡ Some x → (s.tags x).kind ≢ Kind.Roll
+        → ((s.tags x).kind ≡ Kind.Valid) × (b ≡ Some i)
+    behind_untold i x None d e f h n =
+        let ii = rolling_in i e in
+        let c0 = o.order.next_in i x ii h in
+        let c1 = o.order.next_below i x ii h in
+        let c2 = rolling_body i e in
+        let c3 = o.fronts.body x c0 (omega (arith, c1, c2)) in
+        absurd (o.own.body_back x c3 d)
+    behind_untold i x (Some m) d e f h n =
+        let ii = rolling_in i e in
+        let c0 = o.order.next_in i x ii h in
+        let c1 = o.order.next_below i x ii h in
+        let c2 = rolling_body i e in
+        let c3 = o.fronts.body x c0 (omega (arith, c1, c2)) in
+        let c4 = not_purged x c0 in
+        let c5 = o.sees.untold i x m e f h d in
+        let valid : (s.tags x).kind ≡ Kind.Valid = let o : ℕ = 0 in grind (arith, c3, c4, n) in
+        (valid, rw c5 refl)
 
-  pub rolls_on : (i : ℕ) → phase_of (s.steps i) ≡ Phase.Rolling → RollsOn s
-  rolls_on i e = down (g.rank i) i e (omega (arith))
+    -- from any towards the tail
+    down_at : (i : ℕ) (f : Option ℕ) → (s.tags i).forw ≡ f → phase_of (s.steps i) ≡ Phase.Rolling → flag_of (s.steps i) ≡ false
+        → ((x : ℕ) → phase_of (s.steps x) ≡ Phase.Rolling → g.rank x < g.rank i → RollsOn s) → RollsOn s
+    down_at i None h e u again = up (g.rank g.last_front) i e (inr h) (omega (arith))
+    down_at i (Some x) h e u again =
+        let ii = rolling_in i e in
+        ⊎_elim
+        (λ k. again x (roll_rolling x (o.order.next_in i x ii h) k) (o.order.next_below i x ii h))
+        (λ k. let b = behind_untold i x (s.tags x).back refl e u h k in (i, inl (x, e, u, h, b.0, unheld x, b.1)))
+        (roll_or_not (s.tags x).kind)
+
+    down : (k i : ℕ) → phase_of (s.steps i) ≡ Phase.Rolling → g.rank i ≤ k → RollsOn s
+    down zero i e l = absurd (let c = rolling_in i e in omega (arith, c, l))
+    down (suc k) i e l =
+        ⊎_elim
+        (λ f. up (g.rank g.last_front) i e (inl f) (omega (arith)))
+        (λ f. down_at i (s.tags i).forw refl e f (λ x a d. down k x a (omega (arith, l, d))))
+        (cases_Bool (flag_of (s.steps i)))
+
+    pub rolls_on : (i : ℕ) → phase_of (s.steps i) ≡ Phase.Rolling → RollsOn s
+    rolls_on i e = down (g.rank i) i e (omega (arith))
 
 -- the steps in which a plan may wait, but for Queueing
 abbrev pub may_wait : Phase → Bool
@@ -254,7 +255,7 @@ module _ (s : State) (g : Witness) (o : Law (shape s) g) (w : (i : ℕ) → may_
       let c1 = o.order.next_below g.last_front x p h in
       let c2 = o.fronts.body x c0 c1 in
       let c3 = not_purged s g o quiet x c0 in
-      let c4 = λ (k : (s.tags x).kind ≡ Kind.Roll). r x (roll_rolling s g o quiet x c0 k) in
+      let c4 = λ (k : (s.tags x).kind ≡ Kind.Roll). r x (roll_rolling s g o x c0 k) in
       ⊎_elim (λ k. absurd (c4 k)) (λ k. let o : ℕ = 0 in grind (arith, c2, c3, k)) (roll_or_not (s.tags x).kind)
 
   in_queue_goes : (f : Option ℕ) → (s.tags g.last_front).forw ≡ f → 0 < g.rank g.last_front → phase_of (s.steps g.last_front) ≡ Phase.InQueue → GoesOn s

@@ -15,6 +15,7 @@ pub mod Answers
 pub mod Run
 pub mod Costs
 pub mod Progress
+pub mod Waiting
 pub mod Carrying
 pub mod Chain
 pub mod Fronts

@@ -17,6 +17,7 @@ mod rows;
 mod stages;
 mod stepping;
 mod table;
+mod waiting;
 mod whole;
 
 pub use closing::Closed;

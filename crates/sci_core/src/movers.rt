@@ -89,7 +89,7 @@ impl<K: Keeps> Whole<K> {
     }
 
     // Whether a node goes on.
-    fn goes(&self, node: NodeId) -> bool
+    pub(crate) fn goes(&self, node: NodeId) -> bool
         requires { node < nodes_of self.now }
         ensures { result ≡ goes (state_of self.now) node }
     {

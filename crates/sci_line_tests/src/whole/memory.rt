@@ -75,7 +75,14 @@ fn read(whole: &Whole<AnyWords>, number: u16) -> Option<Tag> {
     let allowed = whole
         .pending(node)
         .allows(node, whole.nodes(), &Event::Settle);
-    let _ = (lines, allowed, whole.number(), whole.keep(), whole.mover());
+    let _ = (
+        lines,
+        allowed,
+        whole.number(),
+        whole.keep(),
+        whole.mover(),
+        whole.waits_for(node),
+    );
     Some(whole.tag(node))
 }
 

@@ -1,7 +1,7 @@
-use Rattle.std.proofs.Common.{◌≡◌, ◌∙◌, ℕ, ◌<◌, ◌≤◌, true, false, rules, refl, sym, ap, subst, ⊎_elim, arith}
+use Rattle.std.proofs.Common.{◌≡◌, ◌∙◌, ℕ, true, false, rules, sym, subst, ⊎_elim, arith}
 use Rattle.std.proofs.lemmas.Bool.{cases_lt}
 use Rattle.sci_core.specs.Progress.{goes}
-use Rattle.sci_core.specs.Whole.{WholeLine, IsSound, nodes_of, state_of}
+use Rattle.sci_core.specs.Whole.{WholeLine, IsSound, state_of}
 use Rattle.sci_core.proofs.Moved.{at_rest, is_mover, not_below}
 use Rattle.sci_core.proofs.whole.Whole.mover.Goals as goal
 
