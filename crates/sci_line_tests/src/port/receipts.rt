@@ -47,17 +47,13 @@ fn passes_again(receipts: &mut Receipts, line: Line) -> bool {
 }
 
 fn read(line: Line) -> Receipt {
-    Receipt::Read {
-        words: line.words,
-        stamp: line.stamp,
-    }
+    let Line { words, stamp } = line;
+    Receipt::Read { words, stamp }
 }
 
 fn passed(line: Line) -> Receipt {
-    Receipt::Passed {
-        words: line.words,
-        stamp: line.stamp,
-    }
+    let Line { words, stamp } = line;
+    Receipt::Passed { words, stamp }
 }
 
 /// The mark, an event and what it came to, how many receipts there are then, and the last of them.
@@ -199,8 +195,12 @@ fn receipts_of_a_store_and_a_load(rt: HostRuntime) -> Result<(), Fail> {
     let mut of_0 = with_room(rt.alloc(), 3)?;
     let mut of_1 = with_room(rt.alloc(), 2)?;
     for step in store_and_load() {
-        let receipts = if step.0 == 0 { &mut of_0 } else { &mut of_1 };
-        same_at(&rt, &step, &makes(&mut whole, receipts, &step), &Some(true));
+        let is_done = if step.0 == 0 {
+            makes(&mut whole, &mut of_0, &step)
+        } else {
+            makes(&mut whole, &mut of_1, &step)
+        };
+        same_at(&rt, &step, &is_done, &Some(true));
     }
     let wrote = Receipt::Wrote {
         before: ZEROS,
