@@ -16,7 +16,7 @@ use Rattle.sci_cache.specs.Nodes.{NodeState, none, more, TurnsAt, TurnsBy, Runs,
 use Rattle.sci_cache.proofs.Waited.{AtWork, call_of, work_of, turn_goes}
 use Rattle.sci_work.proofs.Rests.{led_on, led_then, ends_idle, others_on}
 use Rattle.sci_port.specs.Banks.{BankWay}
-use Rattle.sci_work.specs.Workers.{IsReady, Led, stays}
+use Rattle.sci_work.specs.Workers.{HasWorked, IsReady, Led, stays}
 
 still_open : (w : Option ℕ) (r : Request) → (op_by w (begun (goal_of r))).answer ≡ None
 still_open None r = refl
@@ -108,14 +108,18 @@ module _ {U : Type 0} (gives : U → ℕ → Call → U → Type 0) (step : U �
     call_rests u (Err NodeRefusal.NoCall) v m h free idle = unmoved u v m h.1 h.2 free idle
 
     -- and ready for the next
-    pub ready_again : (from to : BankWay) (u : U) (result : Result Answer NodeRefusal) (v : U) (m : NodeState) → IsReady step from n u → to ≡ from → IsSameNode n m → Waits gives step n r u result v m → IsReady step to m v × Led gives u v
-    ready_again from to u result v m ready way same h =
-        let b = call_rests u result v m h ready.free ready.idle in (
-          record {
-            node = ap (λ (x : BankWay). x.node) way ∙ ready.node ∙ sym same.id;
-            lines = ap (λ (x : BankWay). x.lines) way ∙ ready.lines ∙ sym same.lines;
+    pub worked_again : {K : Type 0} {way : U → BankWay} {keep : U → K} (u : U) (result : Result Answer NodeRefusal) (v : U) (m : NodeState) → IsReady step (way u) n u → way v ≡ way u → keep v ≡ keep u → IsSameNode n m → Waits gives step n r u result v m
+        → HasWorked way keep step gives u m v
+    worked_again u result v m ready same_way same_fact same h =
+        let b = call_rests u result v m h ready.free ready.idle in
+        record {
+          ready = record {
+            node = ap (λ (x : BankWay). x.node) same_way ∙ ready.node ∙ sym same.id;
+            lines = ap (λ (x : BankWay). x.lines) same_way ∙ ready.lines ∙ sym same.lines;
             free = b.0;
             idle = b.1;
-          },
-          b.2,
-        )
+          };
+          led = b.2;
+          same_way = same_way;
+          same_fact = same_fact;
+        }

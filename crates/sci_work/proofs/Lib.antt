@@ -18,3 +18,4 @@ pub mod Seated
 pub mod Sharing
 pub mod Showing
 pub mod Words
+pub mod Worked

@@ -8,7 +8,7 @@ use Rattle.sci_ops.specs.declared.answers.Answer.{Answer}
 use Rattle.sci_cache.specs.declared.refusals.NodeRefusal.{NodeRefusal}
 use Rattle.sci_cache.specs.declared.requests.Request.{Request}
 use Rattle.sci_cache.specs.Nodes.{NodeState, Waits, IsSameNode}
-use Rattle.sci_work.specs.Made.{IsBankOf, Made, none, load, write, refused}
+use Rattle.sci_work.specs.Made.{IsBankOf, IsStillBankOf, Made, none, load, write, refused}
 
 pub on_err : {A E X : Type 0} → (r : Result A E) → X → OnErr r X
 on_err (Ok a) x = tt
@@ -27,12 +27,16 @@ module _ {U : Type 0} (gives : U → ℕ → Call → U → Type 0) (step : U �
   closed_after n r u (Err NodeRefusal.NoCall) v m h closed = ap (λ k. k.call) h.2 ∙ closed
 
   -- and the bank is still the node's
-  pub still_bank : (n : NodeState) (r : Request) (u : U) (result : Result Answer NodeRefusal) (v : U) (m : NodeState) (w x : BankWay)
-      → Waits gives step n r u result v m → IsSameNode n m → x ≡ w → IsBankOf w n → IsBankOf x m
-  still_bank n r u result v m w x h same way bank = record {
-    node = ap (λ k. k.node) way ∙ bank.node ∙ sym same.id;
-    lines = ap (λ k. k.lines) way ∙ bank.lines ∙ sym same.lines;
-    closed = closed_after n r u result v m h bank.closed;
+  pub still_bank : {K : Type 0} {way : U → BankWay} {keep : U → K} (n : NodeState) (r : Request) (u : U) (result : Result Answer NodeRefusal) (v : U) (m : NodeState)
+      → Waits gives step n r u result v m → IsSameNode n m → way v ≡ way u → keep v ≡ keep u → IsBankOf (way u) n → IsStillBankOf way keep u m v
+  still_bank n r u result v m h same same_way same_fact bank = record {
+    ready = record {
+      node = ap (λ (x : BankWay). x.node) same_way ∙ bank.node ∙ sym same.id;
+      lines = ap (λ (x : BankWay). x.lines) same_way ∙ bank.lines ∙ sym same.lines;
+      closed = closed_after n r u result v m h bank.closed;
+    };
+    same_way = same_way;
+    same_fact = same_fact;
   }
 
   -- what was done, and then more

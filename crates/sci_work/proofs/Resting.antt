@@ -7,8 +7,8 @@ use Rattle.sci_port.specs.Owes.{Owes}
 use Rattle.std.specs.Prelude.{Result, Ok, Err, OnOk, OnErr}
 use Rattle.sci_cache.specs.declared.requests.Request.{Request}
 use Rattle.sci_cache.specs.Nodes.{NodeState}
-use Rattle.sci_work.specs.Made.{IsBankOf, Made, none, load, write, refused}
-use Rattle.sci_work.specs.Workers.{IsReady, Led, stays}
+use Rattle.sci_work.specs.Made.{IsStillBankOf, Made, none, load, write, refused}
+use Rattle.sci_work.specs.Workers.{HasWorked, IsReady, Led, stays}
 use Rattle.sci_work.proofs.Calling.{call_rests}
 use Rattle.sci_work.proofs.Rests.{led_then}
 
@@ -30,12 +30,14 @@ module _ {U : Type 0} (gives : U → ℕ → Call → U → Type 0) (step : U �
       let b = made_rests before free idle in
       let t = call_rests gives step nodes fits me owes others k (Request.WriteLine line words) w (Err refusal) v m h b.0 b.1 in (t.0, t.1, led_then b.2 t.2)
 
-  pub ready_made : (from to : BankWay) {ws : List (ℕ × List ℕ)} {n m : NodeState} {u v : U} → IsReady step from n u → IsBankOf to m → Made gives step ws n u m v → IsReady step to m v × Led gives u v
-  ready_made from to ready bank made =
-      let b = made_rests made ready.free ready.idle in (record { node = bank.node; lines = bank.lines; free = b.0; idle = b.1 }, b.2)
+  module _ {K : Type 0} {way : U → BankWay} {keep : U → K} where
+    pub worked_made : {ws : List (ℕ × List ℕ)} {n m : NodeState} {u v : U} → IsReady step (way u) n u → IsStillBankOf way keep u m v → Made gives step ws n u m v → HasWorked way keep step gives u m v
+    worked_made ready still made =
+        let b = made_rests made ready.free ready.idle in
+        record { ready = record { node = still.ready.node; lines = still.ready.lines; free = b.0; idle = b.1 }; led = b.2; same_way = still.same_way; same_fact = still.same_fact }
 
-  -- the same behind one write, whether it ended or was refused
-  pub ready_written : {A E : Type 0} (from to : BankWay) (result : Result A E) (ws : List (ℕ × List ℕ)) {n m : NodeState} {u v : U} → IsReady step from n u → IsBankOf to m
-      → OnOk result (Made gives step ws n u m v) → OnErr result (Made gives step [] n u m v) → IsReady step to m v × Led gives u v
-  ready_written from to (Ok a) ws ready bank ok err = ready_made from to ready bank ok
-  ready_written from to (Err e) ws ready bank ok err = ready_made from to ready bank err
+    -- the same behind one write, whether it ended or was refused
+    pub worked_written : {A E : Type 0} (result : Result A E) (ws : List (ℕ × List ℕ)) {n m : NodeState} {u v : U} → IsReady step (way u) n u → IsStillBankOf way keep u m v
+        → OnOk result (Made gives step ws n u m v) → OnErr result (Made gives step [] n u m v) → HasWorked way keep step gives u m v
+    worked_written (Ok a) ws ready still ok err = worked_made ready still ok
+    worked_written (Err e) ws ready still ok err = worked_made ready still err

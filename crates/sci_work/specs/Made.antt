@@ -15,6 +15,12 @@ pub record IsBankOf (way : BankWay) (n : NodeState) : Type 0 where
   pub lines : way.lines ≡ n.lines
   pub closed : n.call ≡ None
 
+-- from the bank u to v it is the node's with no call open still, of as many lines, and under the same fact
+pub record IsStillBankOf {U K : Type 0} (way : U → BankWay) (keep : U → K) (u : U) (n : NodeState) (v : U) : Type 0 where
+  pub ready : IsBankOf (way v) n
+  pub same_way : way v ≡ way u
+  pub same_fact : keep v ≡ keep u
+
 -- a call on a line that there is, begun where none is open, is refused with 7 or 11
 abbrev pub IsLineRefusal : NodeRefusal → Type 0
 IsLineRefusal NodeRefusal.OutOfMemory = Unit {0}

@@ -16,3 +16,10 @@ pub record IsReady {U : Type 0} (step : U → ℕ → Pending) (way : BankWay) (
 pub data Led {U : Type 0} (gives : U → ℕ → Call → U → Type 0) : U → U → Type 0 where
   stays : {u : U} → Led gives u u
   goes : {u w v : U} → (line : ℕ) → (call : Call) → gives u line call w → Led gives w v → Led gives u v
+
+-- a node's work led the bank u to v: calls did, and all have ended; it is the node's as before, and under the same fact
+pub record HasWorked {U K : Type 0} (way : U → BankWay) (keep : U → K) (step : U → ℕ → Pending) (gives : U → ℕ → Call → U → Type 0) (u : U) (n : NodeState) (v : U) : Type 0 where
+  pub ready : IsReady step (way v) n v
+  pub led : Led gives u v
+  pub same_way : way v ≡ way u
+  pub same_fact : keep v ≡ keep u

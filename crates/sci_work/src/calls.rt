@@ -4,8 +4,8 @@ ghost use Rattle.sci_ops.specs.declared.goals.Goal as goal;
 ghost use Rattle.sci_ops.specs.declared.goals.Write as write;
 ghost use Rattle.sci_ops.specs.Change.{StoresFitting};
 ghost use Rattle.sci_cache.specs.declared.refusals.NodeRefusal as refusals;
-ghost use Rattle.sci_work.specs.Made.{ComesInCall, IsBankOf, IsLineRefusal, Made};
-ghost use Rattle.sci_work.specs.Workers.{IsReady, Led};
+ghost use Rattle.sci_work.specs.Made.{ComesInCall, IsBankOf, IsLineRefusal, IsStillBankOf, Made};
+ghost use Rattle.sci_work.specs.Workers.{HasWorked, IsReady};
 
 use crate::doors::Door;
 use crate::gates::Gate;
@@ -48,9 +48,7 @@ pub(crate) fn loaded<R: Wait, G: Gate, B: Bank>(
     ensures fits { IfOk result (λ words. B.Keep.fits (B.keep bank.old) line words) }
     ensures err { IfErr result ComesInCall }
     ensures made { Made B.gives B.at_step [] node.old bank.old node.new bank.new }
-    ensures ready { IsBankOf (B.way bank.new) node.new }
-    ensures same_way { B.way bank.new ≡ B.way bank.old }
-    ensures same_fact { B.keep bank.new ≡ B.keep bank.old }
+    ensures still { IsStillBankOf B.way B.keep bank.old node.new bank.new }
 {
     door.enter()?;
     let answer = node.load(rt, bank, line);
@@ -77,9 +75,7 @@ pub(crate) fn reached<R: Wait, G: Gate, B: Bank>(
     ensures number { IfOk result (λ words. number ≤ slice_index words 0) }
     ensures err { IfErr result ComesInCall }
     ensures made { Made B.gives B.at_step [] node.old bank.old node.new bank.new }
-    ensures ready { IsBankOf (B.way bank.new) node.new }
-    ensures same_way { B.way bank.new ≡ B.way bank.old }
-    ensures same_fact { B.keep bank.new ≡ B.keep bank.old }
+    ensures still { IsStillBankOf B.way B.keep bank.old node.new bank.new }
 {
     let backoff = Backoff::new();
     for _ in rt.forever() {
@@ -107,9 +103,7 @@ pub(crate) fn written<R: Wait, G: Gate, B: Bank>(
     ensures err { IfErr result ComesInCall }
     ensures made { OnOk result (Made B.gives B.at_step ((line, words) ∷ []) node.old bank.old node.new bank.new) }
     ensures none { OnErr result (Made B.gives B.at_step [] node.old bank.old node.new bank.new) }
-    ensures ready { IsBankOf (B.way bank.new) node.new }
-    ensures same_way { B.way bank.new ≡ B.way bank.old }
-    ensures same_fact { B.keep bank.new ≡ B.keep bank.old }
+    ensures still { IsStillBankOf B.way B.keep bank.old node.new bank.new }
 {
     door.enter()?;
     let answer = node.write_line(rt, bank, line, words);
@@ -132,10 +126,7 @@ pub(crate) fn added<R: Wait, G: Gate, B: Bank>(
     requires line { line < (B.way bank.old).lines }
     requires fits { StoresFitting (B.Keep.fits (B.keep bank.old) line) (goal.Goal.Write (write.Write.Add 0 1)) }
     ensures err { IfErr result ComesInCall }
-    ensures ready { IsReady B.at_step (B.way bank.new) node.new bank.new }
-    ensures led { Led B.gives bank.old bank.new }
-    ensures same_way { B.way bank.new ≡ B.way bank.old }
-    ensures same_fact { B.keep bank.new ≡ B.keep bank.old }
+    ensures worked { HasWorked B.way B.keep B.at_step B.gives bank.old node.new bank.new }
 {
     door.enter()?;
     let answer = node.add(rt, bank, line, 0, 1);

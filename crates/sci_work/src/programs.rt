@@ -1,11 +1,11 @@
 //! What each node runs.
-ghost use Rattle.std.specs.Prelude.{◌≡◌, ◌<◌, IfOk, IfErr};
+ghost use Rattle.std.specs.Prelude.{◌<◌, IfOk, IfErr};
 ghost use Rattle.sci_ops.specs.declared.goals.Goal as goal;
 ghost use Rattle.sci_ops.specs.declared.goals.Write as write;
 ghost use Rattle.sci_ops.specs.Change.{StoresFitting};
 ghost use Rattle.sci_work.specs.Made.{ComesInCall};
 ghost use Rattle.sci_work.specs.Programs.{ComesInPart, IsShareOf, Suits};
-ghost use Rattle.sci_work.specs.Workers.{IsReady, Led};
+ghost use Rattle.sci_work.specs.Workers.{HasWorked, IsReady};
 
 use crate::calls::added;
 use crate::doors::Door;
@@ -40,10 +40,7 @@ fn counted<R: Wait, G: Gate, B: Bank>(
     requires line { 0 < (B.way bank.old).lines }
     requires fits { StoresFitting (B.Keep.fits (B.keep bank.old) 0) (goal.Goal.Write (write.Write.Add 0 1)) }
     ensures err { IfErr result ComesInCall }
-    ensures ready { IsReady B.at_step (B.way bank.new) node.new bank.new }
-    ensures led { Led B.gives bank.old bank.new }
-    ensures same_way { B.way bank.new ≡ B.way bank.old }
-    ensures same_fact { B.keep bank.new ≡ B.keep bank.old }
+    ensures worked { HasWorked B.way B.keep B.at_step B.gives bank.old node.new bank.new }
 {
     for _ in 0..adds {
         added(rt, door, node, bank, 0)?;
@@ -65,10 +62,7 @@ pub fn run<R: Wait, G: Gate, B: Bank>(
     requires suits { Suits program (B.Keep.fits (B.keep bank.old)) (B.way bank.old).lines number }
     ensures share { IfOk result (λ share. IsShareOf program.entry number share.items) }
     ensures err { IfErr result (ComesInPart program.entry) }
-    ensures ready { IsReady B.at_step (B.way bank.new) node.new bank.new }
-    ensures led { Led B.gives bank.old bank.new }
-    ensures same_way { B.way bank.new ≡ B.way bank.old }
-    ensures same_fact { B.keep bank.new ≡ B.keep bank.old }
+    ensures worked { HasWorked B.way B.keep B.at_step B.gives bank.old node.new bank.new }
 {
     match program {
         Program::Count { adds } => {

@@ -1,6 +1,6 @@
 //! The worker that reads the items of a ring.
 ghost use Rattle.std.specs.Prelude.{◌≡◌, ◌≢◌, ◌+◌, ◌^◌, ◌<◌, ◌≤◌, ◌⊎◌, ◌↔◌, ℕ, List, [], Err, length, slice_index, take, IfOk, IfErr, OnOk};
-ghost use Rattle.sci_work.specs.Made.{ComesInWork, IsBankOf, Made, MadeSome};
+ghost use Rattle.sci_work.specs.Made.{ComesInWork, IsBankOf, IsStillBankOf, Made, MadeSome};
 ghost use Rattle.sci_work.specs.Ring.{IsRing, IsRingSize, IsRingOf, count_words, count_writes};
 
 use crate::calls::{reached, written};
@@ -34,10 +34,8 @@ fn item<R: Wait, G: Gate, B: Bank>(
     requires few { i + 1 < 2 ^ 64 }
     ensures value { IfOk result (λ x. (source : List ℕ) → IsRing (B.Keep.fits (B.keep bank.old)) source lines → x ≡ slice_index source i) }
     ensures err { IfErr result ComesInWork }
-    ensures ready { IsBankOf (B.way bank.new) node.new }
     ensures made { Made B.gives B.at_step [] node.old bank.old node.new bank.new }
-    ensures same_way { B.way bank.new ≡ B.way bank.old }
-    ensures same_fact { B.keep bank.new ≡ B.keep bank.old }
+    ensures still { IsStillBankOf B.way B.keep bank.old node.new bank.new }
 {
     let line = line_of(i, lines);
     let number = i + 1;
@@ -65,10 +63,8 @@ pub(crate) fn consumed<R: Wait, G: Gate, B: Bank>(
     ensures items { IfOk result (λ v. (source : List ℕ) → IsRing (B.Keep.fits (B.keep bank.old)) source lines → n ≤ length source → v.items ≡ take n source) }
     ensures ok { OnOk result (Made B.gives B.at_step (count_writes lines n) node.old bank.old node.new bank.new) }
     ensures err { IfErr result ComesInWork }
-    ensures ready { IsBankOf (B.way bank.new) node.new }
     ensures made { MadeSome B.gives B.at_step (count_writes lines) n node.old bank.old node.new bank.new }
-    ensures same_way { B.way bank.new ≡ B.way bank.old }
-    ensures same_fact { B.keep bank.new ≡ B.keep bank.old }
+    ensures still { IsStillBankOf B.way B.keep bank.old node.new bank.new }
 {
     let mut items = Vec::new(alloc);
     for i in 0..n {
@@ -105,10 +101,8 @@ pub fn consume<R: Wait, G: Gate, B: Bank>(
     ensures items { IfOk result (λ v. (source : List ℕ) → IsRing (B.Keep.fits (B.keep bank.old)) source lines → n ≤ length source → v.items ≡ take n source) }
     ensures ok { OnOk result (Made B.gives B.at_step (count_writes lines n) node.old bank.old node.new bank.new) }
     ensures err { IsRingSize n lines → IfErr result ComesInWork }
-    ensures ready { IsBankOf (B.way bank.new) node.new }
     ensures made { MadeSome B.gives B.at_step (count_writes lines) n node.old bank.old node.new bank.new }
-    ensures same_way { B.way bank.new ≡ B.way bank.old }
-    ensures same_fact { B.keep bank.new ≡ B.keep bank.old }
+    ensures still { IsStillBankOf B.way B.keep bank.old node.new bank.new }
 {
     let mut door = Door::new(gate, stop, node.id().get());
     if !is_ring_size(n, lines) {

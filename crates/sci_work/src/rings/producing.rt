@@ -1,6 +1,6 @@
 //! The worker that writes the items of a ring.
 ghost use Rattle.std.specs.Prelude.{◌≡◌, ◌≢◌, ◌+◌, ◌^◌, ◌<◌, ◌≤◌, ◌⊎◌, ◌↔◌, [], Err, ◌∷◌, length, replicate, IfErr, OnOk};
-ghost use Rattle.sci_work.specs.Made.{ComesInCall, IsBankOf, Made, MadeSome};
+ghost use Rattle.sci_work.specs.Made.{ComesInCall, IsBankOf, IsStillBankOf, Made, MadeSome};
 ghost use Rattle.sci_work.specs.Ring.{IsRing, IsRingSize, item_words, item_writes};
 
 use crate::calls::{reached, written};
@@ -32,10 +32,8 @@ fn free<R: Wait, G: Gate, B: Bank>(
     requires room { lines < (B.way bank.old).lines }
     requires few { i + 1 < 2 ^ 64 }
     ensures err { IfErr result ComesInCall }
-    ensures ready { IsBankOf (B.way bank.new) node.new }
     ensures made { Made B.gives B.at_step [] node.old bank.old node.new bank.new }
-    ensures same_way { B.way bank.new ≡ B.way bank.old }
-    ensures same_fact { B.keep bank.new ≡ B.keep bank.old }
+    ensures still { IsStillBankOf B.way B.keep bank.old node.new bank.new }
 {
     let least = (i + 1).saturating_sub(u64::from(lines));
     if least == 0 {
@@ -62,10 +60,8 @@ pub(crate) fn produced<R: Wait, G: Gate, B: Bank>(
     requires ring { IsRing (B.Keep.fits (B.keep bank.old)) source.now lines }
     ensures ok { OnOk result (Made B.gives B.at_step (item_writes source.now lines (length source.now)) node.old bank.old node.new bank.new) }
     ensures err { IfErr result ComesInCall }
-    ensures ready { IsBankOf (B.way bank.new) node.new }
     ensures made { MadeSome B.gives B.at_step (item_writes source.now lines) (length source.now) node.old bank.old node.new bank.new }
-    ensures same_way { B.way bank.new ≡ B.way bank.old }
-    ensures same_fact { B.keep bank.new ≡ B.keep bank.old }
+    ensures still { IsStillBankOf B.way B.keep bank.old node.new bank.new }
 {
     for (i, value) in source.iter().enumerate() {
         let number = i as u64;
@@ -96,10 +92,8 @@ pub fn produce<R: Wait, G: Gate, B: Bank>(
     ensures untouched { (IsRingSize (length source.now) lines → ⊥) → (node.new ≡ node.old) × (bank.new ≡ bank.old) }
     ensures ok { OnOk result (Made B.gives B.at_step (item_writes source.now lines (length source.now)) node.old bank.old node.new bank.new) }
     ensures err { IsRingSize (length source.now) lines → IfErr result ComesInCall }
-    ensures ready { IsBankOf (B.way bank.new) node.new }
     ensures made { MadeSome B.gives B.at_step (item_writes source.now lines) (length source.now) node.old bank.old node.new bank.new }
-    ensures same_way { B.way bank.new ≡ B.way bank.old }
-    ensures same_fact { B.keep bank.new ≡ B.keep bank.old }
+    ensures still { IsStillBankOf B.way B.keep bank.old node.new bank.new }
 {
     let mut door = Door::new(gate, stop, node.id().get());
     if !is_ring_size(source.len(), lines) {

@@ -2,7 +2,7 @@
 ghost use Rattle.std.specs.Prelude.{◌≡◌, ◌<◌, length, IfOk, IfErr};
 ghost use Rattle.sci_work.specs.Made.{ComesInWork};
 ghost use Rattle.sci_work.specs.Ring.{IsRing, IsRingSize};
-ghost use Rattle.sci_work.specs.Workers.{IsReady, Led};
+ghost use Rattle.sci_work.specs.Workers.{HasWorked, IsReady};
 
 use crate::doors::Door;
 use crate::gates::Gate;
@@ -31,10 +31,7 @@ pub(crate) fn worked<R: Wait, G: Gate, B: Bank>(
     requires ring { IsRing (B.Keep.fits (B.keep bank.old)) source.now lines }
     ensures share { IfOk result (λ share. number ≡ 1 → share.items ≡ source.now) }
     ensures err { IfErr result ComesInWork }
-    ensures ready { IsReady B.at_step (B.way bank.new) node.new bank.new }
-    ensures led { Led B.gives bank.old bank.new }
-    ensures same_way { B.way bank.new ≡ B.way bank.old }
-    ensures same_fact { B.keep bank.new ≡ B.keep bank.old }
+    ensures worked { HasWorked B.way B.keep B.at_step B.gives bank.old node.new bank.new }
 {
     if number == 0 {
         produced(rt, door, node, bank, source, lines)?;

@@ -4,7 +4,7 @@ ghost use Rattle.sci_work.specs.Made.{ComesInWork};
 ghost use Rattle.sci_work.specs.Plain.{plain};
 ghost use Rattle.sci_work.specs.Shares.{IsShare, IsWork};
 ghost use Rattle.sci_work.specs.Stencil.{HoldsTile};
-ghost use Rattle.sci_work.specs.Workers.{IsReady, Led};
+ghost use Rattle.sci_work.specs.Workers.{HasWorked, IsReady};
 
 use crate::calls::{reached, written};
 use crate::doors::Door;
@@ -42,10 +42,7 @@ fn awaited<R: Wait, G: Gate, B: Bank>(
     ensures number { IfOk result (λ words. slice_index words 0 ≡ phase + 1) }
     ensures cells { IfOk result (λ words. HoldsTile (plain work.entry.cells.now phase) tile words) }
     ensures err { IfErr result ComesInWork }
-    ensures ready { IsReady B.at_step (B.way bank.new) node.new bank.new }
-    ensures led { Led B.gives bank.old bank.new }
-    ensures same_way { B.way bank.new ≡ B.way bank.old }
-    ensures same_fact { B.keep bank.new ≡ B.keep bank.old }
+    ensures worked { HasWorked B.way B.keep B.at_step B.gives bank.old node.new bank.new }
 {
     let line = line_at(tile, phase);
     let number = phase + 1;
@@ -72,10 +69,7 @@ fn cell_before<R: Wait, G: Gate, B: Bank>(
     requires phase { phase ≤ work.phases }
     ensures cell { IfOk result (λ x. x ≡ slice_index (0 ∷ plain work.entry.cells.now phase) (7 * tile)) }
     ensures err { IfErr result ComesInWork }
-    ensures ready { IsReady B.at_step (B.way bank.new) node.new bank.new }
-    ensures led { Led B.gives bank.old bank.new }
-    ensures same_way { B.way bank.new ≡ B.way bank.old }
-    ensures same_fact { B.keep bank.new ≡ B.keep bank.old }
+    ensures worked { HasWorked B.way B.keep B.at_step B.gives bank.old node.new bank.new }
 {
     if tile == 0 {
         return Ok(0);
@@ -100,10 +94,7 @@ fn cell_behind<R: Wait, G: Gate, B: Bank>(
     requires phase { phase ≤ work.phases }
     ensures cell { IfOk result (λ x. x ≡ slice_index (plain work.entry.cells.now phase) (7 * tile + 7)) }
     ensures err { IfErr result ComesInWork }
-    ensures ready { IsReady B.at_step (B.way bank.new) node.new bank.new }
-    ensures led { Led B.gives bank.old bank.new }
-    ensures same_way { B.way bank.new ≡ B.way bank.old }
-    ensures same_fact { B.keep bank.new ≡ B.keep bank.old }
+    ensures worked { HasWorked B.way B.keep B.at_step B.gives bank.old node.new bank.new }
 {
     if tile + 1 == work.tiles {
         return Ok(0);
@@ -127,10 +118,7 @@ fn advance<R: Wait, G: Gate, B: Bank>(
     requires tile { tile < work.tiles }
     requires phase { phase < work.phases }
     ensures err { IfErr result ComesInWork }
-    ensures ready { IsReady B.at_step (B.way bank.new) node.new bank.new }
-    ensures led { Led B.gives bank.old bank.new }
-    ensures same_way { B.way bank.new ≡ B.way bank.old }
-    ensures same_fact { B.keep bank.new ≡ B.keep bank.old }
+    ensures worked { HasWorked B.way B.keep B.at_step B.gives bank.old node.new bank.new }
 {
     let own = awaited(rt, door, node, bank, work, tile, phase)?;
     let left = cell_before(rt, door, node, bank, work, tile, phase)?;
@@ -152,10 +140,7 @@ fn open_all<R: Wait, G: Gate, B: Bank>(
     requires work { IsWork (B.Keep.fits (B.keep bank.old)) work.cells.now work.phases work.tiles (B.way bank.old).lines }
     requires nodes { (number < work.nodes) × (work.nodes ≤ 64) }
     ensures err { IfErr result ComesInWork }
-    ensures ready { IsReady B.at_step (B.way bank.new) node.new bank.new }
-    ensures led { Led B.gives bank.old bank.new }
-    ensures same_way { B.way bank.new ≡ B.way bank.old }
-    ensures same_fact { B.keep bank.new ≡ B.keep bank.old }
+    ensures worked { HasWorked B.way B.keep B.at_step B.gives bank.old node.new bank.new }
 {
     let mut tile = number;
     while tile < work.tiles {
@@ -181,10 +166,7 @@ fn advance_all<R: Wait, G: Gate, B: Bank>(
     requires nodes { (number < work.nodes) × (work.nodes ≤ 64) }
     requires phase { phase < work.phases }
     ensures err { IfErr result ComesInWork }
-    ensures ready { IsReady B.at_step (B.way bank.new) node.new bank.new }
-    ensures led { Led B.gives bank.old bank.new }
-    ensures same_way { B.way bank.new ≡ B.way bank.old }
-    ensures same_fact { B.keep bank.new ≡ B.keep bank.old }
+    ensures worked { HasWorked B.way B.keep B.at_step B.gives bank.old node.new bank.new }
 {
     let mut tile = number;
     while tile < work.tiles {
@@ -209,10 +191,7 @@ fn collect<R: Wait, G: Gate, B: Bank>(
     requires nodes { (number < work.nodes) × (work.nodes ≤ 64) }
     ensures share { IfOk result (λ v. IsShare (plain work.entry.cells.now work.entry.phases) work.entry.nodes number work.entry.tiles v.items) }
     ensures err { IfErr result ComesInWork }
-    ensures ready { IsReady B.at_step (B.way bank.new) node.new bank.new }
-    ensures led { Led B.gives bank.old bank.new }
-    ensures same_way { B.way bank.new ≡ B.way bank.old }
-    ensures same_fact { B.keep bank.new ≡ B.keep bank.old }
+    ensures worked { HasWorked B.way B.keep B.at_step B.gives bank.old node.new bank.new }
 {
     let mut share = Vec::new(alloc);
     let mut tile = number;
@@ -239,10 +218,7 @@ pub(crate) fn worked<R: Wait, G: Gate, B: Bank>(
     requires nodes { (number < work.nodes) × (work.nodes ≤ 64) }
     ensures share { IfOk result (λ v. IsShare (plain work.entry.cells.now work.entry.phases) work.entry.nodes number work.entry.tiles v.items) }
     ensures err { IfErr result ComesInWork }
-    ensures ready { IsReady B.at_step (B.way bank.new) node.new bank.new }
-    ensures led { Led B.gives bank.old bank.new }
-    ensures same_way { B.way bank.new ≡ B.way bank.old }
-    ensures same_fact { B.keep bank.new ≡ B.keep bank.old }
+    ensures worked { HasWorked B.way B.keep B.at_step B.gives bank.old node.new bank.new }
 {
     open_all(rt, door, node, bank, work, number)?;
     for phase in 0..work.phases {

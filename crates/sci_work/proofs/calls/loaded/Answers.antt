@@ -1,4 +1,4 @@
-use Rattle.std.proofs.Common.{Result, IfOk, refl, subst}
+use Rattle.std.proofs.Common.{Result, IfOk, subst}
 use Rattle.std.proofs.lemmas.Result.{IfOk-from_err}
 use Rattle.sci_ops.specs.declared.answers.Answer.{Answer}
 use Rattle.sci_ops.specs.declared.goals.Goal.{Goal}
@@ -8,6 +8,7 @@ use Rattle.sci_cache.specs.declared.requests.Request.{Request}
 use Rattle.sci_work.specs.Made.{none, load}
 use Rattle.sci_work.proofs.Making.{still_bank}
 use Rattle.sci_work.proofs.Residual.{passed_on}
+use Rattle.sci_work.proofs.Worked.{still_not}
 use Rattle.sci_work.proofs.calls.loaded.Goals as goal
 
 pub returns-in_err-enter : goal.returns-in_err-enter
@@ -17,36 +18,27 @@ returns-in_err-enter g c =
       fits = IfOk-from_err r.result _ r.ensures.0;
       err = passed_on r.result _ _ r.ensures.1 c.in_err-enter.ensures;
       made = none;
-      ready = c.requires.ready;
-      same_way = refl;
-      same_fact = refl;
+      still = still_not c.requires.ready;
     }
 
 pub returns-in-Ok-Seen-clause-made : goal.returns-in-Ok-Seen-clause-made
 returns-in-Ok-Seen-clause-made g c = load c.args.line c.load-answer.result none c.load-answer.ensures.waits
 
-pub returns-in-Ok-Seen-clause-ready : goal.returns-in-Ok-Seen-clause-ready
-returns-in-Ok-Seen-clause-ready g c = still_bank g.B.Bank.gives g.B.Bank.at_step c.args.node.now (Request.Load c.args.line) c.args.bank.now c.load-answer.result c.load-answer.new.bank c.load-answer.new.self _ _ c.load-answer.ensures.waits c.load-answer.ensures.same_node c.load-answer.ensures.same_way c.requires.ready
+pub returns-in-Ok-Seen-clause-still : goal.returns-in-Ok-Seen-clause-still
+returns-in-Ok-Seen-clause-still g c = let e = c.load-answer.ensures in still_bank g.B.Bank.gives g.B.Bank.at_step c.args.node.now (Request.Load c.args.line) c.args.bank.now c.load-answer.result c.load-answer.new.bank c.load-answer.new.self e.waits e.same_node e.same_way e.same_fact c.requires.ready
 
 pub returns-in-Err : goal.returns-in-Err
 returns-in-Err g c =
+    let e = c.load-answer.ensures in
     record {
       fits = tt;
       err = c.refused.ensures.comes;
       made = load c.args.line c.load-answer.result none c.load-answer.ensures.waits;
-      ready = still_bank g.B.Bank.gives g.B.Bank.at_step c.args.node.now (Request.Load c.args.line) c.args.bank.now c.load-answer.result c.load-answer.new.bank c.load-answer.new.self _ _ c.load-answer.ensures.waits c.load-answer.ensures.same_node c.load-answer.ensures.same_way c.requires.ready;
-      same_way = c.load-answer.ensures.same_way;
-      same_fact = c.load-answer.ensures.same_fact;
+      still = still_bank g.B.Bank.gives g.B.Bank.at_step c.args.node.now (Request.Load c.args.line) c.args.bank.now c.load-answer.result c.load-answer.new.bank c.load-answer.new.self e.waits e.same_node e.same_way e.same_fact c.requires.ready;
     }
 
 pub returns-in-Ok-Seen-clause-err : goal.returns-in-Ok-Seen-clause-err
 returns-in-Ok-Seen-clause-err g c = tt
-
-pub returns-in-Ok-Seen-clause-same_way : goal.returns-in-Ok-Seen-clause-same_way
-returns-in-Ok-Seen-clause-same_way g c = c.load-answer.ensures.same_way
-
-pub returns-in-Ok-Seen-clause-same_fact : goal.returns-in-Ok-Seen-clause-same_fact
-returns-in-Ok-Seen-clause-same_fact g c = c.load-answer.ensures.same_fact
 
 pub load-answer-requires : goal.load-answer-requires
 load-answer-requires g c = record { node = c.requires.ready.node; lines = c.requires.ready.lines }

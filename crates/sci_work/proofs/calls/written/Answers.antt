@@ -1,9 +1,9 @@
-use Rattle.std.proofs.Common.{refl}
 use Rattle.std.proofs.lemmas.Result.{IfOk-from_err}
 use Rattle.sci_cache.specs.declared.requests.Request.{Request}
 use Rattle.sci_work.specs.Made.{none, write, refused}
 use Rattle.sci_work.proofs.Making.{on_err, still_bank}
 use Rattle.sci_work.proofs.Residual.{passed_on}
+use Rattle.sci_work.proofs.Worked.{still_not}
 use Rattle.sci_work.proofs.calls.written.Goals as goal
 
 pub returns-in_err-enter : goal.returns-in_err-enter
@@ -13,31 +13,27 @@ returns-in_err-enter g c =
       err = passed_on r.result _ _ r.ensures.1 c.in_err-enter.ensures;
       made = IfOk-from_err r.result _ r.ensures.0;
       none = on_err r.result none;
-      ready = c.requires.ready;
-      same_way = refl;
-      same_fact = refl;
+      still = still_not c.requires.ready;
     }
 
 pub returns-in-Ok : goal.returns-in-Ok
 returns-in-Ok g c =
+    let e = c.write_line-answer.ensures in
     record {
       err = tt;
       made = write c.args.line c.args.words _ none c.in-Ok.ensures.waits;
       none = tt;
-      ready = still_bank g.B.Bank.gives g.B.Bank.at_step c.args.node.now (Request.WriteLine c.args.line c.args.words) c.args.bank.now c.write_line-answer.result c.write_line-answer.new.bank c.write_line-answer.new.self _ _ c.write_line-answer.ensures.waits c.write_line-answer.ensures.same_node c.write_line-answer.ensures.same_way c.requires.ready;
-      same_way = c.write_line-answer.ensures.same_way;
-      same_fact = c.write_line-answer.ensures.same_fact;
+      still = still_bank g.B.Bank.gives g.B.Bank.at_step c.args.node.now (Request.WriteLine c.args.line c.args.words) c.args.bank.now c.write_line-answer.result c.write_line-answer.new.bank c.write_line-answer.new.self e.waits e.same_node e.same_way e.same_fact c.requires.ready;
     }
 
 pub returns-in-Err : goal.returns-in-Err
 returns-in-Err g c =
+    let e = c.write_line-answer.ensures in
     record {
       err = c.refused.ensures.comes;
       made = tt;
       none = refused c.args.line c.args.words _ none c.in-Err.ensures.waits;
-      ready = still_bank g.B.Bank.gives g.B.Bank.at_step c.args.node.now (Request.WriteLine c.args.line c.args.words) c.args.bank.now c.write_line-answer.result c.write_line-answer.new.bank c.write_line-answer.new.self _ _ c.write_line-answer.ensures.waits c.write_line-answer.ensures.same_node c.write_line-answer.ensures.same_way c.requires.ready;
-      same_way = c.write_line-answer.ensures.same_way;
-      same_fact = c.write_line-answer.ensures.same_fact;
+      still = still_bank g.B.Bank.gives g.B.Bank.at_step c.args.node.now (Request.WriteLine c.args.line c.args.words) c.args.bank.now c.write_line-answer.result c.write_line-answer.new.bank c.write_line-answer.new.self e.waits e.same_node e.same_way e.same_fact c.requires.ready;
     }
 
 pub write_line-answer-requires : goal.write_line-answer-requires

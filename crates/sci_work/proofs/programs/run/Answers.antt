@@ -32,10 +32,7 @@ returns-in_err-counted-in-Count g c =
     record {
       share = IfOk-from_err r.result _ r.ensures.0;
       err = passed_on r.result _ _ r.ensures.1 (part_of_call c.args.program _ c.in_err-counted-in-Count.ensures.err);
-      ready = e.ready;
-      led = e.led;
-      same_way = e.same_way;
-      same_fact = e.same_fact;
+      worked = e.worked;
     }
 
 pub returns-in_ok-counted-in-Count-clause-share : goal.returns-in_ok-counted-in-Count-clause-share
@@ -44,17 +41,8 @@ returns-in_ok-counted-in-Count-clause-share g c = subst (λ p. IsShareOf p c.arg
 pub returns-in_ok-counted-in-Count-clause-err : goal.returns-in_ok-counted-in-Count-clause-err
 returns-in_ok-counted-in-Count-clause-err g c = tt
 
-pub returns-in_ok-counted-in-Count-clause-ready : goal.returns-in_ok-counted-in-Count-clause-ready
-returns-in_ok-counted-in-Count-clause-ready g c = c.counted.ensures.ready
-
-pub returns-in_ok-counted-in-Count-clause-led : goal.returns-in_ok-counted-in-Count-clause-led
-returns-in_ok-counted-in-Count-clause-led g c = c.counted.ensures.led
-
-pub returns-in_ok-counted-in-Count-clause-same_way : goal.returns-in_ok-counted-in-Count-clause-same_way
-returns-in_ok-counted-in-Count-clause-same_way g c = c.counted.ensures.same_way
-
-pub returns-in_ok-counted-in-Count-clause-same_fact : goal.returns-in_ok-counted-in-Count-clause-same_fact
-returns-in_ok-counted-in-Count-clause-same_fact g c = c.counted.ensures.same_fact
+pub returns-in_ok-counted-in-Count-clause-worked : goal.returns-in_ok-counted-in-Count-clause-worked
+returns-in_ok-counted-in-Count-clause-worked g c = c.counted.ensures.worked
 
 pub returns-in-Ring : goal.returns-in-Ring
 returns-in-Ring g c =
@@ -62,10 +50,7 @@ returns-in-Ring g c =
     record {
       share = subst (λ p. IfOk c.worked.result (λ s. IsShareOf p c.args.number s.items)) is e.share;
       err = part_of_worked c.worked.result c.args.program (subst Awaits is tt) e.err;
-      ready = e.ready;
-      led = e.led;
-      same_way = e.same_way;
-      same_fact = e.same_fact;
+      worked = e.worked;
     }
 
 pub returns-in-Stencil : goal.returns-in-Stencil
@@ -74,8 +59,5 @@ returns-in-Stencil g c =
     record {
       share = subst (λ p. IfOk c.worked-in-Stencil.result (λ s. IsShareOf p c.args.number s.items)) is e.share;
       err = part_of_worked c.worked-in-Stencil.result c.args.program (subst Awaits is tt) e.err;
-      ready = e.ready;
-      led = e.led;
-      same_way = e.same_way;
-      same_fact = e.same_fact;
+      worked = e.worked;
     }

@@ -3,6 +3,7 @@ use Rattle.std.proofs.lemmas.Bool.{false≢true}
 use Rattle.sci_work.specs.Made.{ComesInWork, none}
 use Rattle.sci_work.specs.Ring.{IsRingSize}
 use Rattle.sci_work.proofs.Residual.{if_ok_same, on_ok_same}
+use Rattle.sci_work.proofs.Worked.{still_not}
 use Rattle.sci_work.proofs.rings.consuming.consume.Goals as goal
 
 pub returns-then-not-is_ring_size : goal.returns-then-not-is_ring_size
@@ -13,10 +14,8 @@ returns-then-not-is_ring_size g c =
       items = tt;
       ok = tt;
       err = λ size. absurd (false≢true (c.if-not-is_ring_size.ensures.1 size));
-      ready = c.requires.ready;
+      still = still_not c.requires.ready;
       made = record { count = 0; within = omega arith; made = none };
-      same_way = refl;
-      same_fact = refl;
     }
 
 pub returns : goal.returns
@@ -30,8 +29,6 @@ returns g c =
       items = if_ok_same _ _ _ c.told.ensures ended.items;
       ok = on_ok_same _ _ _ c.told.ensures ended.ok;
       err = λ _. subst (λ r. IfErr r ComesInWork) same ended.err;
-      ready = ended.ready;
       made = ended.made;
-      same_way = ended.same_way;
-      same_fact = ended.same_fact;
+      still = ended.still;
     }

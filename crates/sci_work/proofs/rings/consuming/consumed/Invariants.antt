@@ -1,5 +1,5 @@
 use Rattle.std.proofs.Common.{◌≡◌, ℕ, ◌≤◌, List, length, take, vec_items}
-use Rattle.sci_work.specs.Made.{IsBankOf, Made}
+use Rattle.sci_work.specs.Made.{IsStillBankOf, Made}
 use Rattle.sci_work.specs.Ring.{IsRing, count_writes}
 use Rattle.sci_work.proofs.rings.consuming.consumed.Given as goal
 
@@ -7,8 +7,6 @@ abbrev pub invariant-loop-i : goal.invariant-loop-i
 invariant-loop-i g l =
     record {
       items : (source : List ℕ) → IsRing (g.B.Keep.Keeps.fits (g.B.Bank.keep l.fn.bank)) source l.lines → l.n ≤ length source → vec_items l.items ≡ take l.i source;
-      ready : IsBankOf (g.B.Bank.way l.bank) l.node;
+      still : IsStillBankOf g.B.Bank.way g.B.Bank.keep l.fn.bank l.node l.bank;
       made : Made g.B.Bank.gives g.B.Bank.at_step (count_writes l.lines l.i) l.fn.node l.fn.bank l.node l.bank;
-      way : g.B.Bank.way l.bank ≡ g.B.Bank.way l.fn.bank;
-      fact : g.B.Bank.keep l.bank ≡ g.B.Bank.keep l.fn.bank;
     }

@@ -11,10 +11,8 @@ returns-in_err-words g c =
     record {
       value = IfOk-from_err r.result _ r.ensures.0;
       err = passed_on r.result _ _ r.ensures.1 (of_call _ c.in_err-words.ensures.err);
-      ready = e.ready;
       made = e.made;
-      same_way = e.same_way;
-      same_fact = e.same_fact;
+      still = e.still;
     }
 
 pub returns-then-words-number : goal.returns-then-words-number
@@ -23,14 +21,12 @@ returns-then-words-number g c =
     record {
       value = λ source ring. value_shown source c.args.lines line words c.args.i c.line_of-line.ensures.inside (ring.gives line words c.in_ok-words.ensures.fits) c.if-words-number.true;
       err = tt;
-      ready = e.ready;
       made = e.made;
-      same_way = e.same_way;
-      same_fact = e.same_fact;
+      still = e.still;
     }
 
 pub returns : goal.returns
-returns g c = let e = c.reached.ensures in record { value = tt; err = tt; ready = e.ready; made = e.made; same_way = e.same_way; same_fact = e.same_fact }
+returns g c = let e = c.reached.ensures in record { value = tt; err = tt; made = e.made; still = e.still }
 
 pub reached-requires-clause-line : goal.reached-requires-clause-line
 reached-requires-clause-line g c κs within = let room = c.requires.room.1 in omega (arith, c.line_of-line.ensures.inside, room)

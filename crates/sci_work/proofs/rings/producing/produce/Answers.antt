@@ -3,6 +3,7 @@ use Rattle.std.proofs.lemmas.Bool.{false≢true}
 use Rattle.sci_work.specs.Made.{ComesInCall, none}
 use Rattle.sci_work.specs.Ring.{IsRingSize}
 use Rattle.sci_work.proofs.Residual.{on_ok_same}
+use Rattle.sci_work.proofs.Worked.{still_not}
 use Rattle.sci_work.proofs.rings.producing.produce.Goals as goal
 
 pub returns-then-not-is_ring_size : goal.returns-then-not-is_ring_size
@@ -12,10 +13,8 @@ returns-then-not-is_ring_size g c =
       untouched = λ _. (refl, refl);
       ok = tt;
       err = λ size. absurd (false≢true (c.if-not-is_ring_size.ensures.1 size));
-      ready = c.requires.ready;
+      still = still_not c.requires.ready;
       made = record { count = 0; within = omega arith; made = none };
-      same_way = refl;
-      same_fact = refl;
     }
 
 pub returns : goal.returns
@@ -28,8 +27,6 @@ returns g c =
       untouched = λ no. absurd (no size);
       ok = on_ok_same _ _ _ c.told.ensures ended.ok;
       err = λ _. subst (λ r. IfErr r ComesInCall) same ended.err;
-      ready = ended.ready;
       made = ended.made;
-      same_way = ended.same_way;
-      same_fact = ended.same_fact;
+      still = ended.still;
     }

@@ -1,14 +1,15 @@
-use Rattle.std.proofs.Common.{◌≡◌, ◌<◌, ◌%◌, ℕ, List, length, refl, sym, subst, ◌∙◌, arith}
+use Rattle.std.proofs.Common.{◌≡◌, ◌<◌, ◌%◌, ℕ, List, length, sym, subst, ◌∙◌, arith}
 use Rattle.std.proofs.lemmas.Result.{IfOk-from_err}
 use Rattle.sci_work.specs.Made.{Made, none}
 use Rattle.sci_work.specs.Ring.{FitsRing, item_writes}
 use Rattle.sci_work.proofs.Making.{made_all}
 use Rattle.sci_work.proofs.Items.{item_fits, item_more}
 use Rattle.sci_work.proofs.Residual.{passed_on}
+use Rattle.sci_work.proofs.Worked.{still_not, still_then}
 use Rattle.sci_work.proofs.rings.producing.produced.Goals as goal
 
 pub loop-i-init : goal.loop-i-init
-loop-i-init g c = record { ready = c.requires.ready; made = none; way = refl; fact = refl }
+loop-i-init g c = record { still = still_not c.requires.ready; made = none }
 
 pub returns-in_err-free : goal.returns-in_err-free
 returns-in_err-free g c =
@@ -16,10 +17,8 @@ returns-in_err-free g c =
     record {
       ok = IfOk-from_err r.result _ r.ensures.0;
       err = passed_on r.result _ _ r.ensures.1 c.in_err-free.ensures.err;
-      ready = c.free.ensures.ready;
       made = record { count = c.loop-i.i; within = c.loop-i.auto.i-end; made = made_all g.B.Bank.gives g.B.Bank.at_step c.loop-i.invariant.made c.free.ensures.made };
-      same_way = c.free.ensures.same_way ∙ c.loop-i.invariant.way;
-      same_fact = c.free.ensures.same_fact ∙ c.loop-i.invariant.fact;
+      still = still_then c.loop-i.invariant.still c.free.ensures.still;
     }
 
 pub returns-in_err-written : goal.returns-in_err-written
@@ -28,26 +27,22 @@ returns-in_err-written g c =
     record {
       ok = IfOk-from_err r.result _ r.ensures.0;
       err = passed_on r.result _ _ r.ensures.1 c.in_err-written.ensures.err;
-      ready = c.written.ensures.ready;
       made = record {
         count = c.loop-i.i;
         within = c.loop-i.auto.i-end;
         made = made_all g.B.Bank.gives g.B.Bank.at_step (made_all g.B.Bank.gives g.B.Bank.at_step c.loop-i.invariant.made c.free.ensures.made) c.in_err-written.ensures.none;
       };
-      same_way = c.written.ensures.same_way ∙ c.free.ensures.same_way ∙ c.loop-i.invariant.way;
-      same_fact = c.written.ensures.same_fact ∙ c.free.ensures.same_fact ∙ c.loop-i.invariant.fact;
+      still = still_then (still_then c.loop-i.invariant.still c.free.ensures.still) c.written.ensures.still;
     }
 
 pub loop-i-preserved : goal.loop-i-preserved
 loop-i-preserved g c =
     let more = made_all g.B.Bank.gives g.B.Bank.at_step (made_all g.B.Bank.gives g.B.Bank.at_step c.loop-i.invariant.made c.free.ensures.made) c.in_ok-written.ensures.made in
     record {
-      ready = c.written.ensures.ready;
       made =
           subst (λ (ws : List (ℕ × List ℕ)). Made g.B.Bank.gives g.B.Bank.at_step ws c.args.node.now c.args.bank.now c.written.new.node c.written.new.bank)
           (item_more c.args.source.now c.args.lines c.loop-i.i _ _ c.line_of-line.ensures.place c.words_of.ensures) more;
-      way = c.written.ensures.same_way ∙ c.free.ensures.same_way ∙ c.loop-i.invariant.way;
-      fact = c.written.ensures.same_fact ∙ c.free.ensures.same_fact ∙ c.loop-i.invariant.fact;
+      still = still_then (still_then c.loop-i.invariant.still c.free.ensures.still) c.written.ensures.still;
     }
 
 pub returns : goal.returns
@@ -57,24 +52,22 @@ returns g c =
     record {
       ok = subst (λ (k : ℕ). Made g.B.Bank.gives g.B.Bank.at_step (item_writes c.args.source.now c.args.lines k) c.args.node.now c.args.bank.now c.loop-i.node c.loop-i.bank) all i.made;
       err = tt;
-      ready = i.ready;
       made = record { count = c.loop-i.i; within = c.loop-i.auto.i-end; made = i.made };
-      same_way = i.way;
-      same_fact = i.fact;
+      still = i.still;
     }
 
 pub free-requires-clause-ready : goal.free-requires-clause-ready
-free-requires-clause-ready g c κs within = c.loop-i.invariant.ready
+free-requires-clause-ready g c κs within = c.loop-i.invariant.still.ready
 
 pub free-requires-clause-room : goal.free-requires-clause-room
-free-requires-clause-room g c κs within = subst (λ w. c.args.lines < w.lines) (sym c.loop-i.invariant.way) c.requires.room
+free-requires-clause-room g c κs within = subst (λ w. c.args.lines < w.lines) (sym c.loop-i.invariant.still.same_way) c.requires.room
 
 pub written-requires-clause-ready : goal.written-requires-clause-ready
-written-requires-clause-ready g c κs within = c.free.ensures.ready
+written-requires-clause-ready g c κs within = c.free.ensures.still.ready
 
 pub written-requires-clause-line : goal.written-requires-clause-line
 written-requires-clause-line g c κs within =
-    subst (λ w. c.line_of-line.result < w.lines) (sym (c.free.ensures.same_way ∙ c.loop-i.invariant.way)) (omega (arith, c.line_of-line.ensures.inside, c.requires.room))
+    subst (λ w. c.line_of-line.result < w.lines) (sym (c.free.ensures.still.same_way ∙ c.loop-i.invariant.still.same_way)) (omega (arith, c.line_of-line.ensures.inside, c.requires.room))
 
 pub written-requires-clause-fits : goal.written-requires-clause-fits
 written-requires-clause-fits g c κs within =
@@ -82,4 +75,4 @@ written-requires-clause-fits g c κs within =
     let some = c.requires.size.1 in
     let item = item_fits source lines i (omega (arith, some)) c.loop-i-test.true in
     let there = subst (λ (k : ℕ). FitsRing source lines k words) (sym c.line_of-line.ensures.place) (subst (λ (ws : List ℕ). FitsRing source lines (i % lines) ws) (sym c.words_of.ensures) item) in
-    subst (λ k. g.B.Keep.Keeps.fits k line words) (sym (c.free.ensures.same_fact ∙ c.loop-i.invariant.fact)) (c.requires.ring.takes line words there)
+    subst (λ k. g.B.Keep.Keeps.fits k line words) (sym (c.free.ensures.still.same_fact ∙ c.loop-i.invariant.still.same_fact)) (c.requires.ring.takes line words there)

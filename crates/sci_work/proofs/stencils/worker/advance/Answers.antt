@@ -5,52 +5,46 @@ use Rattle.sci_work.specs.Stencil.{FitsStencil}
 use Rattle.sci_work.proofs.Exits.{passed_on}
 use Rattle.sci_work.proofs.Refusing.{of_call}
 use Rattle.sci_work.proofs.Showing.{advanced_holds, fitting, work_again}
-use Rattle.sci_work.proofs.Rests.{led_then}
-use Rattle.sci_work.proofs.Resting.{ready_written}
+use Rattle.sci_work.proofs.Resting.{worked_written}
+use Rattle.sci_work.proofs.Worked.{may_call, worked_then}
 use Rattle.sci_work.proofs.stencils.worker.advance.Goals as goal
 
 pub returns-in_err-own : goal.returns-in_err-own
 returns-in_err-own g c =
     let own = c.awaited.ensures in let r = c.from_residual in
-    record { err = passed_on r.result _ ComesInWork r.ensures.1 c.in_err-own.ensures.err; ready = own.ready; led = own.led; same_way = own.same_way; same_fact = own.same_fact }
+    record { err = passed_on r.result _ ComesInWork r.ensures.1 c.in_err-own.ensures.err; worked = own.worked }
 
 pub cell_before-requires-clause-work : goal.cell_before-requires-clause-work
 cell_before-requires-clause-work g c κs within = let own = c.awaited.ensures in let work = c.args.work in
-    work_again g.B.Keep.Keeps.fits work.cells.now work.phases work.tiles _ _ _ _ own.same_fact own.same_way c.requires.work
+    work_again g.B.Keep.Keeps.fits work.cells.now work.phases work.tiles _ _ _ _ own.worked.same_fact own.worked.same_way c.requires.work
 
 pub returns-in_err-left : goal.returns-in_err-left
 returns-in_err-left g c =
     let own = c.awaited.ensures in let left = c.cell_before.ensures in let r = c.from_residual-in_err-left in
     record {
       err = passed_on r.result _ ComesInWork r.ensures.1 c.in_err-left.ensures.err;
-      ready = left.ready;
-      led = led_then own.led left.led;
-      same_way = left.same_way ∙ own.same_way;
-      same_fact = left.same_fact ∙ own.same_fact;
+      worked = worked_then own.worked left.worked;
     }
 
 pub cell_behind-requires-clause-work : goal.cell_behind-requires-clause-work
 cell_behind-requires-clause-work g c κs within =
     let own = c.awaited.ensures in let left = c.cell_before.ensures in let work = c.args.work in
-    work_again g.B.Keep.Keeps.fits work.cells.now work.phases work.tiles _ _ _ _ (left.same_fact ∙ own.same_fact) (left.same_way ∙ own.same_way) c.requires.work
+    work_again g.B.Keep.Keeps.fits work.cells.now work.phases work.tiles _ _ _ _ (left.worked.same_fact ∙ own.worked.same_fact) (left.worked.same_way ∙ own.worked.same_way) c.requires.work
 
 pub returns-in_err-right : goal.returns-in_err-right
 returns-in_err-right g c =
     let own = c.awaited.ensures in let left = c.cell_before.ensures in let right = c.cell_behind.ensures in let r = c.from_residual-in_err-right in
     record {
       err = passed_on r.result _ ComesInWork r.ensures.1 c.in_err-right.ensures.err;
-      ready = right.ready;
-      led = led_then (led_then own.led left.led) right.led;
-      same_way = right.same_way ∙ left.same_way ∙ own.same_way;
-      same_fact = right.same_fact ∙ left.same_fact ∙ own.same_fact;
+      worked = worked_then (worked_then own.worked left.worked) right.worked;
     }
 
 pub written-requires-clause-ready : goal.written-requires-clause-ready
-written-requires-clause-ready g c κs within = let r = c.cell_behind.ensures.ready in record { node = r.node; lines = r.lines; closed = r.free }
+written-requires-clause-ready g c κs within = may_call c.cell_behind.ensures.worked.ready
 
 pub written-requires-clause-line : goal.written-requires-clause-line
 written-requires-clause-line g c κs within =
-    let same = c.cell_behind.ensures.same_way ∙ c.cell_before.ensures.same_way ∙ c.awaited.ensures.same_way in
+    let same = c.cell_behind.ensures.worked.same_way ∙ c.cell_before.ensures.worked.same_way ∙ c.awaited.ensures.worked.same_way in
     let low = c.requires.tile in let lines = c.requires.work.lines_are in
     subst (λ w. c.line_at-line.result < w.lines) (sym same) (omega (arith, low, lines, c.line_at-line.ensures))
 
@@ -58,7 +52,7 @@ pub written-requires-clause-fits : goal.written-requires-clause-fits
 written-requires-clause-fits g c κs within =
     let work = c.requires.work in let cells = c.args.work.cells.now in let tile = c.args.tile in let phase = c.args.phase in
     let whole = work.whole in
-    let same = c.cell_behind.ensures.same_fact ∙ c.cell_before.ensures.same_fact ∙ c.awaited.ensures.same_fact in
+    let same = c.cell_behind.ensures.worked.same_fact ∙ c.cell_before.ensures.worked.same_fact ∙ c.awaited.ensures.worked.same_fact in
     let next = c.advanced.result in
     let number = c.in_ok-own.ensures.number in
     let holds = advanced_holds cells phase tile c.in_ok-left.left c.in_ok-own.own c.in_ok-right.right next c.in_ok-own.ensures.cells c.in_ok-left.ensures.cell c.in_ok-right.ensures.cell (omega arith) c.advanced.ensures.cells in
@@ -73,12 +67,9 @@ line_at-line-requires g c = let low = c.requires.tile in let few = c.requires.wo
 pub returns : goal.returns
 returns g c =
     let own = c.awaited.ensures in let left = c.cell_before.ensures in let right = c.cell_behind.ensures in let last = c.written.ensures in
-    let b = ready_written g.B.Bank.gives g.B.Bank.at_step g.B.Bank.nodes_on (λ u line. g.B.Keep.Keeps.fits (g.B.Bank.keep u) line) (λ u. (g.B.Bank.way u).node) (λ u line call v h. g.met.B.Bank.owes u line call v h) (λ u line call v h. g.met.B.Bank.others u line call v h)
-    (g.B.Bank.way c.cell_behind.new.bank) _ c.written.result _ right.ready last.ready last.made last.none in
+    let b = worked_written g.B.Bank.gives g.B.Bank.at_step g.B.Bank.nodes_on (λ u line. g.B.Keep.Keeps.fits (g.B.Bank.keep u) line) (λ u. (g.B.Bank.way u).node) (λ u line call v h. g.met.B.Bank.owes u line call v h) (λ u line call v h. g.met.B.Bank.others u line call v h)
+    c.written.result _ right.worked.ready last.still last.made last.none in
     record {
       err = IfErr-weaker c.written.result ComesInCall ComesInWork of_call last.err;
-      ready = b.0;
-      led = led_then (led_then (led_then own.led left.led) right.led) b.1;
-      same_way = last.same_way ∙ right.same_way ∙ left.same_way ∙ own.same_way;
-      same_fact = last.same_fact ∙ right.same_fact ∙ left.same_fact ∙ own.same_fact;
+      worked = worked_then (worked_then (worked_then own.worked left.worked) right.worked) b;
     }

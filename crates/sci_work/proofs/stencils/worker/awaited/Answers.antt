@@ -5,11 +5,12 @@ use Rattle.sci_work.specs.Stencil.{FitsStencil}
 use Rattle.sci_work.proofs.Exits.{passed_on}
 use Rattle.sci_work.proofs.Refusing.{of_call}
 use Rattle.sci_work.proofs.Showing.{shown}
-use Rattle.sci_work.proofs.Resting.{ready_made}
+use Rattle.sci_work.proofs.Resting.{worked_made}
+use Rattle.sci_work.proofs.Worked.{may_call}
 use Rattle.sci_work.proofs.stencils.worker.awaited.Goals as goal
 
 pub reached-requires-clause-ready : goal.reached-requires-clause-ready
-reached-requires-clause-ready g c κs within = let r = c.requires.ready in record { node = r.node; lines = r.lines; closed = r.free }
+reached-requires-clause-ready g c κs within = may_call c.requires.ready
 
 pub line_at-line-requires : goal.line_at-line-requires
 line_at-line-requires g c = let low = c.requires.tile in let few = c.requires.work.few in omega (arith, low, few)
@@ -20,38 +21,32 @@ reached-requires-clause-line g c κs within = let low = c.requires.tile in let l
 pub returns-in_err-words : goal.returns-in_err-words
 returns-in_err-words g c =
     let e = c.reached.ensures in let r = c.from_residual in
-    let b = ready_made g.B.Bank.gives g.B.Bank.at_step g.B.Bank.nodes_on (λ u line. g.B.Keep.Keeps.fits (g.B.Bank.keep u) line) (λ u. (g.B.Bank.way u).node) (λ u line call v h. g.met.B.Bank.owes u line call v h) (λ u line call v h. g.met.B.Bank.others u line call v h)
-    (g.B.Bank.way c.args.bank.now) _ c.requires.ready e.ready e.made in
+    let b = worked_made g.B.Bank.gives g.B.Bank.at_step g.B.Bank.nodes_on (λ u line. g.B.Keep.Keeps.fits (g.B.Bank.keep u) line) (λ u. (g.B.Bank.way u).node) (λ u line call v h. g.met.B.Bank.owes u line call v h) (λ u line call v h. g.met.B.Bank.others u line call v h)
+    c.requires.ready e.still e.made in
     record {
       number = IfOk-from_err r.result _ r.ensures.0;
       cells = IfOk-from_err r.result _ r.ensures.0;
       err = passed_on r.result _ ComesInWork r.ensures.1 (of_call _ c.in_err-words.ensures.err);
-      ready = b.0;
-      led = b.1;
-      same_way = e.same_way;
-      same_fact = e.same_fact;
+      worked = b;
     }
 
 pub returns-then-words-number : goal.returns-then-words-number
 returns-then-words-number g c =
     let e = c.reached.ensures in let work = c.requires.work in
     let cells = c.args.work.cells.now in let phases = c.args.work.phases in let line = c.line_at-line.result in let words = c.in_ok-words.words in
-    let b = ready_made g.B.Bank.gives g.B.Bank.at_step g.B.Bank.nodes_on (λ u line. g.B.Keep.Keeps.fits (g.B.Bank.keep u) line) (λ u. (g.B.Bank.way u).node) (λ u line call v h. g.met.B.Bank.owes u line call v h) (λ u line call v h. g.met.B.Bank.others u line call v h)
-    (g.B.Bank.way c.args.bank.now) _ c.requires.ready e.ready e.made in
+    let b = worked_made g.B.Bank.gives g.B.Bank.at_step g.B.Bank.nodes_on (λ u line. g.B.Keep.Keeps.fits (g.B.Bank.keep u) line) (λ u. (g.B.Bank.way u).node) (λ u line call v h. g.met.B.Bank.owes u line call v h) (λ u line call v h. g.met.B.Bank.others u line call v h)
+    c.requires.ready e.still e.made in
     let there = subst (λ (l : ℕ). FitsStencil cells phases l words) c.line_at-line.ensures (work.gives line words c.in_ok-words.ensures.fits) in
     record {
       number = c.if-words-number.true;
       cells = shown cells phases c.args.tile (c.args.phase % 2) words c.args.phase (omega arith) there c.if-words-number.true;
       err = tt;
-      ready = b.0;
-      led = b.1;
-      same_way = e.same_way;
-      same_fact = e.same_fact;
+      worked = b;
     }
 
 pub returns : goal.returns
 returns g c =
     let e = c.reached.ensures in
-    let b = ready_made g.B.Bank.gives g.B.Bank.at_step g.B.Bank.nodes_on (λ u line. g.B.Keep.Keeps.fits (g.B.Bank.keep u) line) (λ u. (g.B.Bank.way u).node) (λ u line call v h. g.met.B.Bank.owes u line call v h) (λ u line call v h. g.met.B.Bank.others u line call v h)
-    (g.B.Bank.way c.args.bank.now) _ c.requires.ready e.ready e.made in
-    record { number = tt; cells = tt; err = tt; ready = b.0; led = b.1; same_way = e.same_way; same_fact = e.same_fact }
+    let b = worked_made g.B.Bank.gives g.B.Bank.at_step g.B.Bank.nodes_on (λ u line. g.B.Keep.Keeps.fits (g.B.Bank.keep u) line) (λ u. (g.B.Bank.way u).node) (λ u line call v h. g.met.B.Bank.owes u line call v h) (λ u line call v h. g.met.B.Bank.others u line call v h)
+    c.requires.ready e.still e.made in
+    record { number = tt; cells = tt; err = tt; worked = b }

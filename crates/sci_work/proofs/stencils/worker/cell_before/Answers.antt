@@ -1,19 +1,16 @@
-use Rattle.std.proofs.Common.{◌≡◌, ℕ, ◌+◌, ◌-◌, ◌*◌, suc, ◌∷◌, slice_index, arith, ap, refl, sym, ◌∙◌}
+use Rattle.std.proofs.Common.{◌≡◌, ℕ, ◌+◌, ◌-◌, ◌*◌, suc, ◌∷◌, slice_index, arith, ap, sym, ◌∙◌}
 use Rattle.std.proofs.lemmas.Result.{IfOk-from_err}
 use Rattle.sci_work.specs.Made.{ComesInWork}
 use Rattle.sci_work.specs.Plain.{plain}
 use Rattle.sci_work.proofs.Exits.{passed_on}
-use Rattle.sci_work.proofs.Rests.{led_not}
+use Rattle.sci_work.proofs.Worked.{worked_not}
 use Rattle.sci_work.proofs.stencils.worker.cell_before.Goals as goal
 
 pub returns-then-tile-eq0 : goal.returns-then-tile-eq0
 returns-then-tile-eq0 g c = record {
   cell = ap (λ (t : ℕ). slice_index (0 ∷ plain c.args.work.cells.now c.args.phase) (7 * t)) (sym c.if-tile-eq0.true);
   err = tt;
-  ready = c.requires.ready;
-  led = led_not _;
-  same_way = refl;
-  same_fact = refl;
+  worked = worked_not c.requires.ready;
 }
 
 pub returns : goal.returns
@@ -23,13 +20,10 @@ returns g c =
     record {
       cell = c.in_ok-words.ensures.cells 6 (omega arith) ∙ ap (λ (i : ℕ). slice_index (0 ∷ plain c.args.work.cells.now c.args.phase) i) at;
       err = tt;
-      ready = e.ready;
-      led = e.led;
-      same_way = e.same_way;
-      same_fact = e.same_fact;
+      worked = e.worked;
     }
 
 pub returns-in_err-words : goal.returns-in_err-words
 returns-in_err-words g c =
     let e = c.awaited.ensures in let r = c.from_residual in
-    record { cell = IfOk-from_err r.result _ r.ensures.0; err = passed_on r.result _ ComesInWork r.ensures.1 c.in_err-words.ensures.err; ready = e.ready; led = e.led; same_way = e.same_way; same_fact = e.same_fact }
+    record { cell = IfOk-from_err r.result _ r.ensures.0; err = passed_on r.result _ ComesInWork r.ensures.1 c.in_err-words.ensures.err; worked = e.worked }

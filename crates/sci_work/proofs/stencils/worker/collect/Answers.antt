@@ -1,11 +1,11 @@
-use Rattle.std.proofs.Common.{rules, ◌≡◌, ◌+◌, ◌<◌, arith, refl, ◌∙◌, sym, subst, vec_items, List, ℕ, length, length-drop, drop, ◌++◌}
+use Rattle.std.proofs.Common.{rules, ◌≡◌, ◌+◌, ◌<◌, arith, ◌∙◌, sym, subst, vec_items, List, ℕ, length, length-drop, drop, ◌++◌}
 use Rattle.std.proofs.lemmas.List.{take_all}
 use Rattle.std.proofs.Math.Nat.{add-mod_right, add-div_right, div-eq_of_lt, mod-eq_of_lt}
 use Rattle.std.proofs.lemmas.Result.{IfOk-from_err}
 use Rattle.sci_work.specs.declared.refusals.WorkRefusal.{WorkRefusal}
 use Rattle.sci_work.specs.Made.{ComesInWork}
 use Rattle.sci_work.proofs.Exits.{passed_on}
-use Rattle.sci_work.proofs.Rests.{led_not, led_then}
+use Rattle.sci_work.proofs.Worked.{worked_not, worked_then}
 use Rattle.sci_work.proofs.Seated.{count_of}
 use Rattle.sci_work.proofs.Sharing.{none_shared, shared_more}
 use Rattle.sci_work.specs.Plain.{plain}
@@ -16,17 +16,14 @@ pub loop-tile-init : goal.loop-tile-init
 loop-tile-init g c =
     let low = c.requires.nodes.0 in let none = div-eq_of_lt low in
     record {
-      ready = c.requires.ready;
-      led = led_not _;
-      same_fact = refl;
-      same_way = refl;
+      worked = worked_not c.requires.ready;
       own = mod-eq_of_lt low;
       size = omega (arith, none);
       shared = none_shared (plain c.args.work.cells.now c.args.work.phases) c.args.work.nodes c.args.number _ low;
     }
 
 pub awaited-requires-clause-work : goal.awaited-requires-clause-work
-awaited-requires-clause-work g c κs within = rw (c.loop-tile.invariant.same_fact, c.loop-tile.invariant.same_way) c.requires.work
+awaited-requires-clause-work g c κs within = rw (c.loop-tile.invariant.worked.same_fact, c.loop-tile.invariant.worked.same_way) c.requires.work
 
 pub returns-in_err-words : goal.returns-in_err-words
 returns-in_err-words g c =
@@ -34,10 +31,7 @@ returns-in_err-words g c =
     record {
       share = IfOk-from_err r.result _ r.ensures.0;
       err = passed_on r.result _ ComesInWork r.ensures.1 c.in_err-words.ensures.err;
-      ready = e.ready;
-      led = led_then was.led e.led;
-      same_way = e.same_way ∙ was.same_way;
-      same_fact = e.same_fact ∙ was.same_fact;
+      worked = worked_then was.worked e.worked;
     }
 
 pub returns-in_err-extend_from_slice : goal.returns-in_err-extend_from_slice
@@ -46,10 +40,7 @@ returns-in_err-extend_from_slice g c =
     record {
       share = IfOk-from_err r.result _ r.ensures.0;
       err = passed_on r.result WorkRefusal.OutOfMemory ComesInWork r.ensures.1 tt;
-      ready = e.ready;
-      led = led_then was.led e.led;
-      same_way = e.same_way ∙ was.same_way;
-      same_fact = e.same_fact ∙ was.same_fact;
+      worked = worked_then was.worked e.worked;
     }
 
 pub returns : goal.returns
@@ -58,10 +49,7 @@ returns g c =
     record {
       share = λ tile j below mine low. was.shared tile j (omega (arith, below, c.loop-tile-test.false)) mine low;
       err = tt;
-      ready = was.ready;
-      led = was.led;
-      same_way = was.same_way;
-      same_fact = was.same_fact;
+      worked = was.worked;
     }
 
 pub loop-tile-preserved : goal.loop-tile-preserved
@@ -74,10 +62,7 @@ loop-tile-preserved g c =
     let eight : length c.in_ok-words.words ≡ 8 = search rules in
     let more = shared_more (plain c.args.work.cells.now c.args.work.phases) n c.args.number tile share c.in_ok-words.words some was.own (sym (count_of c.loop-tile.share) ∙ was.size) eight was.shared c.in_ok-words.ensures.cells in
     record {
-      same_fact = c.awaited.ensures.same_fact ∙ was.same_fact;
-      same_way = c.awaited.ensures.same_way ∙ was.same_way;
-      ready = c.awaited.ensures.ready;
-      led = led_then was.led c.awaited.ensures.led;
+      worked = worked_then was.worked c.awaited.ensures.worked;
       own = add-mod_right tile n ∙ was.own;
       size = let h = was.size in omega (arith, c.in_ok-extend_from_slice.ensures.len, one, length-drop 1 c.in_ok-words.words);
       shared =

@@ -2,14 +2,11 @@ use Rattle.std.proofs.Common.{◌≡◌, ◌-◌, ◌*◌, ◌/◌, ◌%◌, vec
 use Rattle.sci_work.specs.Shares.{IsShare}
 use Rattle.sci_work.specs.Plain.{plain}
 use Rattle.sci_work.proofs.stencils.worker.collect.Given as goal
-use Rattle.sci_work.specs.Workers.{IsReady, Led}
+use Rattle.sci_work.specs.Workers.{HasWorked}
 
 abbrev pub invariant-loop-tile : goal.invariant-loop-tile
 invariant-loop-tile g l = record {
-  ready : IsReady g.B.Bank.at_step (g.B.Bank.way l.bank) l.node l.bank;
-  led : Led g.B.Bank.gives l.fn.bank l.bank;
-  same_fact : g.B.Bank.keep l.bank ≡ g.B.Bank.keep l.fn.bank;
-  same_way : g.B.Bank.way l.bank ≡ g.B.Bank.way l.fn.bank;
+  worked : HasWorked g.B.Bank.way g.B.Bank.keep g.B.Bank.at_step g.B.Bank.gives l.fn.bank l.node l.bank;
   own : l.tile % l.fn.work.nodes ≡ l.fn.number;
   size : vec_len l.share ≡ 7 * (l.tile / l.fn.work.nodes);
   shared : IsShare (plain l.fn.work.cells.now l.fn.work.phases) l.fn.work.nodes l.fn.number l.tile (vec_items l.share);

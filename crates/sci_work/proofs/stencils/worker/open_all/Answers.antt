@@ -1,36 +1,36 @@
-use Rattle.std.proofs.Common.{refl, ◌∙◌, arith}
+use Rattle.std.proofs.Common.{arith}
 use Rattle.sci_work.specs.Made.{ComesInWork}
 use Rattle.sci_work.proofs.Exits.{passed_on}
 use Rattle.sci_work.proofs.Refusing.{of_call}
 use Rattle.sci_work.proofs.Showing.{opens}
-use Rattle.sci_work.proofs.Rests.{led_not, led_then}
-use Rattle.sci_work.proofs.Resting.{ready_made}
+use Rattle.sci_work.proofs.Resting.{worked_made}
+use Rattle.sci_work.proofs.Worked.{may_call, worked_not, worked_then}
 use Rattle.sci_work.proofs.stencils.worker.open_all.Goals as goal
 
 pub loop-tile-init : goal.loop-tile-init
-loop-tile-init g c = (refl, refl, c.requires.ready, led_not _)
+loop-tile-init g c = worked_not c.requires.ready
 
 pub written-requires-clause-ready : goal.written-requires-clause-ready
-written-requires-clause-ready g c κs within = let r = c.loop-tile.invariant.2 in record { node = r.node; lines = r.lines; closed = r.free }
+written-requires-clause-ready g c κs within = may_call c.loop-tile.invariant.ready
 
 pub written-requires-clause-fits : goal.written-requires-clause-fits
 written-requires-clause-fits g c κs within =
     let work = c.requires.work in let whole = work.whole in
-    rw c.loop-tile.invariant.0 (work.takes _ _ (opens c.args.work.cells.now c.args.work.phases c.loop-tile.tile c.opening-words.result (omega arith) (omega arith) c.opening-words.ensures.phase (rw c.from.ensures at c.opening-words.ensures.cells)))
+    rw c.loop-tile.invariant.same_fact (work.takes _ _ (opens c.args.work.cells.now c.args.work.phases c.loop-tile.tile c.opening-words.result (omega arith) (omega arith) c.opening-words.ensures.phase (rw c.from.ensures at c.opening-words.ensures.cells)))
 
 pub returns-in_err-written : goal.returns-in_err-written
 returns-in_err-written g c =
     let was = c.loop-tile.invariant in let e = c.written.ensures in let r = c.from_residual in
-    let b = ready_made g.B.Bank.gives g.B.Bank.at_step g.B.Bank.nodes_on (λ u line. g.B.Keep.Keeps.fits (g.B.Bank.keep u) line) (λ u. (g.B.Bank.way u).node) (λ u line call v h. g.met.B.Bank.owes u line call v h) (λ u line call v h. g.met.B.Bank.others u line call v h)
-    (g.B.Bank.way c.loop-tile.bank) _ was.2 e.ready c.in_err-written.ensures.none in
-    record { err = passed_on r.result _ ComesInWork r.ensures.1 (of_call _ c.in_err-written.ensures.err); ready = b.0; led = led_then was.3 b.1; same_way = e.same_way ∙ was.1; same_fact = e.same_fact ∙ was.0 }
+    let b = worked_made g.B.Bank.gives g.B.Bank.at_step g.B.Bank.nodes_on (λ u line. g.B.Keep.Keeps.fits (g.B.Bank.keep u) line) (λ u. (g.B.Bank.way u).node) (λ u line call v h. g.met.B.Bank.owes u line call v h) (λ u line call v h. g.met.B.Bank.others u line call v h)
+    was.ready e.still c.in_err-written.ensures.none in
+    record { err = passed_on r.result _ ComesInWork r.ensures.1 (of_call _ c.in_err-written.ensures.err); worked = worked_then was b }
 
 pub loop-tile-preserved : goal.loop-tile-preserved
 loop-tile-preserved g c =
     let was = c.loop-tile.invariant in let e = c.written.ensures in
-    let b = ready_made g.B.Bank.gives g.B.Bank.at_step g.B.Bank.nodes_on (λ u line. g.B.Keep.Keeps.fits (g.B.Bank.keep u) line) (λ u. (g.B.Bank.way u).node) (λ u line call v h. g.met.B.Bank.owes u line call v h) (λ u line call v h. g.met.B.Bank.others u line call v h)
-    (g.B.Bank.way c.loop-tile.bank) _ was.2 e.ready c.in_ok-written.ensures.made in
-    (e.same_fact ∙ was.0, e.same_way ∙ was.1, b.0, led_then was.3 b.1)
+    let b = worked_made g.B.Bank.gives g.B.Bank.at_step g.B.Bank.nodes_on (λ u line. g.B.Keep.Keeps.fits (g.B.Bank.keep u) line) (λ u. (g.B.Bank.way u).node) (λ u line call v h. g.met.B.Bank.owes u line call v h) (λ u line call v h. g.met.B.Bank.others u line call v h)
+    was.ready e.still c.in_ok-written.ensures.made in
+    worked_then was b
 
 pub returns : goal.returns
-returns g c = let was = c.loop-tile.invariant in record { err = tt; ready = was.2; led = was.3; same_way = was.1; same_fact = was.0 }
+returns g c = let was = c.loop-tile.invariant in record { err = tt; worked = was }
