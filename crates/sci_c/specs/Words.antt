@@ -10,7 +10,7 @@ use Rattle.sci_c.specs.declared.faults.Fault.{Fault}
 use Rattle.sci_c.specs.declared.faults.Fault.TheVariants.{Word}
 use Rattle.sci_c.specs.declared.words.TagNumbers.{TagNumbers}
 use Rattle.sci_c.specs.declared.words.MemNumbers.{MemNumbers}
-use Rattle.sci_c.specs.Links.{link_number}
+use Rattle.sci_c.specs.Links.{link_number, IsTag, IsMem}
 
 abbrev pub tag_numbers : Tag → TagNumbers
 tag_numbers t = record { kind = kind_number t.kind; held = bit t.held; forw = link_number t.forw; back = link_number t.back }
@@ -24,6 +24,13 @@ tag_sum n = n.kind + 16 * n.held + 65536 * n.forw + 4294967296 * n.back
 
 abbrev pub mem_sum : MemNumbers → ℕ
 mem_sum n = n.state + 16 * n.lent + 65536 * n.forw
+
+-- the number whose fields these are is a tag's, and each part fits its field
+abbrev pub IsTagSum : TagNumbers → ℕ → Type 0
+IsTagSum n w = (n.kind < 16) × (n.held < 2) × (w ≡ tag_sum n) × (t : Tag) × IsTag w t
+
+abbrev pub IsMemSum : MemNumbers → ℕ → Type 0
+IsMemSum n w = (n.state < 16) × (n.lent < 2) × (w ≡ mem_sum n) × (m : Mem) × IsMem w m
 
 -- why a number is no tag's, or no memory word's: the lowest refusal that applies
 abbrev pub IsNoTag : ℕ → Fault → Type 0

@@ -12,14 +12,12 @@ pub enum Fault {
     NotInTurn,
     /// 27: the acting node isn't one of the line.
     NoSuchNode,
-    /// 28: these are the numbers of no step.
+    /// 28: these are the numbers of no pending step.
     NoSuchStep,
     /// 29: these are the numbers of no event.
     NoSuchEvent,
     /// 30: the row would have a word that is none, or the word or the slot of a node that isn't one of the line.
     NoSuchRow,
-    /// 31: the text has no room for the name and the zero behind it.
-    NoRoom,
 }
 
 impl Fault {
@@ -38,7 +36,6 @@ impl Fault {
             Fault::NoSuchStep => 28,
             Fault::NoSuchEvent => 29,
             Fault::NoSuchRow => 30,
-            Fault::NoRoom => 31,
         }
     }
 }

@@ -12,6 +12,8 @@ mod links;
 mod rows;
 mod steps;
 mod table;
+#[cfg(test)]
+mod tests;
 mod words;
 
 pub use events::EventNumbers;

@@ -4,7 +4,7 @@ ghost use Rattle.sci_words.specs.declared.tags.Tag as a_tag;
 ghost use Rattle.sci_words.specs.declared.memory.Mem as a_mem;
 ghost use Rattle.sci_words.specs.Codes.{kind_number, state_number};
 ghost use Rattle.sci_c.specs.Links.{IsTag, IsMem};
-ghost use Rattle.sci_c.specs.Words.{tag_numbers, mem_numbers, tag_sum, mem_sum, IsNoTag, IsNoMem, IsNoTagSum, IsNoMemSum};
+ghost use Rattle.sci_c.specs.Words.{tag_numbers, mem_numbers, tag_sum, mem_sum, IsNoTag, IsNoMem, IsTagSum, IsMemSum, IsNoTagSum, IsNoMemSum};
 ghost use Rattle.sci_c.specs.Asking.{Tells};
 
 use crate::faults::Fault;
@@ -94,7 +94,7 @@ pub extern "C" fn sci_read_tag(word: u64, tag: &mut TagNumbers) -> u8
 }
 
 fn tag_sum(tag: &TagNumbers) -> Result<u64, Fault>
-    ensures ok { IfOk result (λ w. (w ≡ tag_sum tag.now) × (t : a_tag.Tag) × IsTag w t) }
+    ensures ok { IfOk result (λ w. IsTagSum tag.now w) }
     ensures err { IfErr result (λ f. IsNoTagSum tag.now f) }
 {
     if tag.kind > 15 {
@@ -114,7 +114,7 @@ fn tag_sum(tag: &TagNumbers) -> Result<u64, Fault>
 /// Writes a tag's code. Refused 1 to 5, where its parts are those of no tag, by the lowest that applies; 2 is a held bit above 1.
 #[unsafe(no_mangle)]
 pub extern "C" fn sci_write_tag(tag: &TagNumbers, word: &mut u64) -> u8
-    ensures { Tells result ((word.new ≡ tag_sum tag.now) × (t : a_tag.Tag) × IsTag word.new t) (λ f. IsNoTagSum tag.now f × (word.new ≡ word.old)) }
+    ensures { Tells result (IsTagSum tag.now word.new) (λ f. IsNoTagSum tag.now f × (word.new ≡ word.old)) }
 {
     match tag_sum(tag) {
         Ok(code) => {
@@ -154,7 +154,7 @@ pub extern "C" fn sci_read_mem(word: u64, mem: &mut MemNumbers) -> u8
 }
 
 fn mem_sum(mem: &MemNumbers) -> Result<u64, Fault>
-    ensures ok { IfOk result (λ w. (w ≡ mem_sum mem.now) × (m : a_mem.Mem) × IsMem w m) }
+    ensures ok { IfOk result (λ w. IsMemSum mem.now w) }
     ensures err { IfErr result (λ f. IsNoMemSum mem.now f) }
 {
     if mem.state > 15 {
@@ -174,7 +174,7 @@ fn mem_sum(mem: &MemNumbers) -> Result<u64, Fault>
 /// Writes a memory word's code. Refused 1 to 4, where its parts are those of no memory word; 2 is a lent bit above 1.
 #[unsafe(no_mangle)]
 pub extern "C" fn sci_write_mem(mem: &MemNumbers, word: &mut u64) -> u8
-    ensures { Tells result ((word.new ≡ mem_sum mem.now) × (m : a_mem.Mem) × IsMem word.new m) (λ f. IsNoMemSum mem.now f × (word.new ≡ word.old)) }
+    ensures { Tells result (IsMemSum mem.now word.new) (λ f. IsNoMemSum mem.now f × (word.new ≡ word.old)) }
 {
     match mem_sum(mem) {
         Ok(code) => {
