@@ -43,11 +43,9 @@ IsNoMem w _ = ⊥
 
 -- the same of parts, which may also be too great for their fields
 abbrev pub IsNoTagSum : TagNumbers → Fault → Type 0
-IsNoTagSum n (Word UnknownKind) = (15 < n.kind) ⊎ (tag_refusal (tag_sum n) ≡ Some UnknownKind)
-IsNoTagSum n (Word SpareBits) = (1 < n.held) ⊎ (tag_refusal (tag_sum n) ≡ Some SpareBits)
-IsNoTagSum n f = IsNoTag (tag_sum n) f
+IsNoTagSum n (Word r) = (tag_refusal (tag_sum n) ≡ Some r) ⊎ (((r ≡ UnknownKind) × (15 < n.kind)) ⊎ ((r ≡ SpareBits) × (1 < n.held)))
+IsNoTagSum n _ = ⊥
 
 abbrev pub IsNoMemSum : MemNumbers → Fault → Type 0
-IsNoMemSum n (Word UnknownKind) = (15 < n.state) ⊎ (mem_refusal (mem_sum n) ≡ Some UnknownKind)
-IsNoMemSum n (Word SpareBits) = (1 < n.lent) ⊎ (mem_refusal (mem_sum n) ≡ Some SpareBits)
-IsNoMemSum n f = IsNoMem (mem_sum n) f
+IsNoMemSum n (Word r) = (mem_refusal (mem_sum n) ≡ Some r) ⊎ (((r ≡ UnknownKind) × (15 < n.state)) ⊎ ((r ≡ SpareBits) × (1 < n.lent)))
+IsNoMemSum n _ = ⊥
