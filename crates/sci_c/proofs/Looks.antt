@@ -1,7 +1,7 @@
 -- Looks, and writes that are counted.
-use Rattle.std.proofs.Common.{◌≡◌, ℕ, ◌&&◌, Bool, true, false, refl, sym, ap, subst, ◌∙◌, Option, Some, None}
+use Rattle.std.proofs.Common.{◌≡◌, ℕ, ◌&&◌, Bool, true, false, refl, sym, ap, ◌∙◌, Option, Some, None}
 use Rattle.sci_words.specs.declared.tags.Tag.{Tag}
-use Rattle.sci_words.specs.Tag.{link_below, tag_well_formed, tag_links_below}
+use Rattle.sci_words.specs.Tag.{link_below, tag_links_below}
 use Rattle.sci_core.specs.declared.lines.Line.{Line}
 use Rattle.sci_core.specs.declared.pending.Pending.{Pending}
 use Rattle.sci_core.specs.declared.stages.Stage.{Stage}

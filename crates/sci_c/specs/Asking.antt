@@ -1,5 +1,5 @@
 -- What a node asks of the table in numbers, and what it is answered. This project's profile.
-use Rattle.std.specs.Prelude.{◌≡◌, ℕ, ◌<◌, ◌≤◌, ◌⊎◌, Bool, true, false, Option, Some}
+use Rattle.std.specs.Prelude.{◌≡◌, ℕ, ◌<◌, ◌≤◌, ◌⊎◌, true, false, Some}
 use Rattle.sci_words.specs.declared.tags.Tag.{Tag}
 use Rattle.sci_words.specs.Refused.{tag_refusal}
 use Rattle.sci_core.specs.declared.lines.Line.{Line}

@@ -1,6 +1,5 @@
 -- A row in numbers. This project's profile.
 use Rattle.std.specs.Prelude.{ℕ, Bool, true, ◌&&◌, ltb}
-use Rattle.sci_words.specs.declared.tags.Tag.{Tag}
 use Rattle.sci_words.specs.Codes.{tag_code, mem_code}
 use Rattle.sci_words.specs.Layout.{bit}
 use Rattle.sci_core.specs.declared.lines.Line.{Line}

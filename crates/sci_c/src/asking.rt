@@ -1,10 +1,8 @@
 //! What a node asks of the table.
-ghost use Rattle.std.specs.Prelude.{◌≡◌, true, IfOk, IfErr, MatchResult, Ok, Err};
+ghost use Rattle.std.specs.Prelude.{◌≡◌, IfOk, IfErr, Ok, Err};
 ghost use Rattle.sci_core.specs.Step.{is_look};
 ghost use Rattle.sci_core.specs.Stage.{pending_of};
 ghost use Rattle.sci_core.specs.Table.{has_row};
-ghost use Rattle.sci_core.specs.declared.stages.Stage as a_stage;
-ghost use Rattle.sci_c.specs.Faults.{fault_number};
 ghost use Rattle.sci_c.specs.Asking.{Asks, IsFault, Allows, Forbids, HasRow, HasNoRow, outline_at};
 
 use crate::events::{EventNumbers, read_event};

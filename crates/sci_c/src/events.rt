@@ -1,9 +1,9 @@
 //! The numbers of events.
 ghost use Rattle.std.specs.Prelude.{◌≡◌, ◌↔◌, true, false, IsTrue, MatchOption};
 ghost use Rattle.sci_core.specs.declared.events.Event as an_event;
-ghost use Rattle.sci_c.specs.Links.{IsTag, fits_tag};
+ghost use Rattle.sci_c.specs.Links.{fits_tag};
 ghost use Rattle.sci_words.specs.Tag.{link_below};
-ghost use Rattle.sci_c.specs.Events.{bare, linking, finding, writing, fits_event, event_numbers, words_meant, event_meant, IsEvent};
+ghost use Rattle.sci_c.specs.Events.{bare, linking, finding, writing, fits_event, words_meant, event_meant, IsEvent};
 
 use crate::links::{link_meant, link_number, tag_meant, tag_number};
 use sci_core::Event;

@@ -1,10 +1,8 @@
 //! The numbers of pending steps.
-ghost use Rattle.std.specs.Prelude.{◌≡◌, ◌↔◌, true, false, IsTrue, IfSome, IfNone, MatchOption, Option};
-ghost use Rattle.sci_words.specs.declared.tags.Tag as a_tag;
+ghost use Rattle.std.specs.Prelude.{◌≡◌, ◌↔◌, true, false, IsTrue, MatchOption, Option};
 ghost use Rattle.sci_core.specs.declared.stages.Stage as a_stage;
-ghost use Rattle.sci_words.specs.Tag.{link_below};
-ghost use Rattle.sci_c.specs.Links.{IsTag, fits_tag};
-ghost use Rattle.sci_c.specs.Steps.{plain, keeping, seeing, saw_link, saw_links, seen_meant, pair_meant, fits_seen, fits_pair, fits_step, step_numbers, stage_meant, IsStep};
+ghost use Rattle.sci_c.specs.Links.{fits_tag};
+ghost use Rattle.sci_c.specs.Steps.{plain, keeping, seeing, saw_link, saw_links, seen_meant, pair_meant, fits_seen, fits_pair, fits_step, stage_meant, IsStep};
 
 use crate::links::{bit, link_meant, link_number, node_meant, node_number, tag_meant, tag_number};
 use sci_core::Stage;

@@ -1,11 +1,11 @@
 //! The exports of the table.
-ghost use Rattle.std.specs.Prelude.{◌≡◌, ◌⊎◌, IfOk, IfErr};
+ghost use Rattle.std.specs.Prelude.{◌≡◌, IfOk, IfErr};
 ghost use Rattle.sci_core.specs.declared.stages.Stage as a_stage;
 ghost use Rattle.sci_core.specs.declared.events.Event as an_event;
 ghost use Rattle.sci_c.specs.declared.faults.Fault.TheVariants.{NoSuchStep, NoSuchEvent};
 ghost use Rattle.sci_c.specs.Steps.{IsStep};
 ghost use Rattle.sci_c.specs.Events.{IsEvent};
-ghost use Rattle.sci_c.specs.Rows.{line_of, line_numbers};
+ghost use Rattle.sci_c.specs.Rows.{line_of};
 ghost use Rattle.sci_c.specs.Asking.{Tells, Allows, Forbids, IsRow, IsNoRow, HasNoRow, IsLineAfter, Looks, IsNoLook};
 
 use crate::asking::{allow, find_row};

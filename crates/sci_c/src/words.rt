@@ -1,5 +1,5 @@
 //! The exports of the words' codec, in layout 2.
-ghost use Rattle.std.specs.Prelude.{◌≡◌, ◌⊎◌, IfOk, IfErr};
+ghost use Rattle.std.specs.Prelude.{◌≡◌, IfOk, IfErr};
 ghost use Rattle.sci_words.specs.declared.tags.Tag as a_tag;
 ghost use Rattle.sci_words.specs.declared.memory.Mem as a_mem;
 ghost use Rattle.sci_words.specs.Codes.{kind_number, state_number};
