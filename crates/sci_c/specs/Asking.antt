@@ -30,12 +30,12 @@ Tells number Fine IsThere = ((number ≡ 0) × Fine) ⊎ ((f : Fault) × (number
 abbrev pub Asks : ℕ → ℕ → StepNumbers → EventNumbers → Stage → Event → Type 0
 Asks me nodes step event s e = (0 < nodes) × (nodes ≤ 1024) × (me < nodes) × IsStep step s × IsEvent event e
 
--- what is wrong with what was handed over
+-- what is wrong with what was handed over: the first of these
 abbrev pub IsFault : ℕ → ℕ → StepNumbers → EventNumbers → Fault → Type 0
 IsFault me nodes step event BadNodes = (nodes ≡ 0) ⊎ (1024 < nodes)
-IsFault me nodes step event NoSuchNode = nodes ≤ me
-IsFault me nodes step event NoSuchStep = (s : Stage) → IsStep step s → ⊥
-IsFault me nodes step event NoSuchEvent = (e : Event) → IsEvent event e → ⊥
+IsFault me nodes step event NoSuchNode = (0 < nodes) × (nodes ≤ 1024) × (nodes ≤ me)
+IsFault me nodes step event NoSuchStep = (0 < nodes) × (nodes ≤ 1024) × (me < nodes) × ((s : Stage) → IsStep step s → ⊥)
+IsFault me nodes step event NoSuchEvent = (0 < nodes) × (nodes ≤ 1024) × (me < nodes) × ((s : Stage) × IsStep step s) × ((e : Event) → IsEvent event e → ⊥)
 IsFault me nodes step event _ = ⊥
 
 -- the step allows the event
@@ -81,6 +81,6 @@ Looks old own new = (s : Stage) × (t : Tag) × IsStep old s × IsTag own t × I
 
 -- or why it records nothing
 abbrev pub IsNoLook : StepNumbers → ℕ → Fault → Type 0
-IsNoLook step own (Word r) = tag_refusal own ≡ Some r
+IsNoLook step own (Word r) = ((s : Stage) × IsStep step s) × (tag_refusal own ≡ Some r)
 IsNoLook step own NoSuchStep = (s : Stage) → IsStep step s → ⊥
 IsNoLook step own _ = ⊥
