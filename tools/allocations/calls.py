@@ -4,7 +4,8 @@ A row names calls, as `read_tag` or `Whole::{mem, tag}`; whether they take memor
 `no`; and where that is seen: tests, as `sci_line_tests::whole::growths::refused_growths`, or `in` calls that are made of these.
 
 A public call is a `pub fn` or a trait's `fn` that lib.rt hands on by its name or by the name of its type, or that a public module has:
-a function of a public module is named with it, as `layout1::read_tag`. Each must stand in one row, and each name of a row must be one.
+a function of a public module is named with it, as `layout1::read_tag`. An export of a static library is one too, whatever module it
+stands in. Each must stand in one row, and each name of a row must be one.
 A call that takes memory must be in the growths of a test that its row names, or be `in` calls that are. Where an allocator comes in, and
 the call takes no memory, a test must say so, in a file that names the call. A call that has an allocator or changes itself, and of which
 a test of its crate's rows has growths, takes memory. A call may wait where a bound says `Wait`. What lib.rt hands on it must name one by
@@ -13,7 +14,7 @@ one, and under their own names.
 
 import re
 
-ITEM = re.compile(r"(?m)^(?:(impl|pub trait|pub struct|pub enum)\b(.*)$|( *)(?:(pub )?)(?:const )?(?:unsafe )?fn (\w+))")
+ITEM = re.compile(r"(?m)^(?:(impl|pub trait|pub struct|pub enum)\b(.*)$|( *)(?:(pub )?)(?:const )?(?:unsafe )?(extern \"C\" )?fn (\w+))")
 USES = re.compile(r"pub use [\w:]+::(?:\{(\s*\w+(?:,\s*\w+)*,?\s*)\}|(\w+));")
 # what stands in a lib.rt and isn't read: names handed on in another form, and functions
 UNREAD = re.compile(r"(?m)^ *(pub use [^;]*;|(?:pub )?(?:const )?(?:unsafe )?fn \w+)")
@@ -63,11 +64,11 @@ def calls_of(crate):
         text, owner, is_trait = file.read_text(encoding="utf-8"), None, False
         module = file.stem if file.parent.name == "src" and file.stem in modules else None
         for item in ITEM.finditer(text):
-            kind, head, indent, is_public, name = item.groups()
+            kind, head, indent, is_public, is_export, name = item.groups()
             if kind:
                 owner, is_trait = (type_of(head) if kind in ("impl", "pub trait") else None), kind == "pub trait"
                 continue
-            is_handed_on = (owner if indent else name) in public or (module and not indent)
+            is_handed_on = (owner if indent else name) in public or (module and not indent) or is_export
             if is_handed_on and (is_public or (is_trait and indent)):
                 text_of = signature(text, item.end())
                 call = f"{owner if indent else module}::{name}" if indent or module else name

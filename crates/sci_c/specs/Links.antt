@@ -1,0 +1,36 @@
+-- The numbers of links and of tags. This project's profile.
+use Rattle.std.specs.Prelude.{◌≡◌, ℕ, ◌==◌, Bool, true, ◌&&◌, cond, Option, Some, None}
+use Rattle.sci_words.specs.declared.tags.Tag.{Tag}
+use Rattle.sci_words.specs.declared.memory.Mem.{Mem}
+use Rattle.sci_words.specs.Codes.{tag_code, mem_code}
+use Rattle.sci_words.specs.Tag.{tag_well_formed, tag_links_below}
+use Rattle.sci_words.specs.Mem.{mem_well_formed, mem_links_below}
+
+-- the number of a link, as in a word: 65,535 stands for none
+abbrev pub link_number : Option ℕ → ℕ
+link_number None = 65535
+link_number (Some node) = node
+
+-- the link that a number means
+abbrev pub link_meant : ℕ → Option ℕ
+link_meant n = cond (n == 65535) None (Some n)
+
+-- the node that a number means, and 0 where it means none
+abbrev pub node_meant : ℕ → ℕ
+node_meant n = cond (n == 65535) 0 n
+
+-- a tag has a code: it is well formed, and its links name nodes
+abbrev pub fits_tag : Tag → Bool
+fits_tag t = tag_well_formed t && tag_links_below 65535 t
+
+-- a memory word has a code
+abbrev pub fits_mem : Mem → Bool
+fits_mem m = mem_well_formed m && mem_links_below 65535 m
+
+-- the word is the code of this tag, in layout 2
+abbrev pub IsTag : ℕ → Tag → Type 0
+IsTag w t = (tag_code t ≡ w) × (fits_tag t ≡ true)
+
+-- the word is the code of this memory word, in layout 2
+abbrev pub IsMem : ℕ → Mem → Type 0
+IsMem w m = (mem_code m ≡ w) × (fits_mem m ≡ true)
