@@ -1,0 +1,5 @@
+//! The tests of the search of turns.
+#![tactic(auto)]
+
+#[cfg(test)]
+mod search;
