@@ -143,11 +143,15 @@ fn works<R: Abort + Wait>(rt: &R, alloc: Global) -> Result<(), Fail> {
         return Err(Fail::new("new answered 7"));
     };
     produces(rt, &mut node, &mut bank, &items)?;
-    consumes(rt, alloc, &mut node, &mut bank, &items)
+    // a node that names no line yet: its read takes memory too
+    let Ok(mut reader) = Node::new(alloc, me, 2, 2) else {
+        return Err(Fail::new("new answered 7"));
+    };
+    consumes(rt, alloc, &mut reader, &mut bank, &items)
 }
 
 /// Growths: 9 of count, 1 thread of count, 13 of count, 17 of stencil, 1 thread of stencil, 20 of stencil,
-/// 48 of ring or its threads, 7 of open, 6 of new, 1 of produce, 2 of consume.
+/// 48 of ring or its threads, 7 of open, 6 of new, 1 of produce, 6 of new, 3 of consume.
 #[test]
 fn refused_growths(rt: HostRuntime) -> Result<(), Fail> {
     let alloc = rt.alloc();

@@ -1,15 +1,17 @@
 //! A node over a bank of lines, and seats that make no bank.
-ghost use Rattle.std.specs.Prelude.{◌≡◌, IfOk, IfSome, [], ◌∷◌};
+ghost use Rattle.std.specs.Prelude.{◌≡◌, Some, IfOk, IfSome, [], ◌∷◌};
 ghost use Rattle.sci_coarse.specs.Banks.{AreLines, AreSeatsOf, IsLine};
 ghost use Rattle.sci_coarse.specs.Seats.{IsSeatOf};
+ghost use Rattle.sci_port.specs.declared.calls.Call.TheVariants.{MemWas};
+ghost use Rattle.sci_port.specs.SeatBanks.{MakesCall};
 
 use crate::checks::same;
 use sci_cache::Node;
 use sci_coarse::{CoarseBank, CoarseLine, Seat, SeatOfAnother};
 use sci_core::{AnyWords, Line};
 use sci_ops::Answer;
-use sci_port::Bank;
-use sci_words::{Kind, LineNo, MemState};
+use sci_port::{Bank, SeatBank, SharedLine};
+use sci_words::{Kind, LineNo, Mem, MemState};
 use std::alloc::Global;
 use std::process::Abort;
 use std::sync::Wait;
@@ -112,6 +114,16 @@ fn works<R: Abort + Wait, B: Bank<Keep = AnyWords>>(
     Ok(())
 }
 
+/// The memory word of a line by a bank of seats: the seat at the line has made this very call, and every other seat is as it was.
+fn mem_by<L: SharedLine>(bank: &mut SeatBank<'_, L>, line: LineNo) -> Option<Mem>
+    ensures made { IfSome result (λ mem. MakesCall L.makes bank.old.seats.items line (MemWas (Some mem)) bank.new.seats.items) }
+{
+    if line >= bank.lines() {
+        return None;
+    }
+    bank.mem(line)
+}
+
 /// The seats are those of lines 0, 1 and so on.
 fn are_in_order(rt: &impl Abort, seats: &[Seat<AnyWords>]) {
     for (place, seat) in seats.iter().enumerate() {
@@ -128,6 +140,8 @@ fn a_node_works_over_a_bank(rt: HostRuntime) -> Result<(), Fail> {
     };
     same(&rt, &(bank.node().get(), bank.lines()), &(0, 2));
     works(&rt, rt.alloc(), &mut bank)?;
+    let home = Some(MemState::Home);
+    same(&rt, &mem_by(&mut bank, 0).map(|mem| mem.state), &home);
     let seats = bank.into_seats();
     same(&rt, &seats.len(), &2);
     are_in_order(&rt, &seats);
