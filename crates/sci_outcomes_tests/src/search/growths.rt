@@ -5,7 +5,7 @@ use sci_outcomes::SearchRefusal;
 use std::process::Abort;
 use std::test::Fail;
 
-/// Growths: 1 of search.
+/// Growths: 16 of search.
 #[test]
 fn refused_growths(rt: HostRuntime) -> Result<(), Fail> {
     let Err(refusal) = finds(&rt, rt.alloc(), 7) else {
