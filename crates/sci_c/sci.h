@@ -102,12 +102,12 @@ static inline const char *sci_tag_name(const sci_tag *tag) {
         if (tag->kind == SCI_DIRTY) return "HEAD_DIRTY";
         if (tag->kind == SCI_VALID) return "MID_VALID";
     }
-    return names[tag->kind];
+    return tag->kind < 10 ? names[tag->kind] : "";
 }
 
 static inline const char *sci_mem_name(const sci_mem *mem) {
     static const char *const names[] = {"HOME", "FRESH", "GONE"};
-    return names[mem->state];
+    return mem->state < 3 ? names[mem->state] : "";
 }
 
 static inline const char *sci_step_name(uint8_t step) {

@@ -2,12 +2,15 @@
  *
  *     table three_sharers|purge_by_steps|rollout_before_write [log]
  *
- * It prints what that script of examples/ prints; with `log` instead the log of its events, as `scisim follow` reads it. */
+ * It prints what that script of examples/ prints; with `log` instead its events, one a line. */
 #include <stdio.h>
 #include <stdlib.h>
 #include <string.h>
 
 #include "sci.h"
+
+/* The library and this compiler lay structs out alike. */
+_Static_assert(sizeof(sci_tag) == 6 && sizeof(sci_mem) == 4 && sizeof(sci_line) == 72 && sizeof(sci_step) == 24 && sizeof(sci_event) == 80 && sizeof(sci_row) == 48, "layout");
 
 enum { NODES = 3, MOST_TURNS = 100000 };
 typedef enum { WAITS, MOVED, ENDED } turned;

@@ -1,5 +1,5 @@
 -- The parts of words, in numbers. This project's profile of IEEE Std 1596-1992.
-use Rattle.std.specs.Prelude.{◌≡◌, ℕ, ◌+◌, ◌*◌, ◌<◌, ◌⊎◌, Some}
+use Rattle.std.specs.Prelude.{◌≡◌, ℕ, ◌+◌, ◌*◌, ◌<◌, ◌≤◌, ◌⊎◌, Some}
 use Rattle.sci_words.specs.declared.tags.Tag.{Tag}
 use Rattle.sci_words.specs.declared.memory.Mem.{Mem}
 use Rattle.sci_words.specs.declared.refusals.WordRefusal.TheVariants.{UnknownKind, SpareBits}
@@ -41,11 +41,11 @@ abbrev pub IsNoMem : ℕ → Fault → Type 0
 IsNoMem w (Word r) = mem_refusal w ≡ Some r
 IsNoMem w _ = ⊥
 
--- the same of parts, which may also be too great for their fields
+-- the same of parts, whose held or lent may also be no bit: the lowest refusal that applies
 abbrev pub IsNoTagSum : TagNumbers → Fault → Type 0
-IsNoTagSum n (Word r) = (tag_refusal (tag_sum n) ≡ Some r) ⊎ (((r ≡ UnknownKind) × (15 < n.kind)) ⊎ ((r ≡ SpareBits) × (1 < n.held)))
+IsNoTagSum n (Word r) = ((r ≡ UnknownKind) × (9 < n.kind)) ⊎ (((n.kind ≤ 9) × (1 < n.held) × (r ≡ SpareBits)) ⊎ ((n.kind ≤ 9) × (n.held ≤ 1) × (tag_refusal (tag_sum n) ≡ Some r)))
 IsNoTagSum n _ = ⊥
 
 abbrev pub IsNoMemSum : MemNumbers → Fault → Type 0
-IsNoMemSum n (Word r) = (mem_refusal (mem_sum n) ≡ Some r) ⊎ (((r ≡ UnknownKind) × (15 < n.state)) ⊎ ((r ≡ SpareBits) × (1 < n.lent)))
+IsNoMemSum n (Word r) = ((r ≡ UnknownKind) × (2 < n.state)) ⊎ (((n.state ≤ 2) × (1 < n.lent) × (r ≡ SpareBits)) ⊎ ((n.state ≤ 2) × (n.lent ≤ 1) × (mem_refusal (mem_sum n) ≡ Some r)))
 IsNoMemSum n _ = ⊥

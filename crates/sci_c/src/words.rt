@@ -97,7 +97,7 @@ fn tag_sum(tag: &TagNumbers) -> Result<u64, Fault>
     ensures ok { IfOk result (λ w. IsTagSum tag.now w) }
     ensures err { IfErr result (λ f. IsNoTagSum tag.now f) }
 {
-    if tag.kind > 15 {
+    if tag.kind > 9 {
         return Err(Fault::Word(WordRefusal::UnknownKind));
     }
     if tag.held > 1 {
@@ -157,7 +157,7 @@ fn mem_sum(mem: &MemNumbers) -> Result<u64, Fault>
     ensures ok { IfOk result (λ w. IsMemSum mem.now w) }
     ensures err { IfErr result (λ f. IsNoMemSum mem.now f) }
 {
-    if mem.state > 15 {
+    if mem.state > 2 {
         return Err(Fault::Word(WordRefusal::UnknownKind));
     }
     if mem.lent > 1 {
@@ -171,7 +171,8 @@ fn mem_sum(mem: &MemNumbers) -> Result<u64, Fault>
     }
 }
 
-/// Writes a memory word's code. Refused 1 to 4, where its parts are those of no memory word; 2 is a lent bit above 1.
+/// Writes a memory word's code. Refused 1 to 4, where its parts are those of no memory word, by the lowest that applies; 2 is a lent
+/// bit above 1.
 #[unsafe(no_mangle)]
 pub extern "C" fn sci_write_mem(mem: &MemNumbers, word: &mut u64) -> u8
     ensures { Tells result (IsMemSum mem.now word.new) (λ f. IsNoMemSum mem.now f × (word.new ≡ word.old)) }

@@ -59,7 +59,7 @@ fn passed(line: Line) -> Receipt {
 /// The mark, an event and what it came to, how many receipts there are then, and the last of them.
 type Row = (bool, Event, Outcome, usize, Receipt);
 
-// A write that settles twice on its way, its exit, a load, a copy of the own bytes; and events that append nothing.
+// A write that settles twice on its way, a load, a copy of the own bytes; and events that append nothing.
 fn rows() -> [Row; 9] {
     let (zero, one) = (Line::ZERO, SEVEN_AT_1);
     let wrote = Receipt::Wrote {

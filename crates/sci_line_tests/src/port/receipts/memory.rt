@@ -1,6 +1,6 @@
 //! Receipts take memory in `reserve` alone, and there only for room that there isn't. tools/allocations runs this test with the
 //! allocation of its last line refused, and wants it to fail there, and there alone.
-use super::{SEVEN_AT_1, passes_again, receives, with_room};
+use super::{SEVEN_AT_1, passes_again, receives, rows, with_room};
 use crate::checks::{allocates, same};
 use sci_core::{Event, Line, Outcome};
 use sci_port::Receipts;
@@ -23,15 +23,26 @@ fn passes(receipts: &mut Receipts) -> Option<u32> {
     Some(count)
 }
 
+// Each kind of receipt, and events that append none: how many receipts there are then.
+fn receives_each(receipts: &mut Receipts) -> Option<usize> {
+    for row in rows() {
+        let (passing, event, outcome, _, _) = row;
+        receipts.aim(passing);
+        receives(receipts, event, &SEVEN_AT_1, &outcome)?;
+    }
+    Some(receipts.as_slice().len())
+}
+
 #[test]
 fn receipts_take_no_memory(rt: HostRuntime) -> Result<(), Fail> {
     // The room takes one, and receipts without any take none.
     let none = Receipts::new(rt.alloc());
     same(&rt, &none.room(), &0);
     same(&rt, &none.last_passed(), &false);
-    let mut receipts = with_room(rt.alloc(), 2)?;
+    let mut receipts = with_room(rt.alloc(), 5)?;
     same(&rt, &passes(&mut receipts), &Some(ROUNDS));
-    same(&rt, &receipts.into_vec().len(), &1);
+    same(&rt, &receives_each(&mut receipts), &Some(4));
+    same(&rt, &receipts.into_vec().len(), &4);
     allocates(&rt, rt.alloc(), "allocation 2 is refused");
     Ok(())
 }
