@@ -32,9 +32,8 @@ happens. Look is always allowed; where it has no number it records nothing.
 LIST = """
 ## The rows
 
-An event that is in turn finds the word before, and puts the word after in its place; or it *misses*, and changes nothing. `f`, `g` and
-`b` are any links. `Fresh/Dirty` is Dirty where the step is dirty, else Fresh, and so is `FRESH/GONE`; for Leave the step is dirty where
-the tag was Dirty.
+`f`, `g` and `b` are any links. `Fresh/Dirty` is Dirty where the step is dirty, else Fresh, and so is `FRESH/GONE`; for Leave the step is
+dirty where the tag was Dirty.
 
 """
 MEMORY = """
