@@ -18,30 +18,28 @@ FOUND = set(re.findall(r'(?m)^    (\w+)\(Tag\),', read('src', 'events.rt')))
 NAMES = {'target': 'x', 'line': '', 'seen': 'anything', 'back': 'b', 'old': 'g', 'forw': 'f'}
 HEAD = """# Which event in which state
 
-For one who writes such a protocol, or looks for what may happen next. `python3 tools/law states` writes this page from the rows of
-[tools/law/rows.py](../tools/law/rows.py), of which the prover checks that they are the table of exchanges and keep the law; the gate
-compares it. [PROTOCOL.md](PROTOCOL.md) has the same rows by topic, with what each is for, and the signs used here: `K(f,b)` is a tag,
-`-` no link, `+` held or lent, `me` the acting node, `x` another one.
+`python3 tools/law states` writes this page from the rows of [tools/law/rows.py](../tools/law/rows.py), of which the prover checks that
+they are the table of exchanges and keep the law; the gate compares it. [PROTOCOL.md](PROTOCOL.md) has the same rows by topic, with what
+each is for, and the signs used here. `x` is another node.
 
 ## Which row, by the pending step
 
-A number is the row's in the list below. Where there is none, the event isn't in turn: the node's step doesn't allow it, and nothing
-happens. Look is always allowed; where it has no number it records nothing.
+A number is the row's in the list below. Where there is none, the event isn't in turn. Look is always allowed; where it has no number it
+records nothing.
 
 """
 LIST = """
 ## The rows
 
-An event that is in turn finds the word before, and puts the word after in its place; or it *misses*, and changes nothing. `f`, `g` and
-`b` are any links. `Fresh/Dirty` is Dirty where the step is dirty, else Fresh, and so is `FRESH/GONE`; for Leave the step is dirty where
-the tag was Dirty.
+`f`, `g` and `b` are any links. `Fresh/Dirty` is Dirty where the step is dirty, else Fresh, and so is `FRESH/GONE`; for Leave the step is
+dirty where the tag was Dirty.
 
 """
 MEMORY = """
 ## On memory's word
 
 What becomes of an event that is in turn, by the word that it finds: the row's number, where that word names whom the row says, or a
-miss. While memory is lent every event misses but ReturnMemory, which never misses in a lawful state: nobody else changes a lent word.
+miss. While memory is lent every event misses but ReturnMemory, which never misses in a lawful state.
 
 """
 TAGS = """
