@@ -22,7 +22,7 @@ enum { /* the answers of calls */
     SCI_NO_NODE = 27,       /* the acting node isn't below the number of nodes */
     SCI_NO_STEP = 28,       /* these are the numbers of no step */
     SCI_NO_EVENT = 29,      /* these are the numbers of no event */
-    SCI_NO_ROW = 30         /* the row would have a word that is none, or name another node than those of the line */
+    SCI_NO_ROW = 30         /* the row would have a word that is none, or the word or slot of a node that isn't of the line */
 };
 
 enum { /* kinds of tags */
