@@ -4,6 +4,8 @@
 mod entries;
 mod follower;
 mod lines;
+mod runs;
 
 pub use entries::{Claim, Deviation, Entry};
 pub use lines::Follower;
+pub use runs::Departure;

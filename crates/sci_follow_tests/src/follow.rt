@@ -8,7 +8,7 @@ mod memory;
 
 use crate::checks::same_at;
 use sci_core::{Event, Line};
-use sci_follow::{Claim, Deviation, Entry, Follower};
+use sci_follow::{Claim, Departure, Deviation, Entry, Follower};
 use sci_script::Size;
 use sci_words::{Kind, NodeId, Tag};
 use std::alloc::{AllocError, Global};
@@ -50,6 +50,21 @@ pub(crate) fn take(follower: &mut Follower, entry: &Entry) -> Option<Result<(), 
     let Size { nodes, lines } = follower.size();
     if entry.node.get() < nodes && entry.line < lines {
         Some(follower.take(entry))
+    } else {
+        None
+    }
+}
+
+/// What is said of entries, if their nodes and lines are there.
+pub(crate) fn follow(follower: &mut Follower, entries: &[Entry]) -> Option<Result<(), Departure>>
+    ensures size { follower.new.size ≡ follower.old.size }
+{
+    let Size { nodes, lines } = follower.size();
+    if entries
+        .iter()
+        .all(|entry| entry.node.get() < nodes && entry.line < lines)
+    {
+        Some(follower.follow(entries))
     } else {
         None
     }
@@ -187,5 +202,36 @@ fn misses_tell_the_word_found(rt: HostRuntime) -> Result<(), Fail> {
     for (entry, want) in missing().iter() {
         same_at(&rt, entry, &take(&mut follower, entry), &Some(*want));
     }
+    Ok(())
+}
+
+#[test]
+fn a_log_is_followed_to_its_first_departure(rt: HostRuntime) -> Result<(), Fail> {
+    let mut follower = two_lines(rt.alloc())?;
+    let log = two_loads();
+    same_at(&rt, &"a log", &follow(&mut follower, &log), &Some(Ok(())));
+    let want = Departure {
+        place: 0,
+        why: Deviation::NotInTurn,
+    };
+    same_at(
+        &rt,
+        &"behind it",
+        &follow(&mut follower, &log),
+        &Some(Err(want)),
+    );
+    let mut fresh = two_lines(rt.alloc())?;
+    let mut doubled = two_loads();
+    doubled[5] = doubled[4];
+    let want = Departure {
+        place: 5,
+        why: Deviation::NotInTurn,
+    };
+    same_at(
+        &rt,
+        &"doubled",
+        &follow(&mut fresh, &doubled),
+        &Some(Err(want)),
+    );
     Ok(())
 }

@@ -1,6 +1,6 @@
 //! Entries take no memory. tools/allocations runs this test with the allocation of its last line refused, and wants it to fail
 //! there, and there alone.
-use super::{entry, take, two_lines};
+use super::{entry, follow, take, two_lines};
 use crate::checks::{allocates, same};
 use sci_core::{Event, Line};
 use sci_follow::{Claim, Follower};
@@ -22,6 +22,8 @@ fn passes(rt: &impl Abort, follower: &mut Follower) {
         let look = entry(1, Event::Look, Claim::Done);
         same(rt, &take(follower, &look), &Some(Ok(())));
     }
+    let looks = [entry(1, Event::Look, Claim::Done); 64];
+    same(rt, &follow(follower, &looks), &Some(Ok(())));
 }
 
 #[test]
