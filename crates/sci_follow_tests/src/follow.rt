@@ -210,9 +210,10 @@ fn a_log_is_followed_to_its_first_departure(rt: HostRuntime) -> Result<(), Fail>
     let mut follower = two_lines(rt.alloc())?;
     let log = two_loads();
     same_at(&rt, &"a log", &follow(&mut follower, &log), &Some(Ok(())));
+    // node 0 may queue, but its tag isn't Invalid any more
     let want = Departure {
         place: 0,
-        why: Deviation::NotInTurn,
+        why: Deviation::AnotherWord,
     };
     same_at(
         &rt,
