@@ -55,7 +55,7 @@ impl Node {
         let Some(bound) = NonZeroUsize::new(usize::from(capacity)) else {
             return Err(NodeRefusal::BadCapacity);
         };
-        let Ok(table) = LruCache::new(alloc, bound) else {
+        let Ok(table) = LruCache::sparse(alloc, bound) else {
             return Err(NodeRefusal::OutOfMemory);
         };
         Ok(Node {
@@ -83,6 +83,7 @@ impl Node {
     /// Opens a call. A request other than Evict makes its line the most recent; where it is new and the table full, the last
     /// leaves the table and becomes the victim. The refusals: 14, 12, 10, then 7; none changes anything. An eviction, and a
     /// line that the table names, take no memory.
+    #[inline(always)]
     pub fn begin(&mut self, request: Request) -> Result<(), NodeRefusal>
         ensures refused { IfErr result (IsRefused self.old request) }
         ensures accepted { OnOk result (refusal_of self.old request ≡ None) }

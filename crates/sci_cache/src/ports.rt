@@ -11,6 +11,7 @@ use sci_port::{At, Bank};
 use sci_words::LineNo;
 
 /// One turn of the operation on the line, over the bank's port to it.
+#[inline(always)]
 pub(crate) fn turn_at<B: Bank>(bank: &mut B, line: LineNo, op: &mut Op) -> Turn
     requires line { line < (B.way bank.old).lines }
     requires fits { StoresFitting (B.Keep.fits (B.keep bank.old) line) op.old.goal }

@@ -1,11 +1,11 @@
 //! Calls of a node that wait for their end.
-ghost use Rattle.std.specs.Prelude.{◌≡◌, ℕ, IfOk};
+ghost use Rattle.std.specs.Prelude.{◌≡◌};
 ghost use Rattle.sci_ops.specs.declared.goals.Goal as goal;
 ghost use Rattle.sci_ops.specs.declared.goals.Write as write;
 ghost use Rattle.sci_ops.specs.Change.{StoresFitting};
 ghost use Rattle.sci_cache.specs.declared.requests.Request as request;
 ghost use Rattle.sci_cache.specs.Requests.{line_of, goal_of};
-ghost use Rattle.sci_cache.specs.Nodes.{Waits, IsAnswerTo, IsIdleBut, LeavesIdle, IsSameNode};
+ghost use Rattle.sci_cache.specs.Called.{HasCalled};
 
 use crate::node::Node;
 use crate::refusals::NodeRefusal;
@@ -18,6 +18,7 @@ use std::sync::Wait;
 
 impl Node {
     // Begins a call, and takes its turns to the end.
+    #[inline(always)]
     fn call<B: Bank, R: Wait>(
         &mut self,
         rt: &R,
@@ -27,14 +28,7 @@ impl Node {
         requires node { (B.way bank.old).node ≡ self.old.id }
         requires lines { (B.way bank.old).lines ≡ self.old.lines }
         requires fits { StoresFitting (B.Keep.fits (B.keep bank.old) (line_of request)) (goal_of request) }
-        ensures waits { Waits B.gives B.at_step self.old request bank.old result bank.new self.new }
-        ensures same_node { IsSameNode self.old self.new }
-        ensures content { IfOk result (λ answer. IsAnswerTo (B.Keep.fits (B.keep bank.old) (line_of request)) (goal_of request) answer) }
-        ensures idle { LeavesIdle result (B.at_step bank.new (line_of request)) }
-        ensures rest { IsIdleBut self.old.call (B.at_step bank.old) → IsIdleBut self.new.call (B.at_step bank.new) }
-        ensures same_way { B.way bank.new ≡ B.way bank.old }
-        ensures same_nodes { (m : ℕ) → B.nodes_on bank.new m ≡ B.nodes_on bank.old m }
-        ensures same_fact { B.keep bank.new ≡ B.keep bank.old }
+        ensures { HasCalled B.way B.nodes_on B.keep B.Keep.fits B.gives B.at_step self.old request bank.old result bank.new self.new }
     {
         if let Err(refusal) = self.begin(request) {
             return Err(refusal);
@@ -53,6 +47,7 @@ impl Node {
     }
 
     /// Sees the line: Seen, with words that fit. It may wait for ever. The refusals: those of `begin`, which change nothing.
+    #[inline(always)]
     pub fn load<B: Bank, R: Wait>(
         &mut self,
         rt: &R,
@@ -61,20 +56,14 @@ impl Node {
     ) -> Result<Answer, NodeRefusal>
         requires node { (B.way bank.old).node ≡ self.old.id }
         requires lines { (B.way bank.old).lines ≡ self.old.lines }
-        ensures waits { Waits B.gives B.at_step self.old (request.Request.Load line) bank.old result bank.new self.new }
-        ensures same_node { IsSameNode self.old self.new }
-        ensures content { IfOk result (λ answer. IsAnswerTo (B.Keep.fits (B.keep bank.old) line) goal.Goal.Load answer) }
-        ensures idle { LeavesIdle result (B.at_step bank.new line) }
-        ensures rest { IsIdleBut self.old.call (B.at_step bank.old) → IsIdleBut self.new.call (B.at_step bank.new) }
-        ensures same_way { B.way bank.new ≡ B.way bank.old }
-        ensures same_nodes { (m : ℕ) → B.nodes_on bank.new m ≡ B.nodes_on bank.old m }
-        ensures same_fact { B.keep bank.new ≡ B.keep bank.old }
+        ensures { HasCalled B.way B.nodes_on B.keep B.Keep.fits B.gives B.at_step self.old (request.Request.Load line) bank.old result bank.new self.new }
     {
         self.call(rt, bank, Request::Load { line })
     }
 
     /// Replaces a word, 0 to 7, by this value: Wrote. It may wait for ever. The refusals: those of `begin`, which change nothing,
     /// and 11 for a line whose stamp counts no more writes, which keeps its words.
+    #[inline(always)]
     pub fn store<B: Bank, R: Wait>(
         &mut self,
         rt: &R,
@@ -86,20 +75,14 @@ impl Node {
         requires node { (B.way bank.old).node ≡ self.old.id }
         requires lines { (B.way bank.old).lines ≡ self.old.lines }
         requires fits { StoresFitting (B.Keep.fits (B.keep bank.old) line) (goal.Goal.Write (write.Write.Store word value)) }
-        ensures waits { Waits B.gives B.at_step self.old (request.Request.Store line word value) bank.old result bank.new self.new }
-        ensures same_node { IsSameNode self.old self.new }
-        ensures content { IfOk result (λ answer. IsAnswerTo (B.Keep.fits (B.keep bank.old) line) (goal.Goal.Write (write.Write.Store word value)) answer) }
-        ensures idle { LeavesIdle result (B.at_step bank.new line) }
-        ensures rest { IsIdleBut self.old.call (B.at_step bank.old) → IsIdleBut self.new.call (B.at_step bank.new) }
-        ensures same_way { B.way bank.new ≡ B.way bank.old }
-        ensures same_nodes { (m : ℕ) → B.nodes_on bank.new m ≡ B.nodes_on bank.old m }
-        ensures same_fact { B.keep bank.new ≡ B.keep bank.old }
+        ensures { HasCalled B.way B.nodes_on B.keep B.Keep.fits B.gives B.at_step self.old (request.Request.Store line word value) bank.old result bank.new self.new }
     {
         self.call(rt, bank, Request::Store { line, word, value })
     }
 
     /// Adds this number to a word, 0 to 7, modulo 2 to the 64: Wrote. It may wait for ever. The refusals: those of `begin`, which
     /// change nothing, and 11 for a line whose stamp counts no more writes, which keeps its words.
+    #[inline(always)]
     pub fn add<B: Bank, R: Wait>(
         &mut self,
         rt: &R,
@@ -111,20 +94,14 @@ impl Node {
         requires node { (B.way bank.old).node ≡ self.old.id }
         requires lines { (B.way bank.old).lines ≡ self.old.lines }
         requires fits { StoresFitting (B.Keep.fits (B.keep bank.old) line) (goal.Goal.Write (write.Write.Add word delta)) }
-        ensures waits { Waits B.gives B.at_step self.old (request.Request.Add line word delta) bank.old result bank.new self.new }
-        ensures same_node { IsSameNode self.old self.new }
-        ensures content { IfOk result (λ answer. IsAnswerTo (B.Keep.fits (B.keep bank.old) line) (goal.Goal.Write (write.Write.Add word delta)) answer) }
-        ensures idle { LeavesIdle result (B.at_step bank.new line) }
-        ensures rest { IsIdleBut self.old.call (B.at_step bank.old) → IsIdleBut self.new.call (B.at_step bank.new) }
-        ensures same_way { B.way bank.new ≡ B.way bank.old }
-        ensures same_nodes { (m : ℕ) → B.nodes_on bank.new m ≡ B.nodes_on bank.old m }
-        ensures same_fact { B.keep bank.new ≡ B.keep bank.old }
+        ensures { HasCalled B.way B.nodes_on B.keep B.Keep.fits B.gives B.at_step self.old (request.Request.Add line word delta) bank.old result bank.new self.new }
     {
         self.call(rt, bank, Request::Add { line, word, delta })
     }
 
     /// Replaces all eight words: Wrote. It may wait for ever. The refusals: those of `begin`, which change nothing, and 11 for a
     /// line whose stamp counts no more writes, which keeps its words.
+    #[inline(always)]
     pub fn write_line<B: Bank, R: Wait>(
         &mut self,
         rt: &R,
@@ -135,20 +112,14 @@ impl Node {
         requires node { (B.way bank.old).node ≡ self.old.id }
         requires lines { (B.way bank.old).lines ≡ self.old.lines }
         requires fits { StoresFitting (B.Keep.fits (B.keep bank.old) line) (goal.Goal.Write (write.Write.Line words)) }
-        ensures waits { Waits B.gives B.at_step self.old (request.Request.WriteLine line words) bank.old result bank.new self.new }
-        ensures same_node { IsSameNode self.old self.new }
-        ensures content { IfOk result (λ answer. IsAnswerTo (B.Keep.fits (B.keep bank.old) line) (goal.Goal.Write (write.Write.Line words)) answer) }
-        ensures idle { LeavesIdle result (B.at_step bank.new line) }
-        ensures rest { IsIdleBut self.old.call (B.at_step bank.old) → IsIdleBut self.new.call (B.at_step bank.new) }
-        ensures same_way { B.way bank.new ≡ B.way bank.old }
-        ensures same_nodes { (m : ℕ) → B.nodes_on bank.new m ≡ B.nodes_on bank.old m }
-        ensures same_fact { B.keep bank.new ≡ B.keep bank.old }
+        ensures { HasCalled B.way B.nodes_on B.keep B.Keep.fits B.gives B.at_step self.old (request.Request.WriteLine line words) bank.old result bank.new self.new }
     {
         self.call(rt, bank, Request::WriteLine { line, words })
     }
 
     /// Leaves the line's sharing list, and takes the line out of the table: Out. It may wait for ever. The refusals: those of
     /// `begin`, which change nothing.
+    #[inline(always)]
     pub fn evict<B: Bank, R: Wait>(
         &mut self,
         rt: &R,
@@ -157,14 +128,7 @@ impl Node {
     ) -> Result<Answer, NodeRefusal>
         requires node { (B.way bank.old).node ≡ self.old.id }
         requires lines { (B.way bank.old).lines ≡ self.old.lines }
-        ensures waits { Waits B.gives B.at_step self.old (request.Request.Evict line) bank.old result bank.new self.new }
-        ensures same_node { IsSameNode self.old self.new }
-        ensures content { IfOk result (λ answer. IsAnswerTo (B.Keep.fits (B.keep bank.old) line) goal.Goal.Evict answer) }
-        ensures idle { LeavesIdle result (B.at_step bank.new line) }
-        ensures rest { IsIdleBut self.old.call (B.at_step bank.old) → IsIdleBut self.new.call (B.at_step bank.new) }
-        ensures same_way { B.way bank.new ≡ B.way bank.old }
-        ensures same_nodes { (m : ℕ) → B.nodes_on bank.new m ≡ B.nodes_on bank.old m }
-        ensures same_fact { B.keep bank.new ≡ B.keep bank.old }
+        ensures { HasCalled B.way B.nodes_on B.keep B.Keep.fits B.gives B.at_step self.old (request.Request.Evict line) bank.old result bank.new self.new }
     {
         self.call(rt, bank, Request::Evict { line })
     }

@@ -36,6 +36,7 @@ impl Model for Op {
 }
 
 impl Op {
+    #[inline(always)]
     fn begin(goal: Goal) -> Op
         ensures { result ≡ begun goal }
     {
@@ -43,6 +44,7 @@ impl Op {
     }
 
     /// To see the line.
+    #[inline(always)]
     pub fn load() -> Op
         ensures { result ≡ begun Goal.Load }
     {
@@ -50,6 +52,7 @@ impl Op {
     }
 
     /// To replace a word, 0 to 7, by this value. Refusal 10 above 7, and only there.
+    #[inline(always)]
     pub fn store(word: u8, value: u64) -> Result<Op, BadWord>
         ensures refused { IsErr result ↔ (7 < word) }
         ensures value { IfOk result (λ op. op ≡ begun (Goal.Write (a_write.Write.Store word value))) }
@@ -59,6 +62,7 @@ impl Op {
     }
 
     /// To add this number to a word, 0 to 7, modulo 2 to the 64. Refusal 10 above 7, and only there.
+    #[inline(always)]
     pub fn add(word: u8, delta: u64) -> Result<Op, BadWord>
         ensures refused { IsErr result ↔ (7 < word) }
         ensures value { IfOk result (λ op. op ≡ begun (Goal.Write (a_write.Write.Add word delta))) }
@@ -68,6 +72,7 @@ impl Op {
     }
 
     /// To replace all eight words.
+    #[inline(always)]
     pub fn write_line(words: [u64; 8]) -> Op
         ensures { result ≡ begun (Goal.Write (a_write.Write.Line words)) }
     {
@@ -75,6 +80,7 @@ impl Op {
     }
 
     /// To leave the line's sharing list.
+    #[inline(always)]
     pub fn evict() -> Op
         ensures { result ≡ begun Goal.Evict }
     {
@@ -82,6 +88,7 @@ impl Op {
     }
 
     /// What it is for.
+    #[inline(always)]
     pub fn goal(&self) -> Goal
         ensures { result ≡ self.now.goal }
     {
@@ -93,6 +100,7 @@ impl Op {
     /// write; from Purging of a line with these words and a stamp one less, what the write makes of them was written. Spent: a
     /// write; from Purging of a line whose stamp is `u64::MAX`, nothing was. Out: an eviction; the node's own tag was Invalid, or
     /// Left or Rolled made it so. A turn after the end gives the answer again, and asks nothing of the port.
+    #[inline(always)]
     pub fn turn<P: Port>(&mut self, port: &mut P) -> Turn
         requires fits { StoresFitting (P.Keep.fits (P.keep port.old) (P.way port.old).number) self.old.goal }
         ensures calls { Takes P.gives (turn_of self.old (P.way port.old).node (P.at_step port.old)) port.old result port.new }

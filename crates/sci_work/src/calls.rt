@@ -18,6 +18,7 @@ use sci_words::LineNo;
 use std::sync::Wait;
 
 // The refusals that a call has on a line that there is, where none is open.
+#[inline(always)]
 fn refused(refusal: NodeRefusal) -> WorkRefusal
     requires { IsLineRefusal refusal }
     ensures comes { ComesInCall result }
@@ -36,6 +37,7 @@ fn refused(refusal: NodeRefusal) -> WorkRefusal
 }
 
 /// The words of a line. The refusals: 25 and 20 before the call, then 7.
+#[inline(always)]
 pub(crate) fn loaded<R: Wait, G: Gate, B: Bank>(
     rt: &R,
     door: &mut Door<'_, G>,
@@ -61,6 +63,7 @@ pub(crate) fn loaded<R: Wait, G: Gate, B: Bank>(
 }
 
 /// The words of a line, once its word 0 is at least this number.
+#[inline(always)]
 pub(crate) fn reached<R: Wait, G: Gate, B: Bank>(
     rt: &R,
     door: &mut Door<'_, G>,
@@ -89,6 +92,7 @@ pub(crate) fn reached<R: Wait, G: Gate, B: Bank>(
 }
 
 /// Replaces a line's words. The refusals: 25 and 20 before the call, then 7 and 11.
+#[inline(always)]
 pub(crate) fn written<R: Wait, G: Gate, B: Bank>(
     rt: &R,
     door: &mut Door<'_, G>,
@@ -115,6 +119,7 @@ pub(crate) fn written<R: Wait, G: Gate, B: Bank>(
 }
 
 /// Adds 1 to word 0 of a line. The refusals: 25 and 20 before the call, then 7 and 11.
+#[inline(always)]
 pub(crate) fn added<R: Wait, G: Gate, B: Bank>(
     rt: &R,
     door: &mut Door<'_, G>,

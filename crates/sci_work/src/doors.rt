@@ -30,6 +30,7 @@ impl<'w, G: Gate> Door<'w, G> {
     }
 
     /// Asks until the next call may start. Refusal 25 where the stop mark is raised, 20 at the gate's limit.
+    #[inline(always)]
     pub fn enter(&self) -> Result<(), WorkRefusal>
         ensures { IfErr result ComesInCall }
     {
@@ -46,6 +47,7 @@ impl<'w, G: Gate> Door<'w, G> {
     }
 
     // Refusal 25 where the stop mark is raised.
+    #[inline(always)]
     fn unstopped(&self) -> Result<(), WorkRefusal>
         ensures { IfErr result (λ e. e ≡ WorkRefusal.Stopped) }
     {
@@ -56,6 +58,7 @@ impl<'w, G: Gate> Door<'w, G> {
     }
 
     /// Says that the call has ended. The next one has the next number, up to the greatest.
+    #[inline(always)]
     pub fn leave(&mut self)
         ensures node { self.new.node ≡ self.old.node }
         ensures next { self.old.call + 1 < 2 ^ 64 → self.new.call ≡ self.old.call + 1 }

@@ -167,9 +167,8 @@ pub fn closed<K: Keeps>(
         let (fewer, seats) = last_seats(alloc, &rest, &line, hands)?;
         hands = fewer;
         let one = finished(alloc, line, seats)?;
-        let Ok(()) = all.insert(0, one) else {
-            unreachable!()
-        };
+        all.push_reserved(one);
     }
+    all.reverse();
     Ok(all)
 }

@@ -1,5 +1,5 @@
 //! The worker that writes the items of a ring.
-ghost use Rattle.std.specs.Prelude.{◌≡◌, ◌≢◌, ◌+◌, ◌^◌, ◌<◌, ◌≤◌, ◌⊎◌, ◌↔◌, [], Err, ◌∷◌, length, replicate, IfErr, OnOk};
+ghost use Rattle.std.specs.Prelude.{◌≡◌, ◌≢◌, ◌+◌, ◌^◌, ◌<◌, ◌≤◌, ◌⊎◌, ◌↔◌, [], Err, ◌∷◌, length, replicate, IfErr, IfOk, OnOk};
 ghost use Rattle.sci_work.specs.Made.{ComesInCall, IsBankOf, IsStillBankOf, Made, MadeSome};
 ghost use Rattle.sci_work.specs.Ring.{IsRing, IsRingSize, item_words, item_writes};
 
@@ -19,7 +19,8 @@ fn words_of(number: u64, value: u64) -> [u64; 8]
     [number, value, 0, 0, 0, 0, 0, 0]
 }
 
-// Waits until so many items were consumed that item i's line is free.
+// Waits until so many items were consumed that item i's line is free. Where as many were seen to be consumed before, that is
+// so without a call. How many were seen to be consumed.
 fn free<R: Wait, G: Gate, B: Bank>(
     rt: &R,
     door: &mut Door<'_, G>,
@@ -27,20 +28,22 @@ fn free<R: Wait, G: Gate, B: Bank>(
     bank: &mut B,
     lines: u16,
     i: u64,
-) -> Result<(), WorkRefusal>
+    consumed: u64,
+) -> Result<u64, WorkRefusal>
     requires ready { IsBankOf (B.way bank.old) node.old }
     requires room { lines < (B.way bank.old).lines }
     requires few { i + 1 < 2 ^ 64 }
+    ensures free { IfOk result (λ seen. i + 1 ≤ seen + lines) }
     ensures err { IfErr result ComesInCall }
     ensures made { Made B.gives B.at_step [] node.old bank.old node.new bank.new }
     ensures still { IsStillBankOf B.way B.keep bank.old node.new bank.new }
 {
     let least = (i + 1).saturating_sub(u64::from(lines));
-    if least == 0 {
-        return Ok(());
+    if consumed >= least {
+        return Ok(consumed);
     }
     match reached(rt, door, node, bank, lines, least) {
-        Ok(_) => Ok(()),
+        Ok(words) => Ok(words[0]),
         Err(refusal) => Err(refusal),
     }
 }
@@ -63,9 +66,10 @@ pub(crate) fn produced<R: Wait, G: Gate, B: Bank>(
     ensures made { MadeSome B.gives B.at_step (item_writes source.now lines) (length source.now) node.old bank.old node.new bank.new }
     ensures still { IsStillBankOf B.way B.keep bank.old node.new bank.new }
 {
+    let mut consumed = 0;
     for (i, value) in source.iter().enumerate() {
         let number = i as u64;
-        free(rt, door, node, bank, lines, number)?;
+        consumed = free(rt, door, node, bank, lines, number, consumed)?;
         let line = line_of(number, lines);
         written(rt, door, node, bank, line, words_of(number + 1, *value))?;
     }

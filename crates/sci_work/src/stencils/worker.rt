@@ -26,6 +26,7 @@ pub struct Work<'a> {
 }
 
 /// The words of a tile once it stands at this phase. Refusal 19 where it is found at a later one.
+#[inline(always)]
 fn awaited<R: Wait, G: Gate, B: Bank>(
     rt: &R,
     door: &mut Door<'_, G>,
@@ -54,6 +55,7 @@ fn awaited<R: Wait, G: Gate, B: Bank>(
 }
 
 /// The cell before a tile after a phase: that of the tile before it, or 0.
+#[inline(always)]
 fn cell_before<R: Wait, G: Gate, B: Bank>(
     rt: &R,
     door: &mut Door<'_, G>,
@@ -79,6 +81,7 @@ fn cell_before<R: Wait, G: Gate, B: Bank>(
 }
 
 /// The cell behind a tile after a phase: that of the tile behind it, or 0.
+#[inline(always)]
 fn cell_behind<R: Wait, G: Gate, B: Bank>(
     rt: &R,
     door: &mut Door<'_, G>,
@@ -104,6 +107,7 @@ fn cell_behind<R: Wait, G: Gate, B: Bank>(
 }
 
 /// Takes a tile one phase on.
+#[inline(always)]
 fn advance<R: Wait, G: Gate, B: Bank>(
     rt: &R,
     door: &mut Door<'_, G>,

@@ -1,4 +1,5 @@
-use Rattle.std.proofs.Common.{◌≡◌, ◌++◌, ◌∷◌, ℕ, zero, suc, ◌+◌, ◌<◌, ◌≤◌, true, false, List, [], length, vec_capacity, vec_items, vec_len, arith, ap, sym, subst, refl, ◌∙◌}
+use Rattle.std.proofs.Common.{◌≡◌, ◌++◌, ◌∷◌, ℕ, zero, suc, ◌+◌, ◌<◌, ◌≤◌, true, false, List, [], length, reverse, vec_capacity, vec_items, vec_len, arith, ap, sym, subst, refl, ◌∙◌}
+use Rattle.std.proofs.lemmas.List.{reverse-append}
 use Rattle.std.proofs.lemmas.Result.{IfOk-from_err}
 use mathlib.Core.Option.{some, some-injective, some-ne-none}
 use lib.ListN.{get_elem?}
@@ -42,7 +43,7 @@ unreachable-requires g c =
 
 pub loop-preserved : goal.loop-preserved
 loop-preserved g c =
-    let i = c.loop.invariant in let line = c.in-Some.line in let fewer = c.pop.new.self.items in let popped = c.in-Some.ensures.items in let put = c.in-Ok.ensures in
+    let i = c.loop.invariant in let line = c.in-Some.line in let fewer = c.pop.new.self.items in let popped = c.in-Some.ensures.items in let put = c.push_reserved.ensures in
     let one : vec_len c.pop.new.self + 1 ≡ vec_len c.loop.rest = c.in-Some.ensures.cases in
     let size : length fewer ≡ vec_len c.pop.new.self = omega (arith, c.pop.new.self.ok) in
     record {
@@ -51,7 +52,7 @@ loop-preserved g c =
       room = no_less _ (vec_capacity c.loop.all) _ i.room put.capacity;
       same = λ k x e. i.same k x (subst (λ (z : List _). get_elem? z k ≡ some x) (sym popped) (at_longer fewer (line ∷ []) k x e));
       hands = λ k x e. subst (λ (z : List _). IsHandOf z k (vec_items x)) c.deref.ensures.value (c.in_ok-fewer.ensures.hands k x e);
-      each = pairs_more (λ x d. IsClosedOf g.K.Keeps.fits x d) c.args.lines.items (vec_len c.pop.new.self) line c.loop.all.items c.insert.new.self.items c.in_ok-one.one put.items
+      each = pairs_more (λ x d. IsClosedOf g.K.Keeps.fits x d) c.args.lines.items (vec_len c.pop.new.self) line (reverse c.loop.all.items) (reverse c.push_reserved.new.self.items) c.in_ok-one.one (ap reverse put.items ∙ reverse-append c.loop.all.items (c.in_ok-one.one ∷ []))
           (i.same (vec_len c.pop.new.self) line (subst (λ (z : List _). get_elem? z (vec_len c.pop.new.self) ≡ some line) (sym popped) (at_last fewer line (vec_len c.pop.new.self) size)))
           c.in_ok-one.ensures.ok
           (λ k a b ea eb. i.each k a b (subst (λ (z : ℕ). get_elem? c.args.lines.items (k + z) ≡ some a) one ea) eb);
@@ -61,10 +62,10 @@ pub returns-clause-ok : goal.returns-clause-ok
 returns-clause-ok g c =
     let i = c.loop.invariant in
     record {
-      count = omega (arith, i.len, i.rest, c.loop-test.false, c.len-end.ensures, c.loop.all.ok, c.args.lines.ok);
+      count = omega (arith, c.reverse.ensures.len, i.len, i.rest, c.loop-test.false, c.len-end.ensures, c.reverse.new.self.ok, c.args.lines.ok);
       each = λ k l d el ed.
           let none = all_done (vec_len c.loop.rest) c.loop.counter c.len-end.result (vec_len c.args.lines) i.rest c.loop-test.false c.len-end.ensures in
-          i.each k l d (subst (λ (z : ℕ). get_elem? c.args.lines.items z ≡ some l) (from_none k (vec_len c.loop.rest) none) el) ed;
+          i.each k l d (subst (λ (z : ℕ). get_elem? c.args.lines.items z ≡ some l) (from_none k (vec_len c.loop.rest) none) el) (subst (λ (z : List _). get_elem? z k ≡ some d) c.reverse.ensures.items ed);
     }
 
 pub last_seats-requires : goal.last_seats-requires

@@ -1,12 +1,13 @@
+use Rattle.std.proofs.Common.{arith}
 use Rattle.sci_work.specs.Made.{none}
 use Rattle.sci_work.proofs.Worked.{still_not}
 use Rattle.sci_work.proofs.rings.producing.free.Goals as goal
 
-pub returns-then-least-eq0 : goal.returns-then-least-eq0
-returns-then-least-eq0 g c = record { err = tt; made = none; still = still_not c.requires.ready }
+pub returns-then-consumed-ge-least : goal.returns-then-consumed-ge-least
+returns-then-consumed-ge-least g c = record { free = omega (arith, c.then-consumed-ge-least, c.saturating_sub-least.ensures); err = tt; made = none; still = still_not c.requires.ready }
 
 pub returns-in-Ok : goal.returns-in-Ok
-returns-in-Ok g c = let e = c.reached.ensures in record { err = tt; made = e.made; still = e.still }
+returns-in-Ok g c = let e = c.reached.ensures in record { free = omega (arith, c.in-Ok.ensures.number, c.saturating_sub-least.ensures); err = tt; made = e.made; still = e.still }
 
 pub returns-in-Err : goal.returns-in-Err
-returns-in-Err g c = let e = c.reached.ensures in record { err = c.in-Err.ensures.err; made = e.made; still = e.still }
+returns-in-Err g c = let e = c.reached.ensures in record { free = tt; err = c.in-Err.ensures.err; made = e.made; still = e.still }
