@@ -7,6 +7,7 @@ use Rattle.sci_core.specs.declared.events.Event.{Event}
 use Rattle.sci_core.specs.declared.outcomes.Outcome.{Outcome}
 use Rattle.sci_port.specs.declared.calls.Call.{Call}
 use Rattle.sci_port.specs.declared.calls.Call.TheVariants.{Own, MemWas, TagWas, Stepped}
+use Rattle.sci_port.specs.Call.{Chain}
 use Rattle.sci_ops.specs.declared.answers.Answer.{Answer}
 use Rattle.sci_ops.specs.declared.answers.Turn.{Turn}
 use Rattle.sci_ops.specs.declared.answers.End.{End}
@@ -77,3 +78,12 @@ taken_as {gives = gives} {s = s} {t = t} {turn = turn} e h = subst (λ (x : Plan
 
 pub unended : {turn : Turn} (p : Pending) → GoesOn turn → EndsWithStamp turn p
 unended p h = λ answer is. absurd (h answer is)
+
+-- what no call changes, calls one after another don't change
+chain_keeps : {S A : Type 0} {gives : S → Call → S → Type 0} (f : S → A) → ((s : S) (call : Call) (t : S) → gives s call t → f t ≡ f s) → (s t : S) (calls : List Call) → Chain gives s calls t → f t ≡ f s
+chain_keeps f same s t [] h = ap f h
+chain_keeps f same s t (c ∷ cs) (mid, h, rest) = chain_keeps f same mid t cs rest ∙ same s c mid h
+
+-- and a turn doesn't
+pub turn_keeps : {S A : Type 0} {gives : S → Call → S → Type 0} {plan : Plan} {s t : S} {turn : Turn} (f : S → A) → ((s : S) (call : Call) (t : S) → gives s call t → f t ≡ f s) → Takes gives plan s turn t → f t ≡ f s
+turn_keeps {s = s} {t = t} f same h = chain_keeps f same s t h.calls h.chain

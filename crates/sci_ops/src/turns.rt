@@ -25,9 +25,7 @@ use sci_port::Port;
 fn exchange<P: Port>(port: &mut P, event: Event, end: End) -> Turn
     requires allowed { is_allowed (P.way port.old).nodes (P.way port.old).node (P.at_step port.old) event ≡ true }
     requires fits { FitsEvent (P.Keep.fits (P.keep port.old) (P.way port.old).number) event }
-    ensures calls { Takes P.gives (exchange event end) port.old result port.new }
-    ensures same_way { P.way port.new ≡ P.way port.old }
-    ensures same_fact { P.keep port.new ≡ P.keep port.old }
+    ensures { Takes P.gives (exchange event end) port.old result port.new }
 {
     let outcome = port.step(event);
     end.turn_after(outcome)
@@ -38,9 +36,7 @@ fn exchange<P: Port>(port: &mut P, event: Event, end: End) -> Turn
 fn go_on<P: Port>(port: &mut P, event: Event) -> Turn
     requires allowed { is_allowed (P.way port.old).nodes (P.way port.old).node (P.at_step port.old) event ≡ true }
     requires fits { FitsEvent (P.Keep.fits (P.keep port.old) (P.way port.old).number) event }
-    ensures calls { Takes P.gives (move event) port.old result port.new }
-    ensures same_way { P.way port.new ≡ P.way port.old }
-    ensures same_fact { P.keep port.new ≡ P.keep port.old }
+    ensures { Takes P.gives (move event) port.old result port.new }
 {
     exchange(port, event, End::Moved)
 }
@@ -70,8 +66,6 @@ pub fn turn_towards<P: Port>(port: &mut P, goal: Goal) -> Turn
     requires fits { StoresFitting (P.Keep.fits (P.keep port.old) (P.way port.old).number) goal }
     ensures calls { Takes P.gives (turn_in goal (P.way port.old).node (P.at_step port.old)) port.old result port.new }
     ensures stamp { EndsWithStamp result (P.at_step port.old) }
-    ensures same_way { P.way port.new ≡ P.way port.old }
-    ensures same_fact { P.keep port.new ≡ P.keep port.old }
 {
     match port.stage() {
         Stage::Idle => idle(port, goal),

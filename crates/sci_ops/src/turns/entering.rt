@@ -25,9 +25,7 @@ fn home_event(goal: Goal) -> Event
 /// Queueing: it enters the list before the head that it found, or looks for the head again.
 pub fn queueing<P: Port>(port: &mut P, goal: Goal, forw: Option<NodeId>) -> Turn
     requires step { P.at_step port.old ≡ Pending.Queueing forw }
-    ensures calls { Takes P.gives (queueing goal forw) port.old result port.new }
-    ensures same_way { P.way port.new ≡ P.way port.old }
-    ensures same_fact { P.keep port.new ≡ P.keep port.old }
+    ensures { Takes P.gives (queueing goal forw) port.old result port.new }
 {
     let Some(mem) = port.mem() else {
         return Turn::Waiting;
@@ -55,9 +53,7 @@ pub fn in_queue<P: Port>(
 ) -> Turn
     requires step { (copy : _) × (P.at_step port.old ≡ Pending.InQueue forw dirty copy) × (is_some copy ≡ has_copy) }
     requires sound { IsSoundStep (P.way port.old).nodes (P.Keep.fits (P.keep port.old) (P.way port.old).number) (P.at_step port.old) }
-    ensures calls { Takes P.gives (in_queue goal forw dirty has_copy) port.old result port.new }
-    ensures same_way { P.way port.new ≡ P.way port.old }
-    ensures same_fact { P.keep port.new ≡ P.keep port.old }
+    ensures { Takes P.gives (in_queue goal forw dirty has_copy) port.old result port.new }
 {
     let Some(forw) = forw else {
         return exchange(port, Event::Settle, seen_end(goal));

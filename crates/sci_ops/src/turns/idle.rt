@@ -16,9 +16,7 @@ use sci_words::{Kind, Tag};
 /// Idle: the node's own tag and the goal say how to begin.
 pub fn idle<P: Port>(port: &mut P, goal: Goal) -> Turn
     requires step { P.at_step port.old ≡ Pending.Idle }
-    ensures calls { Takes P.gives (idle goal (P.way port.old).node) port.old result port.new }
-    ensures same_way { P.way port.new ≡ P.way port.old }
-    ensures same_fact { P.keep port.new ≡ P.keep port.old }
+    ensures { Takes P.gives (idle goal (P.way port.old).node) port.old result port.new }
 {
     let Some(tag) = port.own() else {
         return Turn::Waiting;
@@ -38,9 +36,7 @@ pub fn idle<P: Port>(port: &mut P, goal: Goal) -> Turn
 
 fn invalid<P: Port>(port: &mut P, goal: Goal) -> Turn
     requires step { P.at_step port.old ≡ Pending.Idle }
-    ensures calls { Takes P.gives (invalid goal) port.old result port.new }
-    ensures same_way { P.way port.new ≡ P.way port.old }
-    ensures same_fact { P.keep port.new ≡ P.keep port.old }
+    ensures { Takes P.gives (invalid goal) port.old result port.new }
 {
     match goal {
         Goal::Load | Goal::Write(_) => enter(port),
@@ -51,9 +47,7 @@ fn invalid<P: Port>(port: &mut P, goal: Goal) -> Turn
 // It queues up before the head that memory names.
 fn enter<P: Port>(port: &mut P) -> Turn
     requires step { P.at_step port.old ≡ Pending.Idle }
-    ensures calls { Takes P.gives enter port.old result port.new }
-    ensures same_way { P.way port.new ≡ P.way port.old }
-    ensures same_fact { P.keep port.new ≡ P.keep port.old }
+    ensures { Takes P.gives enter port.old result port.new }
 {
     let Some(mem) = port.mem() else {
         return Turn::Waiting;
@@ -65,9 +59,7 @@ fn enter<P: Port>(port: &mut P) -> Turn
 fn at_front<P: Port>(port: &mut P, event: Event) -> Turn
     requires allowed { is_allowed (P.way port.old).nodes (P.way port.old).node (P.at_step port.old) event ≡ true }
     requires fits { FitsEvent (P.Keep.fits (P.keep port.old) (P.way port.old).number) event }
-    ensures calls { Takes P.gives (if_front (P.way port.old).node (move event) wait) port.old result port.new }
-    ensures same_way { P.way port.new ≡ P.way port.old }
-    ensures same_fact { P.keep port.new ≡ P.keep port.old }
+    ensures { Takes P.gives (if_front (P.way port.old).node (move event) wait) port.old result port.new }
 {
     let me = port.node();
     let Some(mem) = port.mem() else {
@@ -85,9 +77,7 @@ fn fresh<P: Port>(port: &mut P, goal: Goal, tag: Tag) -> Turn
     requires kind { tag.kind ≡ Kind.Fresh }
     requires free { tag.held ≡ false }
     requires form { IsTag (P.way port.old).nodes tag }
-    ensures calls { Takes P.gives (fresh goal (P.way port.old).node tag) port.old result port.new }
-    ensures same_way { P.way port.new ≡ P.way port.old }
-    ensures same_fact { P.keep port.new ≡ P.keep port.old }
+    ensures { Takes P.gives (fresh goal (P.way port.old).node tag) port.old result port.new }
 {
     match goal {
         Goal::Load => go_on(port, Event::Hold(tag)),
@@ -101,9 +91,7 @@ fn dirty<P: Port>(port: &mut P, goal: Goal, tag: Tag) -> Turn
     requires kind { tag.kind ≡ Kind.Dirty }
     requires free { tag.held ≡ false }
     requires form { IsTag (P.way port.old).nodes tag }
-    ensures calls { Takes P.gives (dirty goal (P.way port.old).node tag) port.old result port.new }
-    ensures same_way { P.way port.new ≡ P.way port.old }
-    ensures same_fact { P.keep port.new ≡ P.keep port.old }
+    ensures { Takes P.gives (dirty goal (P.way port.old).node tag) port.old result port.new }
 {
     match goal {
         Goal::Load => go_on(port, Event::Hold(tag)),
@@ -117,9 +105,7 @@ fn valid<P: Port>(port: &mut P, goal: Goal, tag: Tag) -> Turn
     requires kind { tag.kind ≡ Kind.Valid }
     requires free { tag.held ≡ false }
     requires form { IsTag (P.way port.old).nodes tag }
-    ensures calls { Takes P.gives (valid goal tag) port.old result port.new }
-    ensures same_way { P.way port.new ≡ P.way port.old }
-    ensures same_fact { P.keep port.new ≡ P.keep port.old }
+    ensures { Takes P.gives (valid goal tag) port.old result port.new }
 {
     match goal {
         Goal::Load => go_on(port, Event::Hold(tag)),

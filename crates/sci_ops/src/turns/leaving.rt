@@ -14,9 +14,7 @@ use sci_words::NodeId;
 /// Leaving: it promotes the next entry or returns the line home, or stays where it is no longer the head.
 pub fn leaving<P: Port>(port: &mut P, dirty: bool) -> Turn
     requires step { (line : _) × (seen : _) × (P.at_step port.old ≡ Pending.Leaving dirty line seen) }
-    ensures calls { Takes P.gives (leaving (P.way port.old).node dirty) port.old result port.new }
-    ensures same_way { P.way port.new ≡ P.way port.old }
-    ensures same_fact { P.keep port.new ≡ P.keep port.old }
+    ensures { Takes P.gives (leaving (P.way port.old).node dirty) port.old result port.new }
 {
     let me = port.node();
     let Some(tag) = port.own() else {
@@ -35,9 +33,7 @@ pub fn leaving<P: Port>(port: &mut P, dirty: bool) -> Turn
 fn leave<P: Port>(port: &mut P, dirty: bool, forw: Option<NodeId>) -> Turn
     requires step { (line : _) × (P.at_step port.old ≡ Pending.Leaving dirty line (Some forw)) }
     requires link { IsTrue (link_below (P.way port.old).nodes forw) }
-    ensures calls { Takes P.gives (leave (P.way port.old).node dirty forw) port.old result port.new }
-    ensures same_way { P.way port.new ≡ P.way port.old }
-    ensures same_fact { P.keep port.new ≡ P.keep port.old }
+    ensures { Takes P.gives (leave (P.way port.old).node dirty forw) port.old result port.new }
 {
     let Some(next) = forw else {
         return go_on(
@@ -63,9 +59,7 @@ fn leave<P: Port>(port: &mut P, dirty: bool, forw: Option<NodeId>) -> Turn
 /// Promoted: it hands the home on, or enters again where it is no longer the head.
 pub fn promoted<P: Port>(port: &mut P) -> Turn
     requires step { (dirty : _) × (line : _) × (succ : _) × (P.at_step port.old ≡ Pending.Promoted dirty line succ) }
-    ensures calls { Takes P.gives (promoted (P.way port.old).node) port.old result port.new }
-    ensures same_way { P.way port.new ≡ P.way port.old }
-    ensures same_fact { P.keep port.new ≡ P.keep port.old }
+    ensures { Takes P.gives (promoted (P.way port.old).node) port.old result port.new }
 {
     let me = port.node();
     let Some(mem) = port.mem() else {
@@ -81,9 +75,7 @@ pub fn promoted<P: Port>(port: &mut P) -> Turn
 /// Rolling: it tells the entry behind it, then the one in front of it.
 pub fn rolling<P: Port>(port: &mut P, told: bool) -> Turn
     requires step { (seen : _) × (P.at_step port.old ≡ Pending.Rolling told seen) }
-    ensures calls { Takes P.gives (rolling (P.way port.old).node told) port.old result port.new }
-    ensures same_way { P.way port.new ≡ P.way port.old }
-    ensures same_fact { P.keep port.new ≡ P.keep port.old }
+    ensures { Takes P.gives (rolling (P.way port.old).node told) port.old result port.new }
 {
     let Some(tag) = port.own() else {
         return Turn::Waiting;
@@ -101,9 +93,7 @@ pub fn rolling<P: Port>(port: &mut P, told: bool) -> Turn
 fn successor<P: Port>(port: &mut P, next: NodeId) -> Turn
     requires node { next < (P.way port.old).nodes }
     requires step { (forw : _) × (back : _) × (P.at_step port.old ≡ Pending.Rolling false (Some (Some forw, back))) }
-    ensures calls { Takes P.gives (tag next (tell_successor (P.way port.old).node)) port.old result port.new }
-    ensures same_way { P.way port.new ≡ P.way port.old }
-    ensures same_fact { P.keep port.new ≡ P.keep port.old }
+    ensures { Takes P.gives (tag next (tell_successor (P.way port.old).node)) port.old result port.new }
 {
     let me = port.node();
     let Some(found) = port.tag(next) else {
@@ -120,9 +110,7 @@ fn successor<P: Port>(port: &mut P, next: NodeId) -> Turn
 fn predecessor<P: Port>(port: &mut P, previous: NodeId) -> Turn
     requires node { previous < (P.way port.old).nodes }
     requires step { (told : _) × (forw : _) × (back : _) × (P.at_step port.old ≡ Pending.Rolling told (Some (forw, back))) × ((told || is_none forw) ≡ true) }
-    ensures calls { Takes P.gives (tag previous (tell_predecessor (P.way port.old).node)) port.old result port.new }
-    ensures same_way { P.way port.new ≡ P.way port.old }
-    ensures same_fact { P.keep port.new ≡ P.keep port.old }
+    ensures { Takes P.gives (tag previous (tell_predecessor (P.way port.old).node)) port.old result port.new }
 {
     let me = port.node();
     let Some(found) = port.tag(previous) else {

@@ -16,9 +16,7 @@ use sci_words::NodeId;
 /// Converting: it turns the home to GONE, or gives up where it is no longer the head.
 pub fn converting<P: Port>(port: &mut P, turned: bool) -> Turn
     requires step { (forw : _) × (P.at_step port.old ≡ Pending.Converting forw turned) }
-    ensures calls { Takes P.gives (converting (P.way port.old).node turned) port.old result port.new }
-    ensures same_way { P.way port.new ≡ P.way port.old }
-    ensures same_fact { P.keep port.new ≡ P.keep port.old }
+    ensures { Takes P.gives (converting (P.way port.old).node turned) port.old result port.new }
 {
     if turned {
         return go_on(port, Event::Converted);
@@ -40,8 +38,6 @@ pub fn purging<P: Port>(port: &mut P, goal: Goal) -> Turn
     requires fits { StoresFitting (P.Keep.fits (P.keep port.old) (P.way port.old).number) goal }
     ensures calls { Takes P.gives (turn_in goal (P.way port.old).node (P.at_step port.old)) port.old result port.new }
     ensures stamp { EndsWithStamp result (P.at_step port.old) }
-    ensures same_way { P.way port.new ≡ P.way port.old }
-    ensures same_fact { P.keep port.new ≡ P.keep port.old }
 {
     let Some(tag) = port.own() else {
         return Turn::Waiting;
@@ -61,8 +57,6 @@ fn purge<P: Port>(port: &mut P, next: NodeId) -> Turn
     requires step { (line : _) × (P.at_step port.old ≡ Pending.Purging line (Some (Some next))) }
     ensures calls { Takes P.gives (tag next (purge (P.way port.old).node)) port.old result port.new }
     ensures goes_on { GoesOn result }
-    ensures same_way { P.way port.new ≡ P.way port.old }
-    ensures same_fact { P.keep port.new ≡ P.keep port.old }
 {
     let me = port.node();
     let Some(found) = port.tag(next) else {
@@ -84,8 +78,6 @@ fn write<P: Port>(port: &mut P, goal: Goal, line: &Line) -> Turn
     requires line { P.Keep.fits (P.keep port.old) (P.way port.old).number line.now.words }
     ensures calls { Takes P.gives (write goal line.now) port.old result port.new }
     ensures stamp { line.now.stamp ≤ 18446744073709551615 }
-    ensures same_way { P.way port.new ≡ P.way port.old }
-    ensures same_fact { P.keep port.new ≡ P.keep port.old }
 {
     let stamp = line.stamp;
     let Goal::Write(write) = goal else {

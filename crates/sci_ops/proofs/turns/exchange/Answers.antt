@@ -1,5 +1,5 @@
 use Rattle.sci_ops.proofs.Took.{took_step}
 use Rattle.sci_ops.proofs.turns.exchange.Goals as goal
 
-pub returns-clause-calls : goal.returns-clause-calls
-returns-clause-calls g c = took_step _ c.step-outcome.ensures.gives c.turn_after.ensures
+pub returns : goal.returns
+returns g c = took_step _ c.step-outcome.ensures.gives c.turn_after.ensures

@@ -56,54 +56,52 @@ pub exchange-requires-in-Unlinked : goal.exchange-requires-in-Unlinked
 exchange-requires-in-Unlinked g c = record { allowed = allowed_at (g.P.Port.at_step c.args.port.now) (g.P.Port.way c.args.port.now) Event.Rolled _ c.in-Unlinked.ensures.value refl; fits = tt }
 
 pub returns-in-Idle : goal.returns-in-Idle
-returns-in-Idle g c = record { calls = turn_at (g.P.Port.at_step c.args.port.now) _ _ _ c.in-Idle.ensures.value c.idle.ensures.calls; stamp = stamp_at (g.P.Port.at_step c.args.port.now) _ c.in-Idle.ensures.value tt; same_way = c.idle.ensures.same_way; same_fact = c.idle.ensures.same_fact }
+returns-in-Idle g c = record { calls = turn_at (g.P.Port.at_step c.args.port.now) _ _ _ c.in-Idle.ensures.value c.idle.ensures; stamp = stamp_at (g.P.Port.at_step c.args.port.now) _ c.in-Idle.ensures.value tt }
 
 pub returns-in-Holding : goal.returns-in-Holding
-returns-in-Holding g c = record { calls = turn_at (g.P.Port.at_step c.args.port.now) _ _ _ c.in-Holding.ensures.value (ended_with c.seen_end.ensures c.exchange.ensures.calls); stamp = stamp_at (g.P.Port.at_step c.args.port.now) _ c.in-Holding.ensures.value tt; same_way = c.exchange.ensures.same_way; same_fact = c.exchange.ensures.same_fact }
+returns-in-Holding g c = record { calls = turn_at (g.P.Port.at_step c.args.port.now) _ _ _ c.in-Holding.ensures.value (ended_with c.seen_end.ensures c.exchange.ensures); stamp = stamp_at (g.P.Port.at_step c.args.port.now) _ c.in-Holding.ensures.value tt }
 
 pub returns-in-Queueing : goal.returns-in-Queueing
-returns-in-Queueing g c = record { calls = turn_at (g.P.Port.at_step c.args.port.now) _ _ _ c.in-Queueing.ensures.value c.queueing.ensures.calls; stamp = stamp_at (g.P.Port.at_step c.args.port.now) _ c.in-Queueing.ensures.value tt; same_way = c.queueing.ensures.same_way; same_fact = c.queueing.ensures.same_fact }
+returns-in-Queueing g c = record { calls = turn_at (g.P.Port.at_step c.args.port.now) _ _ _ c.in-Queueing.ensures.value c.queueing.ensures; stamp = stamp_at (g.P.Port.at_step c.args.port.now) _ c.in-Queueing.ensures.value tt }
 
 pub returns-in-Fetching : goal.returns-in-Fetching
 returns-in-Fetching g c = record {
-  calls = returning (g.P.Port.at_step c.args.port.now) _ c.stage.ensures.value c.in-Fetching.is (λ p. Takes g.P.Port.gives (turn_in c.args.goal (g.P.Port.way c.args.port.now).node p) c.args.port.now c.go_on.result c.go_on.new.port) (λ f d l. c.go_on.ensures.calls) (λ l. c.go_on.ensures.calls);
+  calls = returning (g.P.Port.at_step c.args.port.now) _ c.stage.ensures.value c.in-Fetching.is (λ p. Takes g.P.Port.gives (turn_in c.args.goal (g.P.Port.way c.args.port.now).node p) c.args.port.now c.go_on.result c.go_on.new.port) (λ f d l. c.go_on.ensures) (λ l. c.go_on.ensures);
   stamp = returning (g.P.Port.at_step c.args.port.now) _ c.stage.ensures.value c.in-Fetching.is (λ p. EndsWithStamp c.go_on.result p) (λ f d l answer is. tt) (λ l answer is. tt);
-  same_way = c.go_on.ensures.same_way;
-  same_fact = c.go_on.ensures.same_fact;
 }
 
 pub returns-in-InQueue : goal.returns-in-InQueue
-returns-in-InQueue g c = record { calls = turn_queued _ _ _ _ _ (g.P.Port.at_step c.args.port.now) c.in-InQueue.ensures.value c.in_queue.ensures.calls; stamp = stamp_at (g.P.Port.at_step c.args.port.now) _ c.in-InQueue.ensures.value tt; same_way = c.in_queue.ensures.same_way; same_fact = c.in_queue.ensures.same_fact }
+returns-in-InQueue g c = record { calls = turn_queued _ _ _ _ _ (g.P.Port.at_step c.args.port.now) c.in-InQueue.ensures.value c.in_queue.ensures; stamp = stamp_at (g.P.Port.at_step c.args.port.now) _ c.in-InQueue.ensures.value tt }
 
 pub returns-in-Copying : goal.returns-in-Copying
-returns-in-Copying g c = record { calls = turn_at (g.P.Port.at_step c.args.port.now) _ _ _ c.in-Copying.ensures.value c.go_on-in-Copying.ensures.calls; stamp = stamp_at (g.P.Port.at_step c.args.port.now) _ c.in-Copying.ensures.value tt; same_way = c.go_on-in-Copying.ensures.same_way; same_fact = c.go_on-in-Copying.ensures.same_fact }
+returns-in-Copying g c = record { calls = turn_at (g.P.Port.at_step c.args.port.now) _ _ _ c.in-Copying.ensures.value c.go_on-in-Copying.ensures; stamp = stamp_at (g.P.Port.at_step c.args.port.now) _ c.in-Copying.ensures.value tt }
 
 pub returns-in-Ready : goal.returns-in-Ready
-returns-in-Ready g c = record { calls = turn_at (g.P.Port.at_step c.args.port.now) _ _ _ c.in-Ready.ensures.value (ended_with c.seen_end-in-Ready.ensures c.exchange-in-Ready.ensures.calls); stamp = stamp_at (g.P.Port.at_step c.args.port.now) _ c.in-Ready.ensures.value tt; same_way = c.exchange-in-Ready.ensures.same_way; same_fact = c.exchange-in-Ready.ensures.same_fact }
+returns-in-Ready g c = record { calls = turn_at (g.P.Port.at_step c.args.port.now) _ _ _ c.in-Ready.ensures.value (ended_with c.seen_end-in-Ready.ensures c.exchange-in-Ready.ensures); stamp = stamp_at (g.P.Port.at_step c.args.port.now) _ c.in-Ready.ensures.value tt }
 
 pub returns-in-Converting : goal.returns-in-Converting
-returns-in-Converting g c = record { calls = turn_at (g.P.Port.at_step c.args.port.now) _ _ _ c.in-Converting.ensures.value c.converting.ensures.calls; stamp = stamp_at (g.P.Port.at_step c.args.port.now) _ c.in-Converting.ensures.value tt; same_way = c.converting.ensures.same_way; same_fact = c.converting.ensures.same_fact }
+returns-in-Converting g c = record { calls = turn_at (g.P.Port.at_step c.args.port.now) _ _ _ c.in-Converting.ensures.value c.converting.ensures; stamp = stamp_at (g.P.Port.at_step c.args.port.now) _ c.in-Converting.ensures.value tt }
 
 pub returns-in-Purging : goal.returns-in-Purging
-returns-in-Purging g c = record { calls = c.purging.ensures.calls; stamp = c.purging.ensures.stamp; same_way = c.purging.ensures.same_way; same_fact = c.purging.ensures.same_fact }
+returns-in-Purging g c = record { calls = c.purging.ensures.calls; stamp = c.purging.ensures.stamp }
 
 pub returns-in-Advancing : goal.returns-in-Advancing
-returns-in-Advancing g c = record { calls = turn_at (g.P.Port.at_step c.args.port.now) _ _ _ c.in-Advancing.ensures.value c.go_on-in-Advancing.ensures.calls; stamp = stamp_at (g.P.Port.at_step c.args.port.now) _ c.in-Advancing.ensures.value tt; same_way = c.go_on-in-Advancing.ensures.same_way; same_fact = c.go_on-in-Advancing.ensures.same_fact }
+returns-in-Advancing g c = record { calls = turn_at (g.P.Port.at_step c.args.port.now) _ _ _ c.in-Advancing.ensures.value c.go_on-in-Advancing.ensures; stamp = stamp_at (g.P.Port.at_step c.args.port.now) _ c.in-Advancing.ensures.value tt }
 
 pub returns-in-Clearing : goal.returns-in-Clearing
-returns-in-Clearing g c = record { calls = turn_at (g.P.Port.at_step c.args.port.now) _ _ _ c.in-Clearing.ensures.value c.go_on-in-Clearing.ensures.calls; stamp = stamp_at (g.P.Port.at_step c.args.port.now) _ c.in-Clearing.ensures.value tt; same_way = c.go_on-in-Clearing.ensures.same_way; same_fact = c.go_on-in-Clearing.ensures.same_fact }
+returns-in-Clearing g c = record { calls = turn_at (g.P.Port.at_step c.args.port.now) _ _ _ c.in-Clearing.ensures.value c.go_on-in-Clearing.ensures; stamp = stamp_at (g.P.Port.at_step c.args.port.now) _ c.in-Clearing.ensures.value tt }
 
 pub returns-in-Leaving : goal.returns-in-Leaving
-returns-in-Leaving g c = record { calls = turn_at (g.P.Port.at_step c.args.port.now) _ _ _ c.in-Leaving.ensures.value c.leaving.ensures.calls; stamp = stamp_at (g.P.Port.at_step c.args.port.now) _ c.in-Leaving.ensures.value tt; same_way = c.leaving.ensures.same_way; same_fact = c.leaving.ensures.same_fact }
+returns-in-Leaving g c = record { calls = turn_at (g.P.Port.at_step c.args.port.now) _ _ _ c.in-Leaving.ensures.value c.leaving.ensures; stamp = stamp_at (g.P.Port.at_step c.args.port.now) _ c.in-Leaving.ensures.value tt }
 
 pub returns-in-Promoted : goal.returns-in-Promoted
-returns-in-Promoted g c = record { calls = turn_at (g.P.Port.at_step c.args.port.now) _ _ _ c.in-Promoted.ensures.value c.promoted.ensures.calls; stamp = stamp_at (g.P.Port.at_step c.args.port.now) _ c.in-Promoted.ensures.value tt; same_way = c.promoted.ensures.same_way; same_fact = c.promoted.ensures.same_fact }
+returns-in-Promoted g c = record { calls = turn_at (g.P.Port.at_step c.args.port.now) _ _ _ c.in-Promoted.ensures.value c.promoted.ensures; stamp = stamp_at (g.P.Port.at_step c.args.port.now) _ c.in-Promoted.ensures.value tt }
 
 pub returns-in-Parted : goal.returns-in-Parted
-returns-in-Parted g c = record { calls = turn_at (g.P.Port.at_step c.args.port.now) _ _ _ c.in-Parted.ensures.value (ended_with c.out_end.ensures c.exchange-in-Parted.ensures.calls); stamp = stamp_at (g.P.Port.at_step c.args.port.now) _ c.in-Parted.ensures.value tt; same_way = c.exchange-in-Parted.ensures.same_way; same_fact = c.exchange-in-Parted.ensures.same_fact }
+returns-in-Parted g c = record { calls = turn_at (g.P.Port.at_step c.args.port.now) _ _ _ c.in-Parted.ensures.value (ended_with c.out_end.ensures c.exchange-in-Parted.ensures); stamp = stamp_at (g.P.Port.at_step c.args.port.now) _ c.in-Parted.ensures.value tt }
 
 pub returns-in-Rolling : goal.returns-in-Rolling
-returns-in-Rolling g c = record { calls = turn_at (g.P.Port.at_step c.args.port.now) _ _ _ c.in-Rolling.ensures.value c.rolling.ensures.calls; stamp = stamp_at (g.P.Port.at_step c.args.port.now) _ c.in-Rolling.ensures.value tt; same_way = c.rolling.ensures.same_way; same_fact = c.rolling.ensures.same_fact }
+returns-in-Rolling g c = record { calls = turn_at (g.P.Port.at_step c.args.port.now) _ _ _ c.in-Rolling.ensures.value c.rolling.ensures; stamp = stamp_at (g.P.Port.at_step c.args.port.now) _ c.in-Rolling.ensures.value tt }
 
 pub returns-in-Unlinked : goal.returns-in-Unlinked
-returns-in-Unlinked g c = record { calls = turn_at (g.P.Port.at_step c.args.port.now) _ _ _ c.in-Unlinked.ensures.value (ended_with c.out_end-in-Unlinked.ensures c.exchange-in-Unlinked.ensures.calls); stamp = stamp_at (g.P.Port.at_step c.args.port.now) _ c.in-Unlinked.ensures.value tt; same_way = c.exchange-in-Unlinked.ensures.same_way; same_fact = c.exchange-in-Unlinked.ensures.same_fact }
+returns-in-Unlinked g c = record { calls = turn_at (g.P.Port.at_step c.args.port.now) _ _ _ c.in-Unlinked.ensures.value (ended_with c.out_end-in-Unlinked.ensures c.exchange-in-Unlinked.ensures); stamp = stamp_at (g.P.Port.at_step c.args.port.now) _ c.in-Unlinked.ensures.value tt }

@@ -11,7 +11,7 @@ use Rattle.sci_ops.specs.Plan.{Takes}
 use Rattle.sci_ops.specs.Table.{turn_of, turn_again, after_turn}
 use Rattle.sci_ops.proofs.Answering.{answers_at}
 use Rattle.sci_ops.proofs.Short.{three_loads}
-use Rattle.sci_ops.proofs.Took.{taken_as, took_none}
+use Rattle.sci_ops.proofs.Took.{taken_as, took_none, turn_keeps}
 use Rattle.sci_ops.proofs.ops.Op.turn.Goals as goal
 
 abbrev with_answer : Goal → Option Answer → Operation
@@ -58,8 +58,8 @@ returns-in-Done g c =
           (answers_at g.P.Port.gives g.P.Port.at_step _ _ _ g.met.P.Port.owes op me c.args.port.now c.turn_towards-turn.new.port (Turn.Done c.in-Done.answer) (c.in-Done.ensures.stamp c.in-Done.answer refl) c.in-Done.ensures.calls);
       loads = three_loads c.args.self.now _ _;
       op = ap (λ (x : Operation). after_turn x (Turn.Done c.in-Done.answer)) c.self.view_is;
-      same_way = c.in-Done.ensures.same_way;
-      same_fact = c.in-Done.ensures.same_fact;
+      same_way = turn_keeps g.P.Port.way g.met.P.Port.same_way c.in-Done.ensures.calls;
+      same_fact = turn_keeps g.P.Port.keep g.met.P.Port.same_fact c.in-Done.ensures.calls;
     }
 
 pub returns-in_default-turn : goal.returns-in_default-turn
@@ -72,6 +72,6 @@ returns-in_default-turn g c =
       answers = answers_none g.P.Port.gives g.P.Port.at_step c.args.self.now me c.args.port.now c.turn_towards-turn.new.port turn c.in_default-turn.not-Done;
       loads = three_loads c.args.self.now _ _;
       op = stays_so c.args.self.now turn c.in_default-turn.not-Done;
-      same_way = c.turn_towards-turn.ensures.same_way;
-      same_fact = c.turn_towards-turn.ensures.same_fact;
+      same_way = turn_keeps g.P.Port.way g.met.P.Port.same_way c.turn_towards-turn.ensures.calls;
+      same_fact = turn_keeps g.P.Port.keep g.met.P.Port.same_fact c.turn_towards-turn.ensures.calls;
     }

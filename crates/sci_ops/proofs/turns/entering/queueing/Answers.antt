@@ -4,7 +4,6 @@ use Rattle.sci_core.specs.declared.pending.Pending.{Pending}
 use Rattle.sci_core.specs.Answers.{is_allowed, FitsEvent}
 use Rattle.sci_port.specs.declared.calls.Call.{Call}
 use Rattle.sci_port.specs.Way.{Way}
-use Rattle.sci_words.specs.declared.memory.MemState.{MemState}
 use Rattle.sci_ops.specs.declared.goals.Goal.{Goal}
 use Rattle.sci_ops.specs.declared.answers.Turn.{Turn}
 use Rattle.sci_ops.specs.Plan.{Takes}
@@ -35,7 +34,7 @@ tried : {S : Type 0} {gives : S → Call → S → Type 0} {a b : S} {r : Turn} 
 tried {gives = gives} {a = a} {b = b} {r = r} goal event e h = subst (λ (x : Event). Takes gives (move x) a r b) e h
 
 pub returns-in_default : goal.returns-in_default
-returns-in_default g c = record { calls = no_mem c.in_default.ensures.gives; same_way = c.in_default.ensures.same_way; same_fact = c.in_default.ensures.same_fact }
+returns-in_default g c = no_mem c.in_default.ensures.gives
 
 pub go_on-requires : goal.go_on-requires
 go_on-requires g c = record { allowed = allowed_in (g.P.Port.way c.mem.new.self) (Event.Requeue c.in-Some.mem.forw) _ _ (c.in-Some.ensures.same_step ∙ c.requires.step) (link_at _ _ _ c.in-Some.ensures.same_way c.in-Some.ensures.form.1); fits = tt }
@@ -53,20 +52,16 @@ pub go_on-requires-in-Gone : goal.go_on-requires-in-Gone
 go_on-requires-in-Gone g c = record { allowed = allowed_in (g.P.Port.way c.mem.new.self) Event.PrependGone _ _ (c.in-Some.ensures.same_step ∙ c.requires.step) (head_named _ _ _ c.in-Gone.is (first _ _ c.in-Some.ensures.form.0) (negated _ _ c.if-ne.ensures)); fits = tt }
 
 pub returns-then-mem : goal.returns-then-mem
-returns-then-mem g c = record { calls = took_mem _ c.in-Some.ensures.gives (if_so _ _ _ c.if-mem.true) took_none; same_way = c.in-Some.ensures.same_way; same_fact = c.in-Some.ensures.same_fact }
+returns-then-mem g c = took_mem _ c.in-Some.ensures.gives (if_so _ _ _ c.if-mem.true) took_none
 
 pub returns-then-ne : goal.returns-then-ne
-returns-then-ne g c = record { calls = took_mem _ c.in-Some.ensures.gives (if_not _ _ _ c.if-mem.false ∙ if_not _ _ _ (negated _ _ c.if-ne.ensures)) c.go_on.ensures.calls; same_way = c.go_on.ensures.same_way ∙ c.in-Some.ensures.same_way; same_fact = c.go_on.ensures.same_fact ∙ c.in-Some.ensures.same_fact }
+returns-then-ne g c = took_mem _ c.in-Some.ensures.gives (if_not _ _ _ c.if-mem.false ∙ if_not _ _ _ (negated _ _ c.if-ne.ensures)) c.go_on.ensures
 
 pub returns-in-Home : goal.returns-in-Home
-returns-in-Home g c = record {
-  calls = took_mem _ c.in-Some.ensures.gives (if_not _ _ _ c.if-mem.false ∙ if_so _ _ _ (negated _ _ c.if-ne.ensures) ∙ ap (prepend c.args.goal) c.in-Home.is) (tried c.args.goal c.home_event.result c.home_event.ensures c.go_on-in-Home.ensures.calls);
-  same_way = c.go_on-in-Home.ensures.same_way ∙ c.in-Some.ensures.same_way;
-  same_fact = c.go_on-in-Home.ensures.same_fact ∙ c.in-Some.ensures.same_fact;
-}
+returns-in-Home g c = took_mem _ c.in-Some.ensures.gives (if_not _ _ _ c.if-mem.false ∙ if_so _ _ _ (negated _ _ c.if-ne.ensures) ∙ ap (prepend c.args.goal) c.in-Home.is) (tried c.args.goal c.home_event.result c.home_event.ensures c.go_on-in-Home.ensures)
 
 pub returns-in-Fresh : goal.returns-in-Fresh
-returns-in-Fresh g c = record { calls = took_mem _ c.in-Some.ensures.gives (if_not _ _ _ c.if-mem.false ∙ if_so _ _ _ (negated _ _ c.if-ne.ensures) ∙ ap (prepend c.args.goal) c.in-Fresh.is) c.go_on-in-Fresh.ensures.calls; same_way = c.go_on-in-Fresh.ensures.same_way ∙ c.in-Some.ensures.same_way; same_fact = c.go_on-in-Fresh.ensures.same_fact ∙ c.in-Some.ensures.same_fact }
+returns-in-Fresh g c = took_mem _ c.in-Some.ensures.gives (if_not _ _ _ c.if-mem.false ∙ if_so _ _ _ (negated _ _ c.if-ne.ensures) ∙ ap (prepend c.args.goal) c.in-Fresh.is) c.go_on-in-Fresh.ensures
 
 pub returns-in-Gone : goal.returns-in-Gone
-returns-in-Gone g c = record { calls = took_mem _ c.in-Some.ensures.gives (if_not _ _ _ c.if-mem.false ∙ if_so _ _ _ (negated _ _ c.if-ne.ensures) ∙ ap (prepend c.args.goal) c.in-Gone.is) c.go_on-in-Gone.ensures.calls; same_way = c.go_on-in-Gone.ensures.same_way ∙ c.in-Some.ensures.same_way; same_fact = c.go_on-in-Gone.ensures.same_fact ∙ c.in-Some.ensures.same_fact }
+returns-in-Gone g c = took_mem _ c.in-Some.ensures.gives (if_not _ _ _ c.if-mem.false ∙ if_so _ _ _ (negated _ _ c.if-ne.ensures) ∙ ap (prepend c.args.goal) c.in-Gone.is) c.go_on-in-Gone.ensures

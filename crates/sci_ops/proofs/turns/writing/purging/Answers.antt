@@ -14,7 +14,7 @@ use Rattle.sci_ops.proofs.Took.{took_own, no_own, unended, wait_goes_on}
 use Rattle.sci_ops.proofs.turns.writing.purging.Goals as goal
 
 pub returns-in_default : goal.returns-in_default
-returns-in_default g c = record { calls = subst (λ (p : Pending). Takes g.P.Port.gives (turn_in c.args.goal (g.P.Port.way c.args.port.now).node p) c.args.port.now Turn.Waiting c.own.new.self) (sym c.requires.step.2) (no_own c.in_default.ensures.gives); stamp = unended _ wait_goes_on; same_way = c.in_default.ensures.same_way; same_fact = c.in_default.ensures.same_fact }
+returns-in_default g c = record { calls = subst (λ (p : Pending). Takes g.P.Port.gives (turn_in c.args.goal (g.P.Port.way c.args.port.now).node p) c.args.port.now Turn.Waiting c.own.new.self) (sym c.requires.step.2) (no_own c.in_default.ensures.gives); stamp = unended _ wait_goes_on }
 
 pub purge-requires : goal.purge-requires
 purge-requires g c = record { node = node_below _ _ _ c.in-Some-forw.is (link_at _ _ _ c.in-Some.ensures.same_way (first _ _ c.in-Some.ensures.form.1)); step = (_, looked_in _ _ _ _ c.in-Some.ensures.look c.requires.step.2 ∙ ap (λ (f : Option ℕ). Pending.Purging c.requires.step.0 (Some f)) c.in-Some-forw.is) }
@@ -30,7 +30,7 @@ pub returns-in-Purging : goal.returns-in-Purging
 returns-in-Purging g c =
     let same : c.in-Purging.line ≡ c.requires.step.0 = ap line_of (c.in-Purging.ensures.value ∙ c.in-Some.ensures.look ∙ ap (λ (p : Pending). look_of p c.in-Some.tag) c.requires.step.2) in
     let plan : purging_at c.args.goal (g.P.Port.way c.args.port.now).node c.requires.step.0 c.in-Some.tag.forw ≡ write c.args.goal c.in-Purging.line = rw c.in-None.is (ap (λ (l : Line). write c.args.goal l) (sym same)) in
-    record { calls = subst (λ (p : Pending). Takes g.P.Port.gives (turn_in c.args.goal (g.P.Port.way c.args.port.now).node p) c.args.port.now c.write.result c.write.new.port) (sym c.requires.step.2) (took_own _ c.in-Some.ensures.gives plan c.write.ensures.calls); stamp = λ answer is. subst HasStamp (sym c.requires.step.2) (subst (λ (l : Line). l.stamp ≤ 18446744073709551615) same c.write.ensures.stamp); same_way = c.write.ensures.same_way ∙ c.in-Some.ensures.same_way; same_fact = c.write.ensures.same_fact ∙ c.in-Some.ensures.same_fact }
+    record { calls = subst (λ (p : Pending). Takes g.P.Port.gives (turn_in c.args.goal (g.P.Port.way c.args.port.now).node p) c.args.port.now c.write.result c.write.new.port) (sym c.requires.step.2) (took_own _ c.in-Some.ensures.gives plan c.write.ensures.calls); stamp = λ answer is. subst HasStamp (sym c.requires.step.2) (subst (λ (l : Line). l.stamp ≤ 18446744073709551615) same c.write.ensures.stamp) }
 
 pub returns-in-Some-forw : goal.returns-in-Some-forw
-returns-in-Some-forw g c = record { calls = subst (λ (p : Pending). Takes g.P.Port.gives (turn_in c.args.goal (g.P.Port.way c.args.port.now).node p) c.args.port.now c.purge.result c.purge.new.port) (sym c.requires.step.2) (took_own _ c.in-Some.ensures.gives (ap (purging_at c.args.goal (g.P.Port.way c.args.port.now).node c.requires.step.0) c.in-Some-forw.is ∙ ap (λ n. tag c.in-Some-forw.next (purge n)) (ap (λ (w : Way). w.node) (sym (c.in-Some.ensures.same_way)))) c.purge.ensures.calls); stamp = unended _ c.purge.ensures.goes_on; same_way = c.purge.ensures.same_way ∙ c.in-Some.ensures.same_way; same_fact = c.purge.ensures.same_fact ∙ c.in-Some.ensures.same_fact }
+returns-in-Some-forw g c = record { calls = subst (λ (p : Pending). Takes g.P.Port.gives (turn_in c.args.goal (g.P.Port.way c.args.port.now).node p) c.args.port.now c.purge.result c.purge.new.port) (sym c.requires.step.2) (took_own _ c.in-Some.ensures.gives (ap (purging_at c.args.goal (g.P.Port.way c.args.port.now).node c.requires.step.0) c.in-Some-forw.is ∙ ap (λ n. tag c.in-Some-forw.next (purge n)) (ap (λ (w : Way). w.node) (sym (c.in-Some.ensures.same_way)))) c.purge.ensures.calls); stamp = unended _ c.purge.ensures.goes_on }

@@ -28,7 +28,7 @@ pub go_on-requires : goal.go_on-requires
 go_on-requires g c = record { allowed = allowed_in (g.P.Port.way c.args.port.now) (Event.Written None) _ _ (c.requires.step) refl; fits = tt }
 
 pub returns-in_default : goal.returns-in_default
-returns-in_default g c = record { calls = taken_as (gives_back _ _ c.in_default.not-Write) c.go_on.ensures.calls; stamp = omega arith; same_way = c.go_on.ensures.same_way; same_fact = c.go_on.ensures.same_fact }
+returns-in_default g c = record { calls = taken_as (gives_back _ _ c.in_default.not-Write) c.go_on.ensures; stamp = omega arith }
 
 pub exchange-requires-clause-allowed : goal.exchange-requires-clause-allowed
 exchange-requires-clause-allowed g c = allowed_in (g.P.Port.way c.args.port.now) (Event.Written (Some c.change-words.result)) _ _ c.requires.step (counts c.args.line.now c.if-can_count.true)
@@ -37,7 +37,7 @@ pub exchange-requires-else-can_count : goal.exchange-requires-else-can_count
 exchange-requires-else-can_count g c = record { allowed = allowed_in (g.P.Port.way c.args.port.now) (Event.Written None) _ _ (c.requires.step) refl; fits = tt }
 
 pub returns-then-can_count : goal.returns-then-can_count
-returns-then-can_count g c = record { calls = taken_as (ap (λ (x : Goal). write x c.args.line.now) c.in-Write.is ∙ if_so _ _ _ (counts c.args.line.now c.if-can_count.true) ∙ ap (λ (words : List ℕ). exchange (Event.Written (Some words)) (End.Wrote c.args.line.now.words (c.args.line.now.stamp + 1))) (sym c.change-words.ensures)) c.exchange.ensures.calls; stamp = omega arith; same_way = c.exchange.ensures.same_way; same_fact = c.exchange.ensures.same_fact }
+returns-then-can_count g c = record { calls = taken_as (ap (λ (x : Goal). write x c.args.line.now) c.in-Write.is ∙ if_so _ _ _ (counts c.args.line.now c.if-can_count.true) ∙ ap (λ (words : List ℕ). exchange (Event.Written (Some words)) (End.Wrote c.args.line.now.words (c.args.line.now.stamp + 1))) (sym c.change-words.ensures)) c.exchange.ensures; stamp = omega arith }
 
 pub returns-else-can_count : goal.returns-else-can_count
-returns-else-can_count g c = record { calls = taken_as (ap (λ (x : Goal). write x c.args.line.now) c.in-Write.is ∙ if_not _ _ _ (counts_no_more c.args.line.now c.if-can_count.false)) c.exchange-else-can_count.ensures.calls; stamp = omega arith; same_way = c.exchange-else-can_count.ensures.same_way; same_fact = c.exchange-else-can_count.ensures.same_fact }
+returns-else-can_count g c = record { calls = taken_as (ap (λ (x : Goal). write x c.args.line.now) c.in-Write.is ∙ if_not _ _ _ (counts_no_more c.args.line.now c.if-can_count.false)) c.exchange-else-can_count.ensures; stamp = omega arith }
