@@ -14,9 +14,6 @@ moved_one done left all done2 left2 was less more = omega (arith, was, less, mor
 pub both_less : (a b a2 b2 : ℕ) → a ≡ b → a2 + 1 ≡ a → b2 + 1 ≡ b → a2 ≡ b2
 both_less a b a2 b2 same fewer other = omega (arith, same, fewer, other)
 
-pub no_less : (a b c : ℕ) → a ≤ b → b ≤ c → a ≤ c
-no_less a b c low high = omega (arith, low, high)
-
 -- at the end none is left
 pub all_done : (left done end all : ℕ) → left + done ≡ all → end ≤ done → end ≡ all → left ≡ 0
 all_done left done end all was over is = omega (arith, was, over, is)

@@ -6,7 +6,7 @@ use lib.ListN.{get_elem?}
 use Rattle.atomic_table.proofs.Lists.{at_last, at_longer}
 use Rattle.sci_work.specs.Ended.{IsClosedOf}
 use Rattle.sci_work.specs.Hands.{IsHandOf}
-use Rattle.sci_work.proofs.Counts.{all_done, from_none, no_less}
+use Rattle.sci_work.proofs.Counts.{all_done, from_none}
 use Rattle.sci_work.proofs.Residual.{passed_on}
 use Rattle.sci_work.proofs.lines.closed.Goals as goal
 
@@ -33,7 +33,7 @@ loop-init g c = record {
   room = subst (λ (z : ℕ). z ≤ vec_capacity c.in_ok-all.all) c.len.ensures c.in_ok-all.ensures.capacity;
   same = λ k x e. e;
   hands = λ k x e. c.requires k x e;
-  each = λ k x d el ed. absurd (some-ne-none d (sym (subst (λ (z : List _). get_elem? z k ≡ some d) c.in_ok-all.ensures.items ed)));
+  each = λ k x d el ed. absurd (some-ne-none d (sym (subst (λ (z : List _). get_elem? (reverse z) k ≡ some d) c.in_ok-all.ensures.items ed)));
 }
 
 pub unreachable-requires : goal.unreachable-requires
@@ -49,7 +49,7 @@ loop-preserved g c =
     record {
       rest = fewer_rest (vec_len c.loop.rest) c.loop.counter _ (vec_len c.pop.new.self) i.rest one;
       len = put.len ∙ ap (λ (z : ℕ). z + 1) i.len;
-      room = no_less _ (vec_capacity c.loop.all) _ i.room put.capacity;
+      room = subst (λ (z : ℕ). vec_len c.args.lines ≤ z) (sym put.capacity) i.room;
       same = λ k x e. i.same k x (subst (λ (z : List _). get_elem? z k ≡ some x) (sym popped) (at_longer fewer (line ∷ []) k x e));
       hands = λ k x e. subst (λ (z : List _). IsHandOf z k (vec_items x)) c.deref.ensures.value (c.in_ok-fewer.ensures.hands k x e);
       each = pairs_more (λ x d. IsClosedOf g.K.Keeps.fits x d) c.args.lines.items (vec_len c.pop.new.self) line (reverse c.loop.all.items) (reverse c.push_reserved.new.self.items) c.in_ok-one.one (ap reverse put.items ∙ reverse-append c.loop.all.items (c.in_ok-one.one ∷ []))

@@ -1,10 +1,9 @@
 use Rattle.std.proofs.Common.{arith}
 use Rattle.sci_work.specs.Made.{none}
-use Rattle.sci_work.proofs.Worked.{still_not}
 use Rattle.sci_work.proofs.rings.producing.free.Goals as goal
 
-pub returns-then-consumed-ge-least : goal.returns-then-consumed-ge-least
-returns-then-consumed-ge-least g c = record { free = omega (arith, c.then-consumed-ge-least, c.saturating_sub-least.ensures); err = tt; made = none; still = still_not c.requires.ready }
+pub returns-then-consumed-least-clause-made : goal.returns-then-consumed-least-clause-made
+returns-then-consumed-least-clause-made g c = none
 
 pub returns-in-Ok : goal.returns-in-Ok
 returns-in-Ok g c = let e = c.reached.ensures in record { free = omega (arith, c.in-Ok.ensures.number, c.saturating_sub-least.ensures); err = tt; made = e.made; still = e.still }

@@ -11,12 +11,12 @@ use Rattle.sci_work.proofs.rings.producing.produced.Goals as goal
 pub loop-i-init : goal.loop-i-init
 loop-i-init g c = record { still = still_not c.requires.ready; made = none }
 
-pub returns-in_err-free : goal.returns-in_err-free
-returns-in_err-free g c =
+pub returns-in_err-consumed : goal.returns-in_err-consumed
+returns-in_err-consumed g c =
     let r = c.from_residual in
     record {
       ok = IfOk-from_err r.result _ r.ensures.0;
-      err = passed_on r.result _ _ r.ensures.1 c.in_err-free.ensures.err;
+      err = passed_on r.result _ _ r.ensures.1 c.in_err-consumed.ensures.err;
       made = record { count = c.loop-i.i; within = c.loop-i.auto.i-end; made = made_all g.B.Bank.gives g.B.Bank.at_step c.loop-i.invariant.made c.free.ensures.made };
       still = still_then c.loop-i.invariant.still c.free.ensures.still;
     }
