@@ -2,7 +2,8 @@
 use Rattle.std.proofs.Common.{◌≡◌, ℕ, suc, ◌<◌, ◌-◌, Bool, true, false, Bor, Option, Some, None, option_copied, List, [], ◌∷◌, ◌++◌, length, slice_set, slice_get, refl, sym, ap, ◌∙◌, arith}
 use Rattle.sci_core.specs.declared.receipts.Receipt.{Receipt}
 use Rattle.sci_port.proofs.Elements.{clash}
-use Rattle.sci_port.specs.ReceiptList.{Replaces, ReceiptList, is_passed, last_passed}
+use Rattle.sci_port.specs.KeepsTo.{is_passed}
+use Rattle.sci_port.specs.ReceiptList.{Replaces, ReceiptList, last_passed}
 
 -- a receipt that may be there was passed
 abbrev pub passed_in : Option Receipt → Bool

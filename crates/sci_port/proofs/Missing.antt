@@ -1,9 +1,7 @@
 -- What a port missed is not the word that the row was to find.
-use Rattle.std.proofs.Common.{◌≡◌, ◌≤◌, ℕ, refl, sym, ◌∙◌, arith}
+use Rattle.std.proofs.Common.{◌≤◌, ℕ, sym, ◌∙◌, arith}
 use Rattle.sci_words.proofs.Codes.{one_tag, one_mem, link_further, tag_links_further}
 use Rattle.sci_words.specs.declared.layouts.Layout.TheVariants.{Two}
-use Rattle.sci_words.specs.declared.tags.Tag.{Tag}
-use Rattle.sci_words.specs.declared.memory.Mem.{Mem}
 use Rattle.sci_core.specs.declared.pending.Pending.{Pending}
 use Rattle.sci_core.specs.declared.events.Event.{Event}
 use Rattle.sci_core.specs.declared.outcomes.Outcome.{Outcome}

@@ -8,18 +8,17 @@ use Rattle.sci_core.specs.declared.outcomes.Outcome.{Outcome}
 use Rattle.sci_core.specs.declared.receipts.Receipt.{Receipt}
 use Rattle.sci_core.specs.declared.receipts.Receipt.TheVariants.{Read, Passed, Wrote}
 use Rattle.sci_core.specs.Answers.{is_allowed}
-use Rattle.sci_core.specs.Legal.{is_write}
 use Rattle.sci_core.specs.State.{blank}
 use Rattle.sci_port.specs.declared.calls.Call.{Call}
 use Rattle.sci_port.specs.declared.calls.Call.TheVariants.{Own, MemWas, TagWas, Stepped}
 use Rattle.sci_port.specs.Owes.{Owes}
-use Rattle.sci_port.specs.KeepsTo.{as_read, KeepsTo, keeps_to}
+use Rattle.sci_port.specs.KeepsTo.{as_read, is_passed, KeepsTo, keeps_to}
 use Rattle.sci_port.specs.Shown.{kept_after, shown_by, shown_in, kept_in, HasKept}
-use Rattle.sci_port.specs.ReceiptList.{ReceiptList, Appends, Replaces, Settles, Writes, Receives, AreReceiptsOf, is_passed, last_passed}
+use Rattle.sci_port.specs.ReceiptList.{ReceiptList, Appends, Replaces, Settles, Writes, Receives, AreReceiptsOf, last_passed}
 use Rattle.sci_port.proofs.Elements.{clash}
 use Rattle.sci_port.proofs.Kept.{call_kept}
 use Rattle.sci_port.proofs.Tested.{keeps_of, of_keeps}
-use Rattle.sci_port.proofs.Thinned.{keeps_more, keeps_less}
+use Rattle.sci_port.proofs.Thinned.{keeps_more, keeps_later}
 
 shown_last : (k : Line) (log : List (ℕ × Call)) (c : ℕ × Call) → shown_in k (log ++ c ∷ []) ≡ shown_in k log ++ shown_by (kept_in k log) c.1
 shown_last k [] c = append-nil (shown_by k c.1)
@@ -29,11 +28,6 @@ kept_last : (k : Line) (log : List (ℕ × Call)) (c : ℕ × Call) → kept_in 
 kept_last k [] c = refl
 kept_last k (x ∷ log) c = kept_last (kept_after k x.1) log c
 
-passed_no_write : (r : Receipt) → is_passed r ≡ true → is_write r ≡ false
-passed_no_write (Passed words stamp) h = refl
-passed_no_write (Read words stamp) h = refl
-passed_no_write (Wrote before words stamp) h = absurd (cc)
-
 module _ (ns : List Receipt) (s t : ReceiptList) (keeps : KeepsTo s.list ns) where
   same_keeps : t ≡ s → KeepsTo t.list (ns ++ [])
   same_keeps same = subst (λ (z : List Receipt × List Receipt). KeepsTo z.0 z.1) (λ i. ((sym same i).list, sym (append-nil ns) i)) keeps
@@ -41,14 +35,14 @@ module _ (ns : List Receipt) (s t : ReceiptList) (keeps : KeepsTo s.list ns) whe
   appended_keeps : (r n : Receipt) → as_read r ≡ n → Appends s r t → KeepsTo t.list (ns ++ n ∷ [])
   appended_keeps r n is a = subst (λ (z : List Receipt). KeepsTo z (ns ++ n ∷ [])) (sym a.list) (keeps_more s.list ns r n keeps is)
 
-  replaced_keeps : (r n : Receipt) → as_read r ≡ n → Replaces s r t → KeepsTo t.list (ns ++ n ∷ [])
-  replaced_keeps r n is a = subst (λ (z : List Receipt). KeepsTo z (ns ++ n ∷ [])) (sym a.list)
-      (keeps_more a.before ns r n (keeps_less a.before ns a.last (passed_no_write a.last a.passed) (subst (λ (z : List Receipt). KeepsTo z ns) a.was keeps)) is)
+  replaced_keeps : (r n : Receipt) → is_passed r ≡ true → as_read r ≡ n → Replaces s r t → KeepsTo t.list (ns ++ n ∷ [])
+  replaced_keeps r n passed is a = subst (λ (z : List Receipt). KeepsTo z (ns ++ n ∷ [])) (sym a.list)
+      (keeps_later a.before ns a.last r n a.passed passed (subst (λ (z : List Receipt). KeepsTo z ns) a.was keeps) is)
 
   settled_keeps : (passing last : Bool) (line : Line) → Settles passing last s line t → KeepsTo t.list (ns ++ Read line.words line.stamp ∷ [])
   settled_keeps false last line a = appended_keeps (Read line.words line.stamp) (Read line.words line.stamp) refl a
   settled_keeps true false line a = appended_keeps (Passed line.words line.stamp) (Read line.words line.stamp) refl a
-  settled_keeps true true line a = replaced_keeps (Passed line.words line.stamp) (Read line.words line.stamp) refl a
+  settled_keeps true true line a = replaced_keeps (Passed line.words line.stamp) (Read line.words line.stamp) refl refl a
 
   written_keeps : (n me : ℕ) (p : Pending) (words : List ℕ) (k : Line) → is_allowed n me p (Event.Written (Some words)) ≡ true → HasKept p k → Writes p words s t → KeepsTo t.list (ns ++ Wrote k.words words (k.stamp + 1) ∷ [])
   written_keeps n me (Pending.Purging line seen) words k allowed kept a = appended_keeps (Wrote line.words words (line.stamp + 1)) (Wrote k.words words (k.stamp + 1)) (λ i. Wrote (kept i).words words ((kept i).stamp + 1)) a

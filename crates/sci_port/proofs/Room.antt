@@ -1,5 +1,5 @@
 -- Where there is room for an event's receipt.
-use Rattle.std.proofs.Common.{◌≡◌, ◌<◌, Bool, true, false, ◌&&◌, Some, None, sym, ◌∙◌}
+use Rattle.std.proofs.Common.{◌≡◌, ◌<◌, true, Some, None}
 use Rattle.sci_core.specs.declared.lines.Line.{Line}
 use Rattle.sci_core.specs.declared.events.Event.{Event}
 use Rattle.sci_port.proofs.Elements.{clash}

@@ -4,7 +4,7 @@ use Rattle.std.proofs.lemmas.Bool.{eq-eqb, eqb-true}
 use Rattle.sci_core.specs.declared.receipts.Receipt.{Receipt}
 use Rattle.sci_core.specs.declared.receipts.Receipt.TheVariants.{Read, Passed, Wrote}
 use Rattle.sci_core.specs.Legal.{is_write}
-use Rattle.sci_port.specs.KeepsTo.{as_read, KeepsTo, same_words, is_same, keeps_to}
+use Rattle.sci_port.specs.KeepsTo.{as_read, is_passed, KeepsTo, same_words, is_same, keeps_to}
 
 both : (a b : Bool) → (a && b) ≡ true → (a ≡ true) × (b ≡ true)
 both true true h = (refl, refl)
@@ -64,18 +64,18 @@ receipts_same (Wrote before words stamp) = and_true (same_words before before) (
 
 pub keeps_of : (rs ns : List Receipt) → keeps_to rs ns ≡ true → KeepsTo rs ns
 keeps_of [] [] h = tt
-keeps_of [] (n ∷ ns) h = let k = both (not (is_write n)) (keeps_to [] ns) h in (not_true (is_write n) k.0, keeps_of [] ns k.1)
+keeps_of [] (n ∷ ns) h = absurd (cc)
 keeps_of (r ∷ rs) [] h = absurd (cc)
 keeps_of (r ∷ rs) (n ∷ ns) h = ⊎_elim
     (λ k. let m = both (is_same (as_read r) n) (keeps_to rs ns) k in inl (receipts_are (as_read r) n m.0, keeps_of rs ns m.1))
-    (λ k. let m = both (not (is_write n)) (keeps_to (r ∷ rs) ns) k in inr (not_true (is_write n) m.0, keeps_of (r ∷ rs) ns m.1))
-    (either (is_same (as_read r) n && keeps_to rs ns) (not (is_write n) && keeps_to (r ∷ rs) ns) h)
+    (λ k. let p = both (is_passed r) (not (is_write n) && keeps_to (r ∷ rs) ns) k in let m = both (not (is_write n)) (keeps_to (r ∷ rs) ns) p.1 in inr (p.0, not_true (is_write n) m.0, keeps_of (r ∷ rs) ns m.1))
+    (either (is_same (as_read r) n && keeps_to rs ns) (is_passed r && (not (is_write n) && keeps_to (r ∷ rs) ns)) h)
 
 pub of_keeps : (rs ns : List Receipt) → KeepsTo rs ns → keeps_to rs ns ≡ true
 of_keeps [] [] k = refl
-of_keeps [] (n ∷ ns) k = and_true (not (is_write n)) (keeps_to [] ns) (not_false (is_write n) k.0) (of_keeps [] ns k.1)
+of_keeps [] (n ∷ ns) k = absurd k
 of_keeps (r ∷ rs) [] k = absurd k
 of_keeps (r ∷ rs) (n ∷ ns) k = ⊎_elim
-    (λ h. or_first (is_same (as_read r) n && keeps_to rs ns) (not (is_write n) && keeps_to (r ∷ rs) ns) (and_true (is_same (as_read r) n) (keeps_to rs ns) (ap (λ (z : Receipt). is_same (as_read r) z) (sym h.0) ∙ receipts_same (as_read r)) (of_keeps rs ns h.1)))
-    (λ h. or_second (is_same (as_read r) n && keeps_to rs ns) (not (is_write n) && keeps_to (r ∷ rs) ns) (and_true (not (is_write n)) (keeps_to (r ∷ rs) ns) (not_false (is_write n) h.0) (of_keeps (r ∷ rs) ns h.1)))
+    (λ h. or_first (is_same (as_read r) n && keeps_to rs ns) (is_passed r && (not (is_write n) && keeps_to (r ∷ rs) ns)) (and_true (is_same (as_read r) n) (keeps_to rs ns) (ap (λ (z : Receipt). is_same (as_read r) z) (sym h.0) ∙ receipts_same (as_read r)) (of_keeps rs ns h.1)))
+    (λ h. or_second (is_same (as_read r) n && keeps_to rs ns) (is_passed r && (not (is_write n) && keeps_to (r ∷ rs) ns)) (and_true (is_passed r) (not (is_write n) && keeps_to (r ∷ rs) ns) h.0 (and_true (not (is_write n)) (keeps_to (r ∷ rs) ns) (not_false (is_write n) h.1) (of_keeps (r ∷ rs) ns h.2))))
     k

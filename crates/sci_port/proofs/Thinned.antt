@@ -1,4 +1,4 @@
--- Lists that keep to what was shown: one more receipt, the last of them dropped; and they are still one history.
+-- Lists that keep to what was shown: one more receipt, the last of them, a Passed, replaced; and they are still one history.
 use Rattle.std.proofs.Common.{◌≡◌, ℕ, zero, suc, ◌+◌, ◌<◌, ◌≤◌, true, false, List, [], ◌∷◌, ◌++◌, cond, refl, sym, ap, ◌∙◌, subst, inl, inr, ⊎_elim, arith}
 use mathlib.Core.Logic.{dite}
 use mathlib.Core.Option.{some, some-injective, some-ne-none}
@@ -8,16 +8,16 @@ use Rattle.sci_core.specs.declared.lines.Line.{Line}
 use Rattle.sci_core.specs.declared.receipts.Receipt.{Receipt}
 use Rattle.sci_core.specs.declared.receipts.Receipt.TheVariants.{Read, Passed, Wrote}
 use Rattle.sci_core.specs.Legal.{stamp_of, is_write, IsShown, IsLegal}
-use Rattle.sci_port.specs.KeepsTo.{as_read, KeepsTo}
+use Rattle.sci_port.specs.KeepsTo.{as_read, is_passed, KeepsTo}
 use Rattle.sci_port.specs.Receipts.{writes_of}
 use Rattle.sci_port.proofs.Elements.{clash}
 
 -- one more, which was shown
 pub keeps_more : (rs ns : List Receipt) (r n : Receipt) → KeepsTo rs ns → as_read r ≡ n → KeepsTo (rs ++ r ∷ []) (ns ++ n ∷ [])
 keeps_more [] [] r n k is = inl (is, tt)
-keeps_more [] (m ∷ ns) r n k is = inr (k.0, keeps_more [] ns r n k.1 is)
+keeps_more [] (m ∷ ns) r n k is = absurd k
 keeps_more (x ∷ rs) [] r n k is = absurd k
-keeps_more (x ∷ rs) (m ∷ ns) r n k is = ⊎_elim (λ h. inl (h.0, keeps_more rs ns r n h.1 is)) (λ h. inr (h.0, keeps_more (x ∷ rs) ns r n h.1 is)) k
+keeps_more (x ∷ rs) (m ∷ ns) r n k is = ⊎_elim (λ h. inl (h.0, keeps_more rs ns r n h.1 is)) (λ h. inr (h.0, h.1, keeps_more (x ∷ rs) ns r n h.2 is)) k
 
 as_write : (r : Receipt) → is_write (as_read r) ≡ is_write r
 as_write (Read words stamp) = refl
@@ -34,14 +34,24 @@ as_shown h first last (Read words stamp) k = k
 as_shown h first last (Passed words stamp) k = k
 as_shown h first last (Wrote before words stamp) k = k
 
--- the last is left out, which is no write
-pub keeps_less : (rs ns : List Receipt) (r : Receipt) → is_write r ≡ false → KeepsTo (rs ++ r ∷ []) ns → KeepsTo rs ns
-keeps_less [] [] r read k = tt
-keeps_less (x ∷ rs) [] r read k = absurd k
-keeps_less [] (n ∷ ns) r read k = ⊎_elim
-    (λ h. (sym (ap is_write h.0) ∙ (as_write r ∙ read), h.1))
-    (λ h. (h.0, keeps_less [] ns r read h.1)) k
-keeps_less (x ∷ rs) (n ∷ ns) r read k = ⊎_elim (λ h. inl (h.0, keeps_less rs ns r read h.1)) (λ h. inr (h.0, keeps_less (x ∷ rs) ns r read h.1)) k
+passed_no_write : (r : Receipt) → is_passed r ≡ true → is_write r ≡ false
+passed_no_write (Passed words stamp) h = refl
+passed_no_write (Read words stamp) h = refl
+passed_no_write (Wrote before words stamp) h = absurd (cc)
+
+-- the last, a Passed, gives way to one that was passed later
+pub keeps_later : (rs ns : List Receipt) (l r n : Receipt) → is_passed l ≡ true → is_passed r ≡ true → KeepsTo (rs ++ l ∷ []) ns → as_read r ≡ n → KeepsTo (rs ++ r ∷ []) (ns ++ n ∷ [])
+keeps_later [] [] l r n was passed k is = absurd k
+keeps_later [] (m ∷ []) l r n was passed k is = ⊎_elim
+    (λ h. inr (passed, sym (ap is_write h.0) ∙ (as_write l ∙ passed_no_write l was), inl (is, tt)))
+    (λ h. absurd h.2) k
+keeps_later [] (m ∷ o ∷ ns) l r n was passed k is = ⊎_elim
+    (λ h. absurd h.1)
+    (λ h. inr (passed, h.1, keeps_later [] (o ∷ ns) l r n was passed h.2 is)) k
+keeps_later (x ∷ rs) [] l r n was passed k is = absurd k
+keeps_later (x ∷ rs) (m ∷ ns) l r n was passed k is = ⊎_elim
+    (λ h. inl (h.0, keeps_later rs ns l r n was passed h.1 is))
+    (λ h. inr (h.0, h.1, keeps_later (x ∷ rs) ns l r n was passed h.2 is)) k
 
 no_write : (n : Receipt) (m : ℕ) → is_write n ≡ false → cond (is_write n) 1 0 + m ≡ m
 no_write n m e = ap (λ b. cond b 1 0 + m) e ∙ (let z : 0 + m ≡ m = omega arith in z)
@@ -49,11 +59,11 @@ no_write n m e = ap (λ b. cond b 1 0 + m) e ∙ (let z : 0 + m ≡ m = omega ar
 -- as many writes
 pub keeps_writes : (rs ns : List Receipt) → KeepsTo rs ns → writes_of rs ≡ writes_of ns
 keeps_writes [] [] k = refl
-keeps_writes [] (n ∷ ns) k = keeps_writes [] ns k.1 ∙ sym (no_write n (writes_of ns) k.0)
+keeps_writes [] (n ∷ ns) k = absurd k
 keeps_writes (r ∷ rs) [] k = absurd k
 keeps_writes (r ∷ rs) (n ∷ ns) k = ⊎_elim
     (λ h. (λ i. cond ((sym (as_write r) ∙ ap is_write h.0) i) 1 0 + keeps_writes rs ns h.1 i))
-    (λ h. keeps_writes (r ∷ rs) ns h.1 ∙ sym (no_write n (writes_of ns) h.0)) k
+    (λ h. keeps_writes (r ∷ rs) ns h.2 ∙ sym (no_write n (writes_of ns) h.1)) k
 
 -- where a receipt was shown
 finds : (rs ns : List Receipt) (p : ℕ) (r : Receipt) → KeepsTo rs ns → get_elem? rs p ≡ some r → (q : ℕ) × (get_elem? ns q ≡ some (as_read r))
@@ -61,10 +71,10 @@ finds [] ns p r k e = absurd (some-ne-none r (sym e))
 finds (x ∷ rs) [] p r k e = absurd k
 finds (x ∷ rs) (n ∷ ns) zero r k e = ⊎_elim
     (λ h. (0, ap (λ z. some z) (sym h.0 ∙ ap as_read (some-injective x r e))))
-    (λ h. let m = finds (x ∷ rs) ns zero r h.1 e in (suc m.0, m.1)) k
+    (λ h. let m = finds (x ∷ rs) ns zero r h.2 e in (suc m.0, m.1)) k
 finds (x ∷ rs) (n ∷ ns) (suc p) r k e = ⊎_elim
     (λ h. let m = finds rs ns p r h.1 e in (suc m.0, m.1))
-    (λ h. let m = finds (x ∷ rs) ns (suc p) r h.1 e in (suc m.0, m.1)) k
+    (λ h. let m = finds (x ∷ rs) ns (suc p) r h.2 e in (suc m.0, m.1)) k
 
 -- in the same order
 finds_both : (rs ns : List Receipt) (p q : ℕ) (r s : Receipt) → KeepsTo rs ns → p < q → get_elem? rs p ≡ some r → get_elem? rs q ≡ some s → (i j : ℕ) × (i < j) × (get_elem? ns i ≡ some (as_read r)) × (get_elem? ns j ≡ some (as_read s))
@@ -73,23 +83,22 @@ finds_both (x ∷ rs) [] p q r s k lt e f = absurd k
 finds_both (x ∷ rs) (n ∷ ns) p zero r s k lt e f = absurd (omega arith)
 finds_both (x ∷ rs) (n ∷ ns) zero (suc q) r s k lt e f = ⊎_elim
     (λ h. let m = finds rs ns q s h.1 f in (0, suc m.0, omega arith, ap (λ z. some z) (sym h.0 ∙ ap as_read (some-injective x r e)), m.1))
-    (λ h. let m = finds_both (x ∷ rs) ns zero (suc q) r s h.1 lt e f in let near = m.2 in (suc m.0, suc m.1, omega arith, m.3, m.4)) k
+    (λ h. let m = finds_both (x ∷ rs) ns zero (suc q) r s h.2 lt e f in let near = m.2 in (suc m.0, suc m.1, omega arith, m.3, m.4)) k
 finds_both (x ∷ rs) (n ∷ ns) (suc p) (suc q) r s k lt e f = ⊎_elim
     (λ h. let m = finds_both rs ns p q r s h.1 (omega arith) e f in let near = m.2 in (suc m.0, suc m.1, omega arith, m.3, m.4))
-    (λ h. let m = finds_both (x ∷ rs) ns (suc p) (suc q) r s h.1 lt e f in let near = m.2 in (suc m.0, suc m.1, omega arith, m.3, m.4)) k
+    (λ h. let m = finds_both (x ∷ rs) ns (suc p) (suc q) r s h.2 lt e f in let near = m.2 in (suc m.0, suc m.1, omega arith, m.3, m.4)) k
 
 -- and no write is left out
 finds_write : (rs ns : List Receipt) (q : ℕ) (n : Receipt) → KeepsTo rs ns → get_elem? ns q ≡ some n → is_write n ≡ true → (p : ℕ) × (r : Receipt) × (get_elem? rs p ≡ some r) × (as_read r ≡ n)
 finds_write [] [] q n k e w = absurd (some-ne-none n (sym e))
-finds_write [] (m ∷ ns) zero n k e w = absurd (clash (is_write n) w (sym (ap is_write (some-injective m n e)) ∙ k.0))
-finds_write [] (m ∷ ns) (suc q) n k e w = finds_write [] ns q n k.1 e w
+finds_write [] (m ∷ ns) q n k e w = absurd k
 finds_write (x ∷ rs) [] q n k e w = absurd k
 finds_write (x ∷ rs) (m ∷ ns) zero n k e w = ⊎_elim
     (λ h. (0, x, refl, h.0 ∙ some-injective m n e))
-    (λ h. absurd (clash (is_write n) w (sym (ap is_write (some-injective m n e)) ∙ h.0))) k
+    (λ h. absurd (clash (is_write n) w (sym (ap is_write (some-injective m n e)) ∙ h.1))) k
 finds_write (x ∷ rs) (m ∷ ns) (suc q) n k e w = ⊎_elim
     (λ h. let f = finds_write rs ns q n h.1 e w in (suc f.0, f.1, f.2, f.3))
-    (λ h. finds_write (x ∷ rs) ns q n h.1 e w) k
+    (λ h. finds_write (x ∷ rs) ns q n h.2 e w) k
 
 module _ (o v : Line) (lists shown : ℕ → List Receipt) (g : IsLegal o v shown) (keep : (j : ℕ) → KeepsTo (lists j) (shown j)) where
   in_order : (j p q : ℕ) (r s : Receipt) → p < q → get_elem? (lists j) p ≡ some r → get_elem? (lists j) q ≡ some s → (stamp_of r ≤ stamp_of s) × (is_write s ≡ true → stamp_of r < stamp_of s)

@@ -12,12 +12,16 @@ abbrev pub as_read : Receipt → Receipt
 as_read (Passed words stamp) = Read words stamp
 as_read r = r
 
--- the receipts are what was shown, in order, but that reads may be left out; no write is
+abbrev pub is_passed : Receipt → Bool
+is_passed (Passed words stamp) = true
+is_passed r = false
+
+-- the receipts are what was shown, in order, but that before a Passed reads may be left out; no write is, nor what was shown last
 abbrev pub KeepsTo : List Receipt → List Receipt → Type 0
 KeepsTo [] [] = Unit {0}
-KeepsTo [] (n ∷ ns) = (is_write n ≡ false) × KeepsTo [] ns
+KeepsTo [] (n ∷ ns) = ⊥
 KeepsTo (r ∷ rs) [] = ⊥
-KeepsTo (r ∷ rs) (n ∷ ns) = ((as_read r ≡ n) × KeepsTo rs ns) ⊎ ((is_write n ≡ false) × KeepsTo (r ∷ rs) ns)
+KeepsTo (r ∷ rs) (n ∷ ns) = ((as_read r ≡ n) × KeepsTo rs ns) ⊎ ((is_passed r ≡ true) × (is_write n ≡ false) × KeepsTo (r ∷ rs) ns)
 
 -- each node's list keeps to the node's log
 abbrev pub KeepToLogs : (ℕ → List Receipt) → (ℕ → List (ℕ × Call)) → Type 0
@@ -38,6 +42,6 @@ is_same r s = false
 
 abbrev pub keeps_to : List Receipt → List Receipt → Bool
 keeps_to [] [] = true
-keeps_to [] (n ∷ ns) = not (is_write n) && keeps_to [] ns
+keeps_to [] (n ∷ ns) = false
 keeps_to (r ∷ rs) [] = false
-keeps_to (r ∷ rs) (n ∷ ns) = (is_same (as_read r) n && keeps_to rs ns) || (not (is_write n) && keeps_to (r ∷ rs) ns)
+keeps_to (r ∷ rs) (n ∷ ns) = (is_same (as_read r) n && keeps_to rs ns) || (is_passed r && (not (is_write n) && keeps_to (r ∷ rs) ns))

@@ -9,7 +9,7 @@ use Rattle.sci_core.specs.declared.receipts.Receipt.TheVariants.{Read, Passed, W
 use Rattle.sci_core.specs.State.{blank}
 use Rattle.sci_port.specs.declared.calls.Call.{Call}
 use Rattle.sci_port.specs.declared.calls.Call.TheVariants.{Stepped}
-use Rattle.sci_port.specs.KeepsTo.{keeps_to}
+use Rattle.sci_port.specs.KeepsTo.{is_passed, keeps_to}
 use Rattle.sci_port.specs.Shown.{shown_in, kept_in, HasKept}
 
 -- the receipts, the mark (whether the next settle is only passed), and for how many more receipts there is room
@@ -17,10 +17,6 @@ pub record ReceiptList : Type 0 where
   pub list : List Receipt
   pub passing : Bool
   pub room : ℕ
-
-abbrev pub is_passed : Receipt → Bool
-is_passed (Passed words stamp) = true
-is_passed r = false
 
 -- the last receipt is a Passed
 abbrev pub last_passed : List Receipt → Bool

@@ -3,7 +3,8 @@ ghost use Rattle.std.specs.Prelude.{◌≡◌, ◌+◌, ◌<◌, ◌≤◌, [], 
 ghost use Rattle.sci_core.specs.declared.pending.Pending.{Pending};
 ghost use Rattle.sci_core.specs.declared.receipts.Receipt.TheVariants.{Read, Passed, Wrote};
 ghost use Rattle.sci_port.specs.declared.calls.Call.TheVariants.{Stepped};
-ghost use Rattle.sci_port.specs.ReceiptList.{Appends, CountsOver, HasRoom, Receives, Replaces, Settles, WritesOver, is_passed, last_passed, replaces};
+ghost use Rattle.sci_port.specs.KeepsTo.{is_passed};
+ghost use Rattle.sci_port.specs.ReceiptList.{Appends, CountsOver, HasRoom, Receives, Replaces, Settles, WritesOver, last_passed, replaces};
 
 use sci_core::{Event, Line, Outcome, Receipt};
 use std::alloc::{AllocError, Global};
