@@ -80,6 +80,13 @@ impl Node {
         self.call.is_some()
     }
 
+    /// The call that is open.
+    pub fn open_call(&self) -> Option<OpenCall>
+        ensures { result ≡ self.now.call }
+    {
+        self.call
+    }
+
     /// Opens a call. A request other than Evict makes its line the most recent; where it is new and the table full, the last
     /// leaves the table and becomes the victim. The refusals: 14, 12, 10, then 7; none changes anything. An eviction, and a
     /// line that the table names, take no memory.

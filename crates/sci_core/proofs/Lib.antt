@@ -31,6 +31,7 @@ pub mod Handing
 pub mod InHand
 pub mod AtRest
 pub mod Laying
+pub mod Copying
 pub mod Filling
 pub mod Moving
 pub mod Making

@@ -3,6 +3,7 @@
 
 mod chains;
 mod closing;
+mod copies;
 mod events;
 mod keeps;
 mod laws;

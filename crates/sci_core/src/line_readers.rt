@@ -69,7 +69,7 @@ fn has_slot(stage: &Stage) -> bool
 }
 
 // The line in a node's slot, where it is at home.
-fn at_home(tag: &Tag, stage: &Stage, line: &Line) -> Option<Line>
+pub(crate) fn at_home(tag: &Tag, stage: &Stage, line: &Line) -> Option<Line>
     ensures { result ≡ slot_of tag.now stage.now line.now }
 {
     if has_slot(stage) || tag.held {

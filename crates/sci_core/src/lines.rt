@@ -1,7 +1,7 @@
 //! The content of a line.
 
 /// A line's content: eight words, and a stamp that counts its writes.
-#[derive(Clone, Copy, Debug, PartialEq, Eq)]
+#[derive(Clone, Copy, Debug, PartialEq, Eq, Hash)]
 pub struct Line {
     pub words: [u64; 8],
     pub stamp: u64,

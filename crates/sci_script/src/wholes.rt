@@ -8,7 +8,7 @@ ghost use Rattle.sci_script.specs.Unused.{AreOpened};
 use crate::commands::{Script, Size};
 use crate::desk::Desk;
 use crate::nodes::idle;
-use sci_cache::{Node, Request};
+use sci_cache::{Node, OpenCall, Request};
 use sci_core::{AnyWords, Whole};
 use sci_ops::Turn;
 use sci_port::{Bank, SoloBank};
@@ -77,6 +77,28 @@ impl WholeDesk {
         let wholes = unused(alloc, script)?;
         let bank = SoloBank::new(wholes, nodes[0].id());
         Ok(WholeDesk { size, bank, nodes })
+    }
+
+    /// How many nodes and lines there are.
+    pub fn size(&self) -> Size
+        ensures { result ≡ self.now.size }
+    {
+        self.size
+    }
+
+    /// The call that the node has open.
+    pub fn open_call(&self, node: NodeId) -> Option<OpenCall>
+        requires { node < self.now.size.nodes }
+        ensures { result ≡ ((shared_of self.now).nodes node).call }
+    {
+        self.nodes[usize::from(node.get())].open_call()
+    }
+
+    /// The lines as they stand.
+    pub fn into_wholes(self) -> Vec<Whole<AnyWords>>
+        ensures { result.items ≡ self.bank.wholes.items }
+    {
+        self.bank.into_wholes()
     }
 }
 

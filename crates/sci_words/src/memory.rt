@@ -3,7 +3,7 @@ use crate::nodes::NodeId;
 use crate::refusals::WordRefusal;
 
 /// Memory's state of a line.
-#[derive(Clone, Copy, Debug, PartialEq, Eq)]
+#[derive(Clone, Copy, Debug, PartialEq, Eq, Hash)]
 pub enum MemState {
     /// There is no sharing list, and memory's bytes are valid.
     Home,
@@ -14,7 +14,7 @@ pub enum MemState {
 }
 
 /// Memory's word: its state, whether its bytes are lent while they are copied, and the head of the sharing list.
-#[derive(Clone, Copy, Debug, PartialEq, Eq)]
+#[derive(Clone, Copy, Debug, PartialEq, Eq, Hash)]
 pub struct Mem {
     pub state: MemState,
     pub lent: bool,

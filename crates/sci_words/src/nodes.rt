@@ -7,7 +7,7 @@ use std::marker::Model;
 pub type LineNo = u16;
 
 /// The number of a node, 0 to 65,534. Contracts see it as that number.
-#[derive(Clone, Copy, Debug, PartialEq, Eq)]
+#[derive(Clone, Copy, Debug, PartialEq, Eq, Hash)]
 pub struct NodeId {
     number: u16,
 }

@@ -4,7 +4,7 @@ use crate::refusals::WordRefusal;
 
 /// What a cache entry is. The front kinds (`Queued`, `Fresh`, `Dirty`, `Convert`, `Purging`, `Leaving`) stand at the head
 /// of a sharing list, the body kinds (`Valid`, `Roll`, `Purged`) behind them.
-#[derive(Clone, Copy, Debug, PartialEq, Eq)]
+#[derive(Clone, Copy, Debug, PartialEq, Eq, Hash)]
 pub enum Kind {
     /// In no sharing list.
     Invalid,
@@ -29,7 +29,7 @@ pub enum Kind {
 }
 
 /// A cache entry's tag: its kind, whether it is held while its bytes are copied, and its links along the sharing list.
-#[derive(Clone, Copy, Debug, PartialEq, Eq)]
+#[derive(Clone, Copy, Debug, PartialEq, Eq, Hash)]
 pub struct Tag {
     pub kind: Kind,
     pub held: bool,
