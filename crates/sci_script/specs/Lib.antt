@@ -16,3 +16,5 @@ pub mod Passed
 pub mod ScriptText
 pub mod Refusals
 pub mod Dealt
+pub mod Talks
+pub mod Talkers
