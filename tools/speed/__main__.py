@@ -20,7 +20,9 @@ Next, how long a processor takes to read and check a dump of 1,024 lines that 64
 plain Rust program that reads it, looks at the same rules and makes the lists; the best of N runs counts, in turn.
 
 Then, how long `scisim run` takes over a stencil, by the number of its threads, and over a ring, beside plain Rust with a Mutex round
-each line; from start to end, the shortest of N runs, in turn. Both must print the same.
+each line (mutex) and beside a lean body of the same rows (lean): processor time with all threads on one processor, where it repeats,
+the best of N runs, and from start to end on all processors, the median; in turn. All must print the same. Where valgrind is
+installed, how many instructions a call of the stencil takes, by one thread.
 
 Last, how many operations a second threads make, each by a seat of its own, and by the same operation again while it waits:
 additions of 1 to word 0 of a line, and loads of a line. The project's program (tools/speed/operations) is built beside copies of

@@ -1,5 +1,9 @@
-"""Workloads: how long `scisim run` takes, beside plain Rust with a Mutex round each line."""
+"""Workloads: how long `scisim run` takes, beside plain Rust with a Mutex round each line, and beside a lean body of the same rows."""
 
+import os
+import re
+import shutil
+import statistics
 import subprocess
 import sys
 import time
@@ -7,13 +11,15 @@ import time
 TILES, PHASES = 512, 200
 ITEMS, LINES = 100_000, 64
 CAPACITY = 1024
+# each phase reads a tile and its two neighbours and writes one line; the outer tiles have one neighbour
+CALLS = 4 * TILES * PHASES - 2 * PHASES
 
 
-def stencil(nodes):
-    """The settings of a stencil, and the arguments of the peer."""
+def stencil(nodes, phases=PHASES):
+    """The settings of a stencil, and the arguments of the peers."""
     cells = ", ".join(str(cell) for cell in range(7 * TILES))
-    text = f'work = "stencil"\nnodes = {nodes}\ncapacity = {CAPACITY}\nphases = {PHASES}\ncells = [{cells}]\n'
-    return text, ["stencil", TILES, PHASES, nodes]
+    text = f'work = "stencil"\nnodes = {nodes}\ncapacity = {CAPACITY}\nphases = {phases}\ncells = [{cells}]\n'
+    return text, ["stencil", TILES, phases, nodes]
 
 
 def ring():
@@ -22,36 +28,74 @@ def ring():
     return text, ["ring", ITEMS, LINES]
 
 
-def seconds(command):
-    """How long a run takes, from its start to its end, and what it prints."""
+def run(command, processors):
+    """A run on these processors: seconds from its start to its end, seconds of processor time, and what it prints."""
+    words = [str(word) for word in command]
     begun = time.perf_counter()
-    done = subprocess.run([str(word) for word in command], stdout=subprocess.PIPE, check=True)
-    return time.perf_counter() - begun, done.stdout
+    child = subprocess.Popen(words, stdout=subprocess.PIPE, preexec_fn=lambda: os.sched_setaffinity(0, processors))
+    text = child.stdout.read()
+    _, status, used = os.wait4(child.pid, 0)
+    took = time.perf_counter() - begun
+    if status:
+        sys.exit(f"{' '.join(words)} ended with {status}")
+    return took, used.ru_utime + used.ru_stime, text
 
 
-def measure(programs, runs):
-    """The shortest run of each program, in turn; all must print the same."""
-    best, texts = {}, set()
+def measure(programs, runs, processors):
+    """Seconds from start to end, and of processor time, of each program's runs, in turn; all must print the same."""
+    taken, texts = {name: [] for name in programs}, set()
     for _ in range(runs):
         for name, command in programs.items():
-            took, text = seconds(command)
-            best[name] = min(took, best.get(name, took))
+            took, used, text = run(command, processors)
+            taken[name].append((took, used))
             texts.add(text)
     if len(texts) > 1:
         sys.exit("the programs don't print the same")
-    return best
+    return taken
+
+
+def instructions(command):
+    """How many instructions a run takes."""
+    words = ["valgrind", "--tool=callgrind", "--callgrind-out-file=/dev/null", *[str(word) for word in command]]
+    done = subprocess.run(words, stdout=subprocess.DEVNULL, stderr=subprocess.PIPE, text=True, check=True)
+    return int(re.search(r"Collected : (\d+)", done.stderr)[1])
+
+
+def measure_calls(folder, program, peer):
+    """Instructions of a call of the stencil by one thread: what 200 phases take more than none, by the calls in between."""
+    if not shutil.which("valgrind"):
+        print("no valgrind: instructions are left out", flush=True)
+        return
+    totals = {}
+    for phases in (0, PHASES):
+        text, words = stencil(1, phases)
+        settings = folder / f"settings-{phases}.toml"
+        settings.write_text(text)
+        commands = {"scisim": [program, "run", settings]}
+        if peer:
+            commands |= {"lean": [peer, "lean", *words], "mutex": [peer, "mutex", *words]}
+        totals[phases] = {name: instructions(command) for name, command in commands.items()}
+    each = {name: (totals[PHASES][name] - totals[0][name]) / CALLS for name in totals[0]}
+    print("\ninstructions a call of the stencil, one thread: " + ", ".join(f"{name} {count:.0f}" for name, count in each.items()), flush=True)
 
 
 def measure_all(folder, program, peer, runs):
-    print(f"\na stencil of {TILES} tiles and {PHASES} phases; a ring of {ITEMS} items on {LINES} lines; seconds from start to end", flush=True)
-    print(f"{'work':10}{'threads':>8}{'scisim':>10}{'plain':>10}{'ratio':>8}{'1 thread : this':>17}")
-    alone = None
+    print(f"\na stencil of {TILES} tiles and {PHASES} phases; a ring of {ITEMS} items on {LINES} lines; milliseconds")
+    print("one: processor time with all threads on one processor, the best of the runs; all: from start to end on all, the median", flush=True)
+    print(f"{'work':9}{'threads':>8}{'':>5}{'scisim':>9}{'lean':>9}{'mutex':>9}{'scisim : lean':>15}{'scisim : mutex':>16}")
+    everywhere = os.sched_getaffinity(0)
+    ways = [("one", {min(everywhere)}, lambda pairs: min(used for _, used in pairs))]
+    ways.append(("all", everywhere, lambda pairs: statistics.median(took for took, _ in pairs)))
     for name, nodes, (text, words) in [*(("stencil", nodes, stencil(nodes)) for nodes in (1, 2, 4)), ("ring", 2, ring())]:
         settings = folder / "settings.toml"
         settings.write_text(text)
-        commands = {"scisim": [program, "run", settings]} | ({"plain": [peer, *words]} if peer else {})
-        best = measure(commands, runs)
-        alone = alone or best["scisim"]
-        plain = f"{best['plain']:>10.3f}{best['scisim'] / best['plain']:>8.1f}" if peer else f"{'-':>10}{'-':>8}"
-        gain = f"{alone / best['scisim']:>17.2f}" if name == "stencil" else f"{'-':>17}"
-        print(f"{name:10}{nodes:>8}{best['scisim']:>10.3f}{plain}{gain}", flush=True)
+        commands = {"scisim": [program, "run", settings]}
+        if peer:
+            commands |= {"lean": [peer, "lean", *words], "mutex": [peer, "mutex", *words]}
+        for way, processors, pick in ways:
+            best = {name: 1000 * pick(pairs) for name, pairs in measure(commands, runs, processors).items()}
+            row = f"{name:9}{nodes:>8}{way:>5}{best['scisim']:>9.1f}"
+            if peer:
+                row += f"{best['lean']:>9.1f}{best['mutex']:>9.1f}{best['scisim'] / best['lean']:>15.2f}{best['scisim'] / best['mutex']:>16.2f}"
+            print(row, flush=True)
+    measure_calls(folder, program, peer)

@@ -1,5 +1,8 @@
 //! Two ways to the words: each by itself, or all under one lock word that each call takes.
 
+// Each program uses a part of it.
+#![allow(dead_code)]
+
 use crate::protocol::{Port, Table};
 use std::sync::atomic::{AtomicU64, Ordering::SeqCst};
 

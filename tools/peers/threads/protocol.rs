@@ -4,6 +4,9 @@
 //! A slot is plain memory that the protocol lends to one node at a time. The line that a pending step keeps stays in the node's
 //! own slot, which is in its hand in each of those steps; so bytes are copied only from memory or from another node.
 
+// Each program uses a part of it.
+#![allow(dead_code)]
+
 use std::cell::UnsafeCell;
 use std::sync::atomic::{AtomicU64, Ordering::SeqCst};
 
@@ -93,6 +96,11 @@ impl Table {
         Table::new(nodes, 1, 9)
     }
 
+    /// Words 64 bytes apart, slots side by side, as FineLine has them.
+    pub fn as_fine(nodes: usize) -> Table {
+        Table::new(nodes, 8, 9)
+    }
+
     fn new(nodes: usize, word_stride: usize, slot_stride: usize) -> Table {
         let blocks = |cells: usize| {
             (0..=cells.div_ceil(16)).map(|_| Block(std::array::from_fn(|_| UnsafeCell::new(0)))).collect()
@@ -178,6 +186,7 @@ enum Step {
 pub enum Goal {
     Load,
     Add { word: usize, delta: u64 },
+    Write([u64; 8]),
     Evict,
 }
 
@@ -276,7 +285,7 @@ impl<'a, P: Port> Seat<'a, P> {
                 } else if kind(m) == GONE {
                     self.go(MEM, m, mem(GONE, me), InQueue { forw: f, dirty: true })
                 } else {
-                    let dirty = kind(m) == HOME && matches!(goal, Goal::Add { .. });
+                    let dirty = kind(m) == HOME && matches!(goal, Goal::Add { .. } | Goal::Write(_));
                     let step = self.go(MEM, m, mem(listed(dirty), me) | LENT, Fetching { forw: f, dirty })?;
                     self.copy(MEM, own);
                     Some(step)
@@ -396,10 +405,13 @@ impl<'a, P: Port> Seat<'a, P> {
 
     // Nobody is behind this purger, so its word is its own, and the exchange can't miss but where the port is busy.
     fn write(&mut self, goal: Goal) -> Option<Turn> {
-        let Goal::Add { word, delta } = goal else { unreachable!("only a writer purges") };
         let line = unsafe { &mut *self.port.table().slot(self.own) };
         let before = *line;
-        line.words[word] = line.words[word].wrapping_add(delta);
+        match goal {
+            Goal::Add { word, delta } => line.words[word] = line.words[word].wrapping_add(delta),
+            Goal::Write(words) => line.words = words,
+            Goal::Load | Goal::Evict => unreachable!("only a writer purges"),
+        }
         line.stamp += 1;
         let done = self.go(self.own, tag(PURGING, NONE, NONE), tag(DIRTY, NONE, NONE), Idle);
         if done.is_none() {

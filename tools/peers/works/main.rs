@@ -1,109 +1,165 @@
-//! The workloads of `scisim run` as plain Rust has them: a thread a node, and a Mutex round each line of eight words. It prints what
-//! `scisim run` prints.
+//! The workloads of `scisim run` as plain Rust has them, a thread a node: over a Mutex round each line of eight words, or over a lean
+//! body of the rows (the protocol of tools/peers/threads), each line's words on their own, without tables of residents. It prints
+//! what `scisim run` prints.
 //!
-//!     works stencil TILES PHASES NODES     cell i is i
-//!     works ring ITEMS LINES               item i is 3i
+//!     works mutex|lean stencil TILES PHASES NODES     cell i is i
+//!     works mutex|lean ring ITEMS LINES               item i is 3i
 
+#[path = "../threads/ports.rs"]
+mod ports;
+#[path = "../threads/protocol.rs"]
+mod protocol;
+
+use ports::Fine;
+use protocol::{Goal, Line, Seat, Table, Turn};
 use std::env;
 use std::fmt::Write;
 use std::hint;
 use std::sync::Mutex;
 use std::thread;
 
-type Line = Mutex<[u64; 8]>;
+/// Waits longer each time: up to 64 pauses, and then the processor is given away.
+struct Backoff(u32);
 
-const SPINS: u32 = 64;
-
-fn zeros(count: usize) -> Vec<Line> {
-    (0..count).map(|_| Mutex::new([0; 8])).collect()
-}
-
-fn load(line: &Line) -> [u64; 8] {
-    *line.lock().unwrap()
-}
-
-fn store(line: &Line, words: [u64; 8]) {
-    *line.lock().unwrap() = words;
-}
-
-/// The words, once they satisfy the test.
-fn awaited(line: &Line, test: impl Fn(&[u64; 8]) -> bool) -> [u64; 8] {
-    let mut tries = 0;
-    loop {
-        let words = load(line);
-        if test(&words) {
-            return words;
+impl Backoff {
+    fn snooze(&mut self) {
+        if self.0 > 6 {
+            return thread::yield_now();
         }
-        tries += 1;
-        if tries < SPINS {
+        for _ in 0..1 << self.0 {
             hint::spin_loop();
-        } else {
-            thread::yield_now();
+        }
+        self.0 += 1;
+    }
+}
+
+/// Lines that each node may load and store.
+trait Lines: Sync {
+    fn count(&self) -> usize;
+    fn load(&self, node: usize, line: usize) -> [u64; 8];
+    fn store(&self, node: usize, line: usize, words: [u64; 8]);
+
+    /// The words, once word 0 is at least this number.
+    fn reached(&self, node: usize, line: usize, number: u64) -> [u64; 8] {
+        let mut backoff = Backoff(0);
+        loop {
+            let words = self.load(node, line);
+            if words[0] >= number {
+                return words;
+            }
+            backoff.snooze();
         }
     }
 }
 
-/// A tile's line after a phase.
-fn tile(lines: &[Line], tile: usize, phase: u64) -> [u64; 8] {
-    awaited(&lines[2 * tile + (phase % 2) as usize], |words| words[0] == phase + 1)
+struct Locked(Vec<Mutex<[u64; 8]>>);
+
+impl Lines for Locked {
+    fn count(&self) -> usize {
+        self.0.len()
+    }
+
+    fn load(&self, _node: usize, line: usize) -> [u64; 8] {
+        *self.0[line].lock().unwrap()
+    }
+
+    fn store(&self, _node: usize, line: usize, words: [u64; 8]) {
+        *self.0[line].lock().unwrap() = words;
+    }
 }
 
-fn advance(lines: &[Line], at: usize, phase: u64) {
-    let own = tile(lines, at, phase);
-    let left = if at == 0 { 0 } else { tile(lines, at - 1, phase)[7] };
-    let right = if 2 * at + 2 == lines.len() { 0 } else { tile(lines, at + 1, phase)[1] };
+struct Lean(Vec<Fine>);
+
+impl Lean {
+    fn call(&self, node: usize, line: usize, goal: Goal) -> Line {
+        let mut seat = Seat::new(&self.0[line], node);
+        let mut backoff = Backoff(0);
+        loop {
+            match seat.turn(goal) {
+                Turn::Done(line) => return line,
+                Turn::Moved => backoff.0 = 0,
+                Turn::Waiting => backoff.snooze(),
+            }
+        }
+    }
+}
+
+impl Lines for Lean {
+    fn count(&self) -> usize {
+        self.0.len()
+    }
+
+    fn load(&self, node: usize, line: usize) -> [u64; 8] {
+        self.call(node, line, Goal::Load).words
+    }
+
+    fn store(&self, node: usize, line: usize, words: [u64; 8]) {
+        self.call(node, line, Goal::Write(words));
+    }
+}
+
+/// A tile's line after a phase.
+fn tile(lines: &impl Lines, node: usize, tile: usize, phase: u64) -> [u64; 8] {
+    lines.reached(node, 2 * tile + (phase % 2) as usize, phase + 1)
+}
+
+fn advance(lines: &impl Lines, node: usize, at: usize, phase: u64) {
+    let own = tile(lines, node, at, phase);
+    let left = if at == 0 { 0 } else { tile(lines, node, at - 1, phase)[7] };
+    let right = if 2 * at + 2 == lines.count() { 0 } else { tile(lines, node, at + 1, phase)[1] };
     let mut next = [phase + 2; 8];
     for j in 1..8 {
         let before = if j == 1 { left } else { own[j - 1] };
         let behind = if j == 7 { right } else { own[j + 1] };
         next[j] = before.wrapping_add(own[j]).wrapping_add(behind);
     }
-    store(&lines[2 * at + ((phase + 1) % 2) as usize], next);
+    lines.store(node, 2 * at + ((phase + 1) % 2) as usize, next);
 }
 
-/// A node's part: its tiles opened, and taken on.
-fn work(lines: &[Line], phases: u64, nodes: usize, node: usize) {
-    let tiles = lines.len() / 2;
-    for at in (node..tiles).step_by(nodes) {
+/// A node's part: its tiles opened, and taken on; their cells.
+fn work(lines: &impl Lines, phases: u64, nodes: usize, node: usize) -> Vec<u64> {
+    let own = || (node..lines.count() / 2).step_by(nodes);
+    for at in own() {
         let mut words = [1; 8];
         for j in 1..8 {
             words[j] = (7 * at + j - 1) as u64;
         }
-        store(&lines[2 * at], words);
+        lines.store(node, 2 * at, words);
     }
     for phase in 0..phases {
-        for at in (node..tiles).step_by(nodes) {
-            advance(lines, at, phase);
+        for at in own() {
+            advance(lines, node, at, phase);
         }
     }
+    own().flat_map(|at| tile(lines, node, at, phases)[1..].to_vec()).collect()
 }
 
-fn stencil(tiles: usize, phases: u64, nodes: usize) -> Vec<u64> {
-    let lines = zeros(2 * tiles);
-    thread::scope(|scope| {
-        for node in 0..nodes {
-            let lines = &lines;
-            scope.spawn(move || work(lines, phases, nodes, node));
-        }
+fn stencil(lines: &impl Lines, phases: u64, nodes: usize) -> Vec<u64> {
+    let shares: Vec<Vec<u64>> = thread::scope(|scope| {
+        let all: Vec<_> = (0..nodes).map(|node| scope.spawn(move || work(lines, phases, nodes, node))).collect();
+        all.into_iter().map(|one| one.join().unwrap()).collect()
     });
-    (0..tiles).flat_map(|at| tile(&lines, at, phases)[1..].to_vec()).collect()
+    (0..lines.count() / 2).flat_map(|at| shares[at % nodes][7 * (at / nodes)..][..7].to_vec()).collect()
 }
 
-fn ring(items: u64, count: usize) -> Vec<u64> {
-    let lines = zeros(count + 1);
-    let lines = &lines;
+fn ring(lines: &impl Lines, items: u64) -> Vec<u64> {
+    let last = lines.count() - 1;
     thread::scope(|scope| {
         scope.spawn(move || {
+            let mut consumed = 0;
             for i in 0..items {
-                awaited(&lines[count], |words| words[0] + count as u64 > i);
-                store(&lines[i as usize % count], [i + 1, 3 * i, 0, 0, 0, 0, 0, 0]);
+                let least = (i + 1).saturating_sub(last as u64);
+                if consumed < least {
+                    consumed = lines.reached(0, last, least)[0];
+                }
+                lines.store(0, i as usize % last, [i + 1, 3 * i, 0, 0, 0, 0, 0, 0]);
             }
         });
         let sink = scope.spawn(move || {
             let mut out = Vec::new();
             for i in 0..items {
-                out.push(awaited(&lines[i as usize % count], |words| words[0] == i + 1)[1]);
-                store(&lines[count], [i + 1, 0, 0, 0, 0, 0, 0, 0]);
+                out.push(lines.reached(1, i as usize % last, i + 1)[1]);
+                lines.store(1, last, [i + 1, 0, 0, 0, 0, 0, 0, 0]);
             }
             out
         });
@@ -111,12 +167,20 @@ fn ring(items: u64, count: usize) -> Vec<u64> {
     })
 }
 
+fn run(lines: &impl Lines, work: &str, numbers: &[usize]) -> (&'static str, Vec<u64>) {
+    match work {
+        "stencil" => ("cells", stencil(lines, numbers[1] as u64, numbers[2])),
+        _ => ("items", ring(lines, numbers[0] as u64)),
+    }
+}
+
 fn main() {
     let words: Vec<String> = env::args().skip(1).collect();
-    let numbers: Vec<usize> = words[1..].iter().map(|word| word.parse().unwrap()).collect();
+    let numbers: Vec<usize> = words[2..].iter().map(|word| word.parse().unwrap()).collect();
+    let (count, nodes) = if words[1] == "stencil" { (2 * numbers[0], numbers[2]) } else { (numbers[1] + 1, 2) };
     let (name, values) = match words[0].as_str() {
-        "stencil" => ("cells", stencil(numbers[0], numbers[1] as u64, numbers[2])),
-        _ => ("items", ring(numbers[0] as u64, numbers[1])),
+        "mutex" => run(&Locked((0..count).map(|_| Mutex::new([0; 8])).collect()), &words[1], &numbers),
+        _ => run(&Lean((0..count).map(|_| Fine(Table::as_fine(nodes))).collect()), &words[1], &numbers),
     };
     let mut text = String::from(name);
     for value in values {
