@@ -6,3 +6,4 @@ pub mod Staged
 pub mod Storing
 pub mod Valued
 pub mod Ending
+pub mod Resting

@@ -21,7 +21,6 @@ use Rattle.sci_core.proofs.Answered.{update_same}
 use Rattle.sci_core.proofs.Lawfully.{one_value}
 use Rattle.sci_port.specs.declared.calls.Call.{Call}
 use Rattle.sci_port.specs.declared.calls.Call.TheVariants.{Own, MemWas, TagWas, Stepped}
-use Rattle.sci_port.specs.Call.{Chain}
 use Rattle.sci_port.specs.Owes.{Owes}
 use Rattle.sci_port.specs.Solo.{Does, Gives}
 use Rattle.sci_port.specs.Way.{Way, way_to}
@@ -32,8 +31,8 @@ use Rattle.sci_ops.specs.declared.answers.Turn.{Turn}
 use Rattle.sci_ops.specs.Answers.{shows_line, makes_invalid, IsWrote, IsSpent, IsAnswer, ChainTo, AnswersAt}
 use Rattle.sci_ops.specs.Change.{change}
 use Rattle.sci_ops.specs.Operation.{Operation}
-use Rattle.sci_ops.specs.Plan.{Plan, own, mem, tag, exchange, Follows, Takes}
-use Rattle.sci_ops.specs.Table.{turn_in, turn_of}
+use Rattle.sci_ops.specs.Plan.{Plan, own, mem, tag, exchange, Follows}
+use Rattle.sci_ops.specs.Table.{turn_in}
 use Rattle.sci_ops.specs.Values.{HasSeen, HasWritten, HasSpent, IsTrueOfLine, IsTrueTurn}
 
 -- a load changes no value
@@ -195,29 +194,12 @@ module _ {S K : Type 0} (fits : K → ℕ → List ℕ → Type 0) (whole : S �
       (subst (λ (i : ℕ). Gives (nodes_of (whole s)) (fits (whole s).keep i) u me call v) way.same.number
       (subst (λ (i : ℕ). Gives (nodes_of (whole s)) (fits (whole s).keep (whole s).number) u i call v) way.mine g.2)))
 
-  pub chain_on_line : (s t : S) (calls : List Call) → IsWay whole node w me s → Chain (SoloGives fits whole node name) s calls t → Chain (LineGives fits w me) (state_of (whole s)) calls (state_of (whole t))
-  chain_on_line s t [] way chain = ap (λ (x : S). state_of (whole x)) chain
-  chain_on_line s t (c ∷ cs) way chain = (state_of (whole chain.0), on_line s chain.0 c way chain.1, chain_on_line chain.0 t cs (next_way s chain.0 c way chain.1) chain.2)
-
   pub answer_on_line : (goal : Goal) (a : Answer) (s t : S) (calls : List Call) → IsWay whole node w me s → ChainTo (SoloGives fits whole node name) (λ u call. IsAnswer goal a (step_of u) call) s calls t → ChainTo (LineGives fits w me) (λ u call. IsAnswer goal a (u.steps me) call) (state_of (whole s)) calls (state_of (whole t))
   answer_on_line goal a s t [] way chain = absurd chain
   answer_on_line goal a s t (c ∷ []) way chain = (on_line s t c way chain.0, subst (λ (i : ℕ). IsAnswer goal a ((state_of (whole s)).steps i) c) way.mine chain.1)
   answer_on_line goal a s t (c ∷ d ∷ ds) way chain = (state_of (whole chain.0), on_line s chain.0 c way chain.1, answer_on_line goal a chain.0 t (d ∷ ds) (next_way s chain.0 c way chain.1) chain.2)
 
--- a turn over the port of a node to a line that is lent is one over the line
-pub lent_takes : {S K : Type 0} (s t : S) (fits : K → ℕ → List ℕ → Type 0) (whole : S → WholeLine K) (node : S → ℕ) (name : S → GName) (op : Operation) (turn : Turn) (w : WholeLine K) (v : State) (me : ℕ)
-    → whole s ≡ w → node s ≡ me → state_of (whole t) ≡ v
-    → Takes (SoloGives fits whole node name) (turn_of op (node s) ((state_of (whole s)).steps (node s))) s turn t
-    → Takes (LineGives fits w me) (turn_of op me ((state_of w).steps me)) (state_of w) turn v
-lent_takes {K = K} s t fits whole node name op turn w v me from is to takes =
-    let way : IsWay whole node (whole s) (node s) s = record { same = record { keep = refl; number = refl; nodes = refl }; mine = refl } in
-    let base : Takes (LineGives fits (whole s) (node s)) (turn_of op (node s) ((state_of (whole s)).steps (node s))) (state_of (whole s)) turn (state_of (whole t)) =
-    record { calls = takes.calls; chain = chain_on_line fits whole node name (whole s) (node s) s t takes.calls way takes.chain; follows = takes.follows } in
-    subst (λ (x : State). Takes (LineGives fits w me) (turn_of op me ((state_of w).steps me)) (state_of w) turn x) to
-    (subst (λ (i : ℕ). Takes (LineGives fits w i) (turn_of op i ((state_of w).steps i)) (state_of w) turn (state_of (whole t))) is
-    (subst (λ (x : WholeLine K). Takes (LineGives fits x (node s)) (turn_of op (node s) ((state_of x).steps (node s))) (state_of x) turn (state_of (whole t))) from base))
-
--- and its answer is true of the line
+-- the answer of a turn over the port of a node to a line that is lent is true of the line
 pub lent_answers : {S K : Type 0} (s t : S) (fits : K → ℕ → List ℕ → Type 0) (whole : S → WholeLine K) (node : S → ℕ) (name : S → GName) (op : Operation) (i : ℕ) (turn : Turn) (w : WholeLine K) (v : State) (me : ℕ)
     → whole s ≡ w → node s ≡ me → state_of (whole t) ≡ v
     → AnswersAt (SoloGives fits whole node name) (λ u. (state_of (whole u)).steps (node u)) op i s turn t

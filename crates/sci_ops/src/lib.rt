@@ -7,6 +7,7 @@ mod found;
 mod goals;
 mod ops;
 mod refusals;
+mod to_rest;
 mod turns;
 
 pub use alone::Steps;
@@ -14,3 +15,4 @@ pub use answers::{Answer, End, Turn};
 pub use goals::{Goal, WordNo, Write};
 pub use ops::Op;
 pub use refusals::BadWord;
+pub use to_rest::rest;

@@ -1,11 +1,13 @@
 //! Operations.
-ghost use Rattle.std.specs.Prelude.{◌≡◌, ◌<◌, ◌↔◌, IfOk, IsErr};
+ghost use Rattle.std.specs.Prelude.{◌≡◌, ◌≢◌, ◌<◌, ◌↔◌, true, None, IfOk, IsErr};
+ghost use Rattle.sci_core.specs.Progress.{IsMover};
 ghost use Rattle.sci_core.specs.Whole.{IsSameLine, nodes_of, state_of};
-ghost use Rattle.sci_port.specs.Solo.{Gives};
 ghost use Rattle.sci_ops.specs.declared.goals.Write as a_write;
+ghost use Rattle.sci_ops.specs.Alone.{TakesTurn};
 ghost use Rattle.sci_ops.specs.Answers.{AnswersAt};
 ghost use Rattle.sci_ops.specs.Change.{StoresFitting};
 ghost use Rattle.sci_ops.specs.Plan.{Takes, LoadsAtMost};
+ghost use Rattle.sci_ops.specs.Rest.{due_turn, is_exchange, ComesTo};
 ghost use Rattle.sci_ops.specs.Table.{turn_of, begun, after_turn};
 ghost use Rattle.sci_ops.specs.Values.{IsTrueTurn};
 
@@ -120,7 +122,9 @@ impl Op {
         turn
     }
 
-    /// One turn of a node on a line that is lent to it: `turn` over its `Solo`. An answer is true of the line before and after
+    /// One turn of a node on a line that is lent to it: `turn` over its `Solo`. Nobody comes between its loads and its exchange, so
+    /// it never misses: it makes the exchange that the table of turns has on the line as it stands, and waits only where the table
+    /// says so. A node that moves, as `Whole::mover` gives one, makes an exchange. An answer is true of the line before and after
     /// the turn. Seen: the line's value, and the node is a valid sharer of it. Wrote: the words before are those of the value
     /// before, whose stamp is one less, the value after is what the write makes of them, with the stamp, and the node is the
     /// only valid sharer before and after. Spent: the stamp of the value is `u64::MAX`, the value stays, and the node is the
@@ -129,7 +133,9 @@ impl Op {
         requires node { node < nodes_of whole.old }
         requires fits { StoresFitting (K.fits whole.old.keep whole.old.number) self.old.goal }
         ensures same { IsSameLine whole.old whole.new }
-        ensures calls { Takes (λ s call t. Gives (nodes_of whole.old) (K.fits whole.old.keep whole.old.number) s node call t) (turn_of self.old node ((state_of whole.old).steps node)) (state_of whole.old) result (state_of whole.new) }
+        ensures calls { TakesTurn (nodes_of whole.old) (K.fits whole.old.keep whole.old.number) node self.old (state_of whole.old) result (state_of whole.new) }
+        ensures in_one_go { ComesTo (due_turn self.old node (state_of whole.old)) result }
+        ensures mover { self.old.answer ≡ None → IsMover (nodes_of whole.old) (state_of whole.old) node → (is_exchange (due_turn self.old node (state_of whole.old)) ≡ true) × (result ≢ Turn.Waiting) }
         ensures answers { IsTrueTurn (nodes_of whole.old) (K.fits whole.old.keep whole.old.number) self.old node (state_of whole.old) result (state_of whole.new) }
         ensures op { self.new ≡ after_turn self.old result }
     {

@@ -1,5 +1,5 @@
 -- A chain of a port's calls is a chain on what the port is of.
-use Rattle.std.proofs.Common.{◌≡◌, ℕ, List, [], ◌∷◌, ◌∙◌, ap, subst}
+use Rattle.std.proofs.Common.{◌≡◌, ℕ, List, [], ◌∷◌, ◌∙◌, refl, ap, subst}
 use Rattle.std.specs.Borrow.{GName}
 use Rattle.sci_core.specs.State.{State}
 use Rattle.sci_core.specs.Whole.{WholeLine, nodes_of, state_of}
@@ -53,3 +53,12 @@ module _ (S : Type 0) {K : Type 0} (fits : K → ℕ → List ℕ → Type 0) (n
       let on : Takes (on_place (place init)) (turn_of o (node s) ((state_of (whole s)).steps (node s))) (state_of (whole s)) r (state_of (whole t)) = takes_on lent place (λ x. state_of (whole x)) on_place lent_on (place init) (turn_of o (node s) ((state_of (whole s)).steps (node s))) s r t there h in
       let at : Takes (on_place (place init)) (turn_of o (node init) ((state_of (whole s)).steps (node init))) (state_of (whole s)) r (state_of (whole t)) = subst (λ (i : ℕ). Takes (on_place (place init)) (turn_of o i ((state_of (whole s)).steps i)) (state_of (whole s)) r (state_of (whole t))) n on in
       subst (λ (x : Operation). Takes (on_place (place init)) (turn_of x (node init) ((state_of (whole s)).steps (node init))) (state_of (whole s)) r (state_of (whole t))) same at
+
+  -- the same of a line that is lent for the turn alone
+  pub turn_once : (s t : S) (op : Operation) (r : Turn) (w : WholeLine K) (v : State) (me : ℕ) → whole s ≡ w → node s ≡ me → state_of (whole t) ≡ v → Takes lent (turn_of op (node s) ((state_of (whole s)).steps (node s))) s r t
+      → TakesTurn (nodes_of w) (fits w.keep w.number) me op (state_of w) r v
+  turn_once s t op r w v me from is to h =
+      let base : TakesTurn (nodes_of (whole s)) (fits (whole s).keep (whole s).number) (node s) op (state_of (whole s)) r (state_of (whole t)) = turn_lent s s t op op r refl refl refl h in
+      subst (λ (x : State). TakesTurn (nodes_of w) (fits w.keep w.number) me op (state_of w) r x) to
+      (subst (λ (i : ℕ). TakesTurn (nodes_of w) (fits w.keep w.number) i op (state_of w) r (state_of (whole t))) is
+      (subst (λ (x : WholeLine K). TakesTurn (nodes_of x) (fits x.keep x.number) (node s) op (state_of x) r (state_of (whole t))) from base))

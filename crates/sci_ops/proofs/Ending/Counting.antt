@@ -50,7 +50,7 @@ count_less f g x (suc n) l a b h =
     rw (h n (λ q. d (sym q))) (omega (arith, less)))
     (cases_eq x n)
 
-count_max : (f : ℕ → Bool) (n : ℕ) → count f n ≤ n
+pub count_max : (f : ℕ → Bool) (n : ℕ) → count f n ≤ n
 count_max f zero = omega arith
 count_max f (suc n) = one_max (f n) (count f n) n (count_max f n)
   where

@@ -38,7 +38,7 @@ no_some : {A : Type 0} (a : A) → ◌≡◌ {A = Option A} None (Some a) → �
 no_some a h = cc
 
 -- done but for a look is made
-as_made : (n : ℕ) (s : State) (me : ℕ) (e : Event) (answer : Option Line) (t : State) → is_look e ≡ false → IsDone n s me e answer t → Makes n s me e answer t
+pub as_made : (n : ℕ) (s : State) (me : ℕ) (e : Event) (answer : Option Line) (t : State) → is_look e ≡ false → IsDone n s me e answer t → Makes n s me e answer t
 as_made n s me Event.Look answer t h d = cc
 as_made n s me _ answer t h d = d
 

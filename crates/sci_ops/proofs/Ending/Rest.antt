@@ -38,7 +38,7 @@ clearing_phase : (p : Pending) (i : ℕ) → IsClearing p i → phase_of p ≡ P
 clearing_phase (Pending.Clearing l v w) i h = refl
 clearing_phase _ i h = absurd h
 
-copying_phase : (p : Pending) (i : ℕ) → IsCopying p i → phase_of p ≡ Phase.Copying
+pub copying_phase : (p : Pending) (i : ℕ) → IsCopying p i → phase_of p ≡ Phase.Copying
 copying_phase (Pending.Copying f w l) i h = refl
 copying_phase _ i h = absurd h
 
@@ -78,7 +78,7 @@ pub word_is : (t : Tag) (k : Kind) (f b : Option ℕ) → t.kind ≡ k → t.hel
 word_is t k f b x y z w = λ i. record { kind = x i; held = y i; forw = z i; back = w i }
 
 -- the first of a path, and what the entries of a path name
-path_first : (forw : ℕ → Option ℕ) (xs : List ℕ) (f : Option ℕ) → IsPath f forw xs → (x : ℕ) → f ≡ Some x → Contains xs x
+pub path_first : (forw : ℕ → Option ℕ) (xs : List ℕ) (f : Option ℕ) → IsPath f forw xs → (x : ℕ) → f ≡ Some x → Contains xs x
 path_first forw [] f p x e = absurd (grind (arith, p, e))
 path_first forw (y ∷ ys) f p x e = let q = p.0 in let h : x ≡ y = grind (arith, q, e) in rw h (contains_head y ys)
 
@@ -94,7 +94,7 @@ path_previous forw (y ∷ ys) f p x c =
     (λ d. inr (⊎_elim (λ q. (y, contains_head y ys, q)) (λ q. (q.0, contains_tail y ys q.0 q.1, q.2)) (path_previous forw ys (forw y) p.1 x d)))
     (contains_cases y ys x c)
 
-path_none : (forw : ℕ → Option ℕ) (xs : List ℕ) (f : Option ℕ) → IsPath f forw xs → f ≡ None → xs ≡ []
+pub path_none : (forw : ℕ → Option ℕ) (xs : List ℕ) (f : Option ℕ) → IsPath f forw xs → f ≡ None → xs ≡ []
 path_none forw [] f p e = refl
 path_none forw (y ∷ ys) f p e = let q = p.0 in absurd (grind (arith, q, e))
 
@@ -104,6 +104,16 @@ first_is_front tags (y ∷ ys) body f a p q x e =
     let r = p.0 in
     let h : x ≡ y = grind (arith, r, e) in
     rw h (All-contains (λ i. IsFrontWord (tags i)) (y ∷ ys) y a (contains_head y ys))
+
+module _ (n : ℕ) (fits : List ℕ → Type 0) (s : State) (v : Line) (h : HasValue n fits s v) where
+  pub front_or_body : (i : ℕ) → Contains h.chain i → IsFrontWord (s.tags i) ⊎ IsBodyWord (s.tags i)
+  front_or_body i c =
+      let p = h.lawful.fronts.parts in
+      let d : Contains (p.0 ++ p.1) i = subst (λ (l : List ℕ). Contains l i) p.2 c in
+      ⊎_elim (λ q. inl (All-contains (λ j. IsFrontWord (s.tags j)) p.0 i p.3 q)) (λ q. inr (All-contains (λ j. IsBodyWord (s.tags j)) p.1 i p.4 q)) (Contains-append_cases p.0 p.1 i d)
+
+  pub next_in : (a b : ℕ) → Contains h.chain a → (s.tags a).forw ≡ Some b → Contains h.chain b
+  next_in a b c e = path_next (forward s) h.chain s.memory.forw h.lawful.chain.path a b c e
 
 module _ (n : ℕ) (fits : List ℕ → Type 0) (s : State) (v : Line) (h : HasValue n fits s v) (calm : (i : ℕ) → IsCalm (s.steps i)) where
   nodes : List ℕ
@@ -121,24 +131,15 @@ module _ (n : ℕ) (fits : List ℕ → Type 0) (s : State) (v : Line) (h : HasV
   not_purged : (i : ℕ) → Contains h.chain i → (s.tags i).kind ≢ Kind.Purged
   not_purged i c e = let q = (h.lawful.fronts.purged i c).0 e in calm_not_advancing (s.steps q.0) (calm q.0) (advancing_phase (s.steps q.0) i q.3)
 
-  front_or_body : (i : ℕ) → Contains h.chain i → IsFrontWord (s.tags i) ⊎ IsBodyWord (s.tags i)
-  front_or_body i c =
-      let p = h.lawful.fronts.parts in
-      let d : Contains (p.0 ++ p.1) i = subst (λ (l : List ℕ). Contains l i) p.2 c in
-      ⊎_elim (λ q. inl (All-contains (λ j. IsFrontWord (s.tags j)) p.0 i p.3 q)) (λ q. inr (All-contains (λ j. IsBodyWord (s.tags j)) p.1 i p.4 q)) (Contains-append_cases p.0 p.1 i d)
-
-  pub next_in : (a b : ℕ) → Contains h.chain a → (s.tags a).forw ≡ Some b → Contains h.chain b
-  next_in a b c e = path_next (forward s) h.chain s.memory.forw h.lawful.chain.path a b c e
-
   -- no front waits, so what stands behind an entry is in the body
   next_body : (a b : ℕ) → Contains h.chain a → (s.tags a).forw ≡ Some b → IsBodyWord (s.tags b)
-  next_body a b c e = ⊎_elim (λ f. absurd (calm_not_waiting (s.tags a) (s.steps a) (calm a) (h.lawful.fronts.waiting a (c, (b, e, f))))) (λ q. q) (front_or_body b (next_in a b c e))
+  next_body a b c e = ⊎_elim (λ f. absurd (calm_not_waiting (s.tags a) (s.steps a) (calm a) (h.lawful.fronts.waiting a (c, (b, e, f))))) (λ q. q) (front_or_body n fits s v h b (next_in n fits s v h a b c e))
 
   pub next_not_front : (a b : ℕ) → Contains h.chain a → (s.tags a).forw ≡ Some b → is_front (s.tags b).kind ≡ true → ⊥
   next_not_front a b c e f = not_both (s.tags b).kind f (next_body a b c e).0
 
   pub next_valid : (a b : ℕ) → Contains h.chain a → (s.tags a).forw ≡ Some b → s.steps b ≡ Pending.Idle → (s.tags b).kind ≡ Kind.Valid
-  next_valid a b c e i = rest_body (s.tags b).kind (rests b i) (next_body a b c e).0 (not_purged b (next_in a b c e))
+  next_valid a b c e i = rest_body (s.tags b).kind (rests b i) (next_body a b c e).0 (not_purged b (next_in n fits s v h a b c e))
 
   last_front : (i : ℕ) → Contains h.chain i → IsFrontWord (s.tags i) → IsLastFront s h.chain i
   last_front i c f = (c, f, λ j e. next_body i j c e)
@@ -168,7 +169,7 @@ dirty_head false = refl
 valid_no_front : (k : Kind) → k ≡ Kind.Valid → is_front k ≡ true → ⊥
 valid_no_front k e f = grind (arith, e, f)
 
-contains_or_not : (xs : List ℕ) (i : ℕ) → Contains xs i ⊎ (Contains xs i → ⊥)
+pub contains_or_not : (xs : List ℕ) (i : ℕ) → Contains xs i ⊎ (Contains xs i → ⊥)
 contains_or_not [] i = inr (contains_none i)
 contains_or_not (x ∷ xs) i =
     ⊎_elim
@@ -255,7 +256,7 @@ module _ (n : ℕ) (fits : List ℕ → Type 0) (s : State) (v : Line) (h : HasV
       ⊎_elim
       (λ e. absurd (valid_no_front (s.tags i).kind k (front_word i e).0))
       (λ q.
-      let word : (is_front (s.tags q.0).kind ≡ true) ⊎ (is_body (s.tags q.0).kind ≡ true) = ⊎_elim (λ f. inl f.0) (λ f. inr f.0) (front_or_body n fits s v h calm q.0 q.1) in
+      let word : (is_front (s.tags q.0).kind ≡ true) ⊎ (is_body (s.tags q.0).kind ≡ true) = ⊎_elim (λ f. inl f.0) (λ f. inr f.0) (front_or_body n fits s v h q.0 q.1) in
       (q.0, linked q.0 i q.1 q.2, (rest_told (s.tags q.0).kind (at_rest q.0) (not_purged n fits s v h calm q.0 q.1) word, not_held n fits s v h calm q.0, q.2)))
       (path_previous (forward s) h.chain s.memory.forw h.lawful.chain.path i c)
 

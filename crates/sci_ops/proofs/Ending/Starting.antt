@@ -39,7 +39,7 @@ invalid_links Kind.Invalid h None (Some y) e w = absurd (let q : false ≡ true 
 invalid_links Kind.Invalid h (Some x) (Some y) e w = absurd (let q : false ≡ true = w in cc)
 invalid_links _ h f b e w = absurd (cc)
 
-invalid_word : (t : Tag) → t.kind ≡ Kind.Invalid → t.held ≡ false → tag_well_formed t ≡ true → t ≡ invalid
+pub invalid_word : (t : Tag) → t.kind ≡ Kind.Invalid → t.held ≡ false → tag_well_formed t ≡ true → t ≡ invalid
 invalid_word t k h w =
     let links = invalid_links t.kind t.held t.forw t.back k w in
     word_is t Kind.Invalid None None k h links.0 links.1

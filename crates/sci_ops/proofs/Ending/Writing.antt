@@ -102,7 +102,7 @@ module _ (n : ℕ) (fits : List ℕ → Type 0) (me : ℕ) where
       let apart : x ≢ me = λ z. next_not_front n fits u v o calm me x c e (ap (λ (j : ℕ). is_front (u.tags j).kind) z ∙ ap is_front kind) in
       let valid : (u.tags x).kind ≡ Kind.Valid = next_valid n fits u v o calm me x c e (rest x apart) in
       let free : (u.tags x).held ≡ false = not_held n fits u v o calm x in
-      let below : x < n = All-contains (λ i. i < n) o.chain x o.lawful.chain.below (next_in n fits u v o calm me x c e) in
+      let below : x < n = All-contains (λ i. i < n) o.chain x o.lawful.chain.below (next_in n fits u v o me x c e) in
       let y : Tag = u.tags x in
       let test : is_free is_settled_body y ≡ true = rw (valid, free) refl in
       let plan : Takes (on_line n fits me) (move (Event.PurgeOne y)) u r t = chosen (is_free is_settled_body y) (move (Event.PurgeOne y)) (if may_adopt me y then move (Event.Adopt y) else wait) test (of_tag n fits me h) in

@@ -1,0 +1,8 @@
+-- Turns that nobody comes between bring a line to rest.
+pub mod Finding
+pub mod Reading
+pub mod Going
+pub mod Ranking
+pub mod Falling
+pub mod Keeping
+pub mod Turning
