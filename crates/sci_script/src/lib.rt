@@ -21,7 +21,7 @@ mod writing;
 pub use banks::{BankDesk, NoDesk};
 pub use commands::{Command, Script, Size, Step};
 pub use desk::Desk;
-pub use reader::read_script;
+pub use reader::{line_end, read_script, without_return};
 pub use refusals::ScriptRefusal;
 pub use running::{NODES, TURNS, is_end, note, perform};
 pub use talk::Talk;

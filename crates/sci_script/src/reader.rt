@@ -13,7 +13,7 @@ use crate::refusals::ScriptRefusal;
 use std::alloc::Global;
 
 /// A line without the one carriage return at its end.
-fn without_return(line: &[u8]) -> &[u8]
+pub fn without_return(line: &[u8]) -> &[u8]
     ensures { result.now ≡ strip_carriage_return line.now }
 {
     match line {
@@ -23,7 +23,7 @@ fn without_return(line: &[u8]) -> &[u8]
 }
 
 /// Where the first line ends that has an end.
-fn line_end(text: &[u8]) -> Option<usize>
+pub fn line_end(text: &[u8]) -> Option<usize>
     ensures { result ≡ position (λ b. b == 10) text.now }
 {
     text.iter().position(|b| *b == b'\n')
