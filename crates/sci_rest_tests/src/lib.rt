@@ -1,0 +1,5 @@
+//! The tests of turns that bring a line to rest.
+#![tactic(auto)]
+
+#[cfg(test)]
+mod rests;
