@@ -1,6 +1,7 @@
 -- What the command `legal` writes. This project's profile.
-use Rattle.std.specs.Prelude.{◌≡◌, ◌⊎◌, ℕ, ◌<◌, List, [], ◌++◌, length, take, codes, Ok, Err}
+use Rattle.std.specs.Prelude.{◌≡◌, ℕ, ◌<◌, List, [], ◌++◌, length, take, codes, Ok, Err}
 use Rattle.std.specs.Fmt.{decimal}
+use Rattle.std.specs.Global.{Vec}
 use Rattle.sci_script.specs.declared.refusals.ScriptRefusal.TheVariants.{OutOfMemory, BadCommand, BadNumber, NotDone, WriteFailed}
 use Rattle.sci_dump.specs.declared.refusals.DumpRefusal.TheVariants.{DumpFault}
 use Rattle.sci_histories.specs.declared.rules.Rule.{Rule}
@@ -36,6 +37,20 @@ StopsJudging (NoDump n) input written = (history_of input ≡ Err (DumpFault n))
 StopsJudging Unlawful input written = (number : ℕ) × (rule : Rule) × Judges input (Illegal number rule) written
 StopsJudging (NoRun e) input written = ⊥
 
+-- all of the bytes that were read
+abbrev pub IsAll : Vec ℕ → List ℕ → Type 0
+IsAll kept seen = kept.items ≡ seen
+
 -- the faults of reading all of an input
 abbrev pub IsUnread : SimFault → Type 0
-IsUnread e = (e ≡ CannotRead) ⊎ (e ≡ Refused OutOfMemory)
+IsUnread CannotRead = Unit {0}
+IsUnread CannotWrite = ⊥
+IsUnread InputTooLong = ⊥
+IsUnread (Refused OutOfMemory) = Unit {0}
+IsUnread (Refused (BadCommand n)) = ⊥
+IsUnread (Refused (BadNumber n)) = ⊥
+IsUnread (Refused (NotDone n)) = ⊥
+IsUnread (Refused WriteFailed) = ⊥
+IsUnread (NoDump n) = ⊥
+IsUnread Unlawful = ⊥
+IsUnread (NoRun e) = ⊥
