@@ -23,6 +23,10 @@ DUMP = (
     "scidump 1 3 1\nline 0 0000000000000201 0 0 0 0 0 0 0 0 0\ntag 0 0 000000000001ff07 0 0 0 0 0 0 0 0 0\n"
     "tag 0 1 0000000000020007 0 0 0 0 0 0 0 0 0\ntag 0 2 0000000000ff0102 0 0 0 0 0 0 0 0 0\nend\n"
 )
+HISTORY = (
+    "scihistory 1 2 1\nline 0 0 0 0 0 0 0 0 0 0\nclosed 0 1 7 0 0 0 0 0 0 0\npassed 0 0 0 0 0 0 0 0 0 0\n"
+    "wrote 0 1 7 0 0 0 0 0 0 0 over 0 0 0 0 0 0 0 0\nread 1 1 7 0 0 0 0 0 0 0\nend\n"
+)
 STENCIL = 'work = "stencil"\nnodes = 2\ncapacity = 1\nphases = 2\ncells = [0, 0, 0, 1, 0, 0, 0, 0, 0, 0, 2, 0, 0, 0]\n'
 RING = 'work = "ring"\nlines = 2\ncapacity = 1\nitems = [0, 3, 6]\n'
 COUNT = 'work = "count"\nnodes = 1\nadds = 2\ncapacity = 1\ndump = true\n'
@@ -58,6 +62,8 @@ RUNS = [
     ("draw", WAITING, 4, REFUSED, page),
     ("check", DUMP, 1, REFUSED, nothing),
     ("check", DUMP.replace("ff0102", "ff0112"), 1, REFUSED, nothing),
+    ("legal", HISTORY, 1, REFUSED, nothing),
+    ("legal", HISTORY.replace("read 1 1 7", "read 1 1 8"), 1, REFUSED, nothing),
     ("run", COUNT, 1, OR_NO_THREAD, nothing),
     ("run", STENCIL, 1, OR_NO_THREAD, nothing),
     ("run", RING, 1, OR_NO_THREAD, nothing),

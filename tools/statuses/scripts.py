@@ -56,7 +56,7 @@ FILES = {
 CASES = [
     ([], ROW, 2, "", USAGE),
     (["nonsense"], ROW, 2, "", USAGE),
-    (["--help"], "", 0, Begins("A model of cache coherence by sharing lists: runs a script of loads, stores and exits, turn by turn, runs workloads in threads, and checks dumps.\n\nUsage: scisim <COMMAND>\n"), ""),
+    (["--help"], "", 0, Begins("A model of cache coherence by sharing lists: runs a script of loads, stores and exits, turn by turn, runs workloads in threads, and checks dumps and histories.\n\nUsage: scisim <COMMAND>\n"), ""),
     (["--version"], "", 0, "scisim 0.1.0\n", ""),
     (["--help"], "", 1, FULL, WRITE),
     (["nonsense"], "", 2, "", CLOSED),

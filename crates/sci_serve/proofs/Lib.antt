@@ -4,6 +4,7 @@ pub mod Fronts
 pub mod Buffering
 pub mod Listing
 pub mod Stopping
+pub mod Judging
 pub mod SettingsKeys
 pub mod SettingsItems
 pub mod SettingsLimits

@@ -1,4 +1,5 @@
 pub mod Fault
+pub mod Legality
 pub mod Input
 pub mod Runs
 pub mod Serve

@@ -28,10 +28,10 @@ pub enum SimFault {
     /// What was read is refused.
     #[error(transparent)]
     Refused(ScriptRefusal),
-    /// Refusal 21: the input is no dump, and this is the line of text at fault.
+    /// Refusal 21: the input is no dump, or no history, and this is the line of text at fault.
     #[error("refused 21 at line {0}")]
     NoDump(u64),
-    /// A line of the dump is no exact sharing list.
+    /// A line of the dump is no exact sharing list, or of the history no one history.
     #[error("the check says no")]
     Unlawful,
     /// The settings are refused, with 22, or the run of their workload.

@@ -1,6 +1,7 @@
 mod checks;
 mod faltering;
 mod growths;
+mod histories;
 mod pages;
 mod runs;
 mod settings;

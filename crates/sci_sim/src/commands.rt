@@ -1,11 +1,12 @@
 //! The program's command line, and its help.
 
+use crate::histories::HISTORIES;
 use clap::{Arg, ArgAction, Command};
 use std::alloc::AllocError;
 
 const ABOUT: &str =
     "A model of cache coherence by sharing lists: runs a script of loads, stores and exits, turn by turn, runs workloads in threads, \
-     and checks dumps.";
+     and checks dumps and histories.";
 
 const STATUSES: &str = "\
 Statuses: 0 all went well; 1 a refusal, `scisim: refused R` or `scisim: refused R at line N`, or a fault of reading or writing; \
@@ -15,7 +16,8 @@ Example:
   printf 'memory 2 1\\nstore 0 0 0 5\\ndone 0\\nload 1 0 0\\ndone 1\\nlist 0\\n' | scisim script
 
 `scisim script --help` lists the commands of scripts, `scisim trace --help` has the lines of turns, `scisim draw --help` the keys of
-pages, `scisim run --help` the keys of settings, and `scisim check --help` the format of dumps; they say what each refusal means.";
+pages, `scisim run --help` the keys of settings, `scisim check --help` the format of dumps, and `scisim legal --help` that of histories;
+they say what each refusal means.";
 
 const SCRIPTS: &str = "\
 One command a line. N is a node, L a line, W a word of it (0 to 7), V a number below 2^64. A line that begins with # is a comment.
@@ -217,6 +219,12 @@ fn check<'a>(rt: &impl AllocGlobal) -> Result<Command<'a>, AllocError> {
     reader_of(rt, "check", about, DUMPS, file)
 }
 
+fn legal<'a>(rt: &impl AllocGlobal) -> Result<Command<'a>, AllocError> {
+    let about = "Checks that what the nodes read and wrote on each line is one history of it";
+    let file = "the history; without it standard input is read";
+    reader_of(rt, "legal", about, HISTORIES, file)
+}
+
 /// The program without its commands.
 fn program<'a>(rt: &impl AllocGlobal) -> Result<Command<'a>, AllocError> {
     let named = Command::new(rt.alloc(), "scisim").bin_name("scisim")?;
@@ -243,5 +251,6 @@ pub fn commands<'a>(rt: &impl AllocGlobal) -> Result<Command<'a>, AllocError> {
     let program = with(program, trace(rt));
     let program = with(program, draw(rt));
     let program = with(program, run(rt));
-    with(program, check(rt))
+    let program = with(program, check(rt));
+    with(program, legal(rt))
 }

@@ -1,12 +1,15 @@
 //! `scisim script [FILE]` runs a script; `scisim trace [FILE]` says of each turn what it did, and `scisim draw [FILE]` shows it on a
-//! page; `scisim run [FILE]` runs a workload; `scisim check [FILE]` checks a dump.
+//! page; `scisim run [FILE]` runs a workload; `scisim check [FILE]` checks a dump, and `scisim legal [FILE]` a history.
 #![tactic(auto)]
 
 mod commands;
+mod histories;
 
 use clap::{ArgMatches, Error, error};
 use commands::commands;
-use sci_serve::{Form, Progress, SimFault, serve_buffered, serve_check, serve_run, serve_run_by};
+use sci_serve::{
+    Form, Progress, SimFault, serve_buffered, serve_check, serve_legal, serve_run, serve_run_by,
+};
 use std::alloc::{AllocError, Global};
 use std::fs::File;
 use std::io::{self, BufWriter, ErrorKind, Read, Write};
@@ -70,6 +73,14 @@ fn check(rt: &HostRuntime, path: Option<&str>) -> Result<(), SimFault> {
     }
 }
 
+fn legal(rt: &HostRuntime, path: Option<&str>) -> Result<(), SimFault> {
+    let mut output = io::writer(rt);
+    match path {
+        Some(path) => serve_legal(rt.alloc(), &mut open(rt, path)?, &mut output),
+        None => serve_legal(rt.alloc(), &mut rt.reader(), &mut output),
+    }
+}
+
 /// The status of the program's command of this name.
 fn served<T: Threads + Wait + Eprint + Sync>(
     rt: &HostRuntime,
@@ -84,6 +95,7 @@ fn served<T: Threads + Wait + Eprint + Sync>(
         "draw" => script(rt, Form::Draw, path)?,
         "run" => run(rt, threads, path, options.get_flag("progress"))?,
         "check" => check(rt, path)?,
+        "legal" => legal(rt, path)?,
         _ => return Ok(ExitCode::from(2)),
     }
     Ok(ExitCode::SUCCESS)

@@ -1,0 +1,9 @@
+pub mod Places
+pub mod Ordering
+pub mod Rooms
+pub mod Noting
+pub mod Agreement
+pub mod Legality
+pub mod Looping
+pub mod TextLoops
+pub mod HistoryTexts

@@ -1,0 +1,10 @@
+use Rattle.std.proofs.Common.{◌≡◌, ◌<◌, ℕ, List}
+use mathlib.Core.Option.{some}
+use lib.ListN.{get_elem?}
+use Rattle.sci_core.specs.declared.receipts.Receipt.{Receipt}
+use Rattle.sci_histories.specs.Each.{Each}
+use Rattle.sci_histories.specs.Rules.{IsWithin}
+use Rattle.sci_histories.proofs.ranges.lists_are_within.Given as goal
+
+abbrev pub invariant-loop-node : goal.invariant-loop-node
+invariant-loop-node l = (k : ℕ) (y : (List Receipt)) → k < l.node → get_elem? l.lists k ≡ some y → Each (IsWithin l.first l.last) y

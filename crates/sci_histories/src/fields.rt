@@ -1,0 +1,113 @@
+//! The fields of a line of text: each reader gives a value and the text behind it, or None where the text begins otherwise.
+
+ghost use Rattle.std.specs.Prelude.{◌≡◌, ◌<◌, ◌≤◌, ◌+◌, true, length, codes, IfSome};
+ghost use Rattle.std.specs.Char.{is_ascii_digit, digit_value};
+ghost use Rattle.std.specs.List.{list_all};
+ghost use Rattle.std.specs.Str.Parse.{digits_value};
+ghost use Rattle.sci_dump.specs.Reading.{Reads, behind, digits_in_front, number_at, value_at, values_at, content_at, numbered_at, count_at};
+
+use sci_core::Line;
+
+/// The text behind these bytes.
+#[tactic(auto, unfolding(sci_dump::specs::Reading::behind))]
+pub fn behind<'a>(bytes: &[u8], text: &'a [u8]) -> Option<&'a [u8]>
+    ensures exact { Reads (λ t. t.now) result (behind bytes.now text.now) }
+    ensures shorter { IfSome result (λ t. length t.now + length bytes.now ≡ length text.now) }
+{
+    text.strip_prefix(bytes)
+}
+
+/// How many digits stand in front.
+fn digits_in_front(text: &[u8]) -> usize
+    ensures exact { result ≡ digits_in_front text.now }
+    ensures within { result ≤ length text.now }
+{
+    text.iter()
+        .position(|b| !b.is_ascii_digit())
+        .unwrap_or(text.len())
+}
+
+/// What up to 20 decimal digits stand for.
+fn decimal_value(digits: &[u8]) -> u128
+    requires digits { list_all is_ascii_digit digits.now ≡ true }
+    requires short { length digits.now ≤ 20 }
+    ensures { result ≡ digits_value 10 digits.now }
+{
+    let mut value = 0u128;
+    for digit in digits {
+        value = value * 10 + u128::from(*digit - b'0');
+    }
+    value
+}
+
+/// A number below 2^64, in decimal without leading zeros.
+#[tactic(auto, unfolding(sci_dump::specs::Reading::number_at))]
+pub fn number(text: &[u8]) -> Option<(u64, &[u8])>
+    ensures exact { Reads (λ x. (x.0, x.1.now)) result (number_at text.now) }
+{
+    let (digits, rest) = text.split_at(digits_in_front(text));
+    let is_short = digits.len() <= 20;
+    match digits {
+        [] => None,
+        [b'0', _, ..] => None,
+        _ if !is_short => None,
+        _ => {
+            let value = u64::try_from(decimal_value(digits)).ok()?;
+            Some((value, rest))
+        }
+    }
+}
+
+/// A number behind a space.
+#[tactic(auto, unfolding(sci_dump::specs::Reading::value_at))]
+pub fn value(text: &[u8]) -> Option<(u64, &[u8])>
+    ensures { Reads (λ x. (x.0, x.1.now)) result (value_at text.now) }
+{
+    number(behind(b" ", text)?)
+}
+
+/// Eight numbers, each behind a space.
+pub fn values(text: &[u8]) -> Option<([u64; 8], &[u8])>
+    ensures { Reads (λ x. (x.0, x.1.now)) result (values_at 8 text.now) }
+{
+    let mut values = [0; 8];
+    let mut rest = text;
+    for i in 0..8 {
+        (values[i], rest) = value(rest)?;
+    }
+    Some((values, rest))
+}
+
+/// A line's stamp and words, to the end of the line of text.
+#[tactic(auto, unfolding(sci_dump::specs::Reading::content_at))]
+pub fn content(text: &[u8]) -> Option<(Line, &[u8])>
+    ensures { Reads (λ x. (x.0, x.1.now)) result (content_at text.now) }
+{
+    let (stamp, rest) = value(text)?;
+    let (words, rest) = values(rest)?;
+    let rest = behind(b"\n", rest)?;
+    Some((Line { words, stamp }, rest))
+}
+
+/// This number.
+#[tactic(auto, unfolding(sci_dump::specs::Reading::numbered_at))]
+pub fn numbered(number: u64, text: &[u8]) -> Option<&[u8]>
+    ensures { Reads (λ t. t.now) result (numbered_at number text.now) }
+{
+    let (found, rest) = self::number(text)?;
+    if found == number { Some(rest) } else { None }
+}
+
+/// A number from 1 to this one.
+#[tactic(auto, unfolding(sci_dump::specs::Reading::count_at))]
+pub fn count(most: u64, text: &[u8]) -> Option<(u64, &[u8])>
+    ensures exact { Reads (λ x. (x.0, x.1.now)) result (count_at most text.now) }
+    ensures range { IfSome result (λ x. (1 ≤ x.0) × (x.0 ≤ most)) }
+{
+    let (found, rest) = number(text)?;
+    if 1 <= found && found <= most {
+        Some((found, rest))
+    } else {
+        None
+    }
+}

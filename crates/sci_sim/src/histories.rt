@@ -1,0 +1,37 @@
+//! The help of the command that checks histories.
+
+/// What `scisim legal --help` says behind its options.
+pub const HISTORIES: &str = "\
+A history is the text of what each node read and wrote on each line, in its order. For each line, from 0 on, it has its opening and its
+closing content, and then the receipts of node 0, of node 1, and so on. A content is a stamp, which counts the writes, and eight words.
+
+  scihistory 1 NODES LINES
+  line L STAMP V V V V V V V V
+  closed L STAMP V V V V V V V V
+  read N STAMP V V V V V V V V
+  passed N STAMP V V V V V V V V                         a read on the way to a write or out of the list
+  wrote N STAMP V V V V V V V V over V V V V V V V V     the new stamp and words, and the words before
+  end
+
+There are 1 to 1024 nodes and 1 to 1024 lines.
+
+Prints `legal`, or `line L breaks HN` and status 3: the first line whose receipts are no one history of it, and the first rule that they
+break.
+  H1  no stamp is below the opening one or above the closing one, and no write's is the opening one
+  H2  in each node's list stamps never fall, and a write's is above all earlier ones
+  H3  each stamp above the opening one, up to the closing one, is that of a write
+  H4  no two writes have one stamp
+  H5  whatever shows the words of one stamp shows the same words
+
+Refusals, on standard error; nothing is printed:
+   7  memory ran out: free some
+  21  the input is no history, from this line on: mend the line
+`cannot read` and `cannot write` are faults of FILE, of the input, or of the output.
+
+Example: one node writes 7 into word 0, and another reads it.
+  scihistory 1 2 1
+  line 0 0 0 0 0 0 0 0 0 0
+  closed 0 1 7 0 0 0 0 0 0 0
+  wrote 0 1 7 0 0 0 0 0 0 0 over 0 0 0 0 0 0 0 0
+  read 1 1 7 0 0 0 0 0 0 0
+  end";
