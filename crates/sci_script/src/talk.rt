@@ -3,7 +3,6 @@ ghost use Rattle.std.specs.Prelude.{◌≡◌, ◌<◌, [], string_bytes, IfOk, 
 ghost use Rattle.sci_script.specs.Format.{Gives};
 ghost use Rattle.sci_script.specs.Request.{words_after};
 ghost use Rattle.sci_script.specs.Run.{Prints, StopsAt};
-ghost use Rattle.sci_script.specs.ScriptText.{Opens};
 ghost use Rattle.sci_script.specs.Shared.{shared_is_open, shared_does};
 ghost use Rattle.sci_script.specs.Size.{IsSize, IsIn};
 ghost use Rattle.sci_script.specs.Talks.{said_at, said_behind, IsSaid, Takes, Declines, Accepts, Refuses};

@@ -1,0 +1,4 @@
+//! Talks, line by line.
+
+mod growths;
+mod memory;

@@ -1,0 +1,45 @@
+//! Each growth may be refused: its line then answers 7, all is as before, and a second try has the memory. With ample memory this
+//! test passes. tools/allocations runs it once for each growth of its table, with that one refused, and the test ends by saying
+//! which call answered it.
+
+use crate::checks::{same, same_bytes_at};
+use sci_script::{ScriptRefusal, Talk};
+use std::alloc::Global;
+use std::process::Abort;
+use std::test::Fail;
+
+/// What is said, and what it prints.
+const LINES: [(&str, &str); 7] = [
+    ("memory 2 1", ""),
+    ("open 0 1 2 0 0 0 0 0 0 0", ""),
+    ("load 0 0 0", ""),
+    ("turn 0", ""),
+    ("list 0", "line 0 HOME\n"),
+    ("tag 0 1", "tag 0 1 INVALID forw - back -\n"),
+    ("residents 0", "node 0 residents 0\n"),
+];
+
+fn refuses(rt: &impl Abort, alloc: Global) -> Result<(), Fail> {
+    let mut talk = Talk::new(alloc);
+    let mut text = String::new(alloc);
+    let mut answered_7 = false;
+    for (line, printed) in LINES {
+        let mut said = talk.say(line.as_bytes(), &mut text);
+        if said == Err(ScriptRefusal::OutOfMemory) {
+            answered_7 = true;
+            said = talk.say(line.as_bytes(), &mut text);
+        }
+        same(rt, &said, &Ok(()));
+        same_bytes_at(rt, &line, text.as_bytes(), printed.as_bytes());
+    }
+    if answered_7 {
+        return Err(Fail::new("say answered 7"));
+    }
+    Ok(())
+}
+
+/// Growths: 1 of say.
+#[test]
+fn refused_growths(rt: HostRuntime) -> Result<(), Fail> {
+    refuses(&rt, rt.alloc())
+}
