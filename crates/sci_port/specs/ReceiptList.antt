@@ -1,5 +1,5 @@
 -- What contracts see of a node's `Receipts` on a line, and what a call leaves in them. This project's profile.
-use Rattle.std.specs.Prelude.{◌≡◌, ℕ, suc, ◌+◌, ◌<◌, Bool, true, false, ◌&&◌, Option, Some, List, [], ◌∷◌, ◌++◌}
+use Rattle.std.specs.Prelude.{◌≡◌, ℕ, suc, ◌+◌, ◌<◌, ltb, Bool, true, false, ◌&&◌, ◌||◌, Option, Some, List, [], ◌∷◌, ◌++◌}
 use Rattle.sci_core.specs.declared.lines.Line.{Line}
 use Rattle.sci_core.specs.declared.pending.Pending.{Pending}
 use Rattle.sci_core.specs.declared.events.Event.{Event}
@@ -72,12 +72,34 @@ abbrev pub CountsOver : Event → Line → Type 0
 CountsOver (Event.Written (Some words)) line = line.stamp < 18446744073709551615
 CountsOver e line = Unit {0}
 
+-- the line that a write from this step replaces, if it writes
+abbrev pub line_before : Pending → Line
+line_before (Pending.Purging line seen) = line
+line_before p = blank
+
 -- there is room for the receipt of an event
 abbrev pub HasRoom : Event → ReceiptList → Type 0
 HasRoom Event.Unhold s = 0 < s.room
 HasRoom Event.Settle s = replaces s ≡ false → 0 < s.room
 HasRoom (Event.Written (Some words)) s = 0 < s.room
 HasRoom e s = Unit {0}
+
+-- there is room for the receipt of a call
+abbrev pub HasRoomFor : Call → ReceiptList → Type 0
+HasRoomFor (Stepped e outcome) s = HasRoom e s
+HasRoomFor call s = Unit {0}
+
+-- what a call of a port leaves in them: where there is room for its receipt what it is to leave, and else all as it was
+pub record ReceivesIfRoom (p : Pending) (call : Call) (s t : ReceiptList) : Type 0 where
+  pub kept : HasRoomFor call s → Receives p call s t
+  pub full : (HasRoomFor call s → ⊥) → t ≡ s
+
+-- an event has a receipt, and there is room for it
+abbrev pub keeps : Event → ReceiptList → Bool
+keeps Event.Unhold s = ltb 0 s.room
+keeps Event.Settle s = ltb 0 s.room || replaces s
+keeps (Event.Written (Some words)) s = ltb 0 s.room
+keeps e s = false
 
 -- these are the receipts of a node in this step, all of whose calls are these
 pub record AreReceiptsOf (log : List (ℕ × Call)) (p : Pending) (s : ReceiptList) : Type 0 where

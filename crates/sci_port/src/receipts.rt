@@ -1,12 +1,13 @@
 //! The receipts of a node on a line.
-ghost use Rattle.std.specs.Prelude.{◌≡◌, ◌+◌, ◌<◌, ◌≤◌, [], true, false, IsOk, OnOk, OnErr};
+ghost use Rattle.std.specs.Prelude.{◌≡◌, ℕ, ◌+◌, ◌<◌, ◌≤◌, [], true, false, IsOk, OnOk, OnErr};
+ghost use Rattle.sci_core.specs.Answers.{is_allowed};
 ghost use Rattle.sci_core.specs.declared.pending.Pending.{Pending};
 ghost use Rattle.sci_core.specs.declared.receipts.Receipt.TheVariants.{Read, Passed, Wrote};
 ghost use Rattle.sci_port.specs.declared.calls.Call.TheVariants.{Stepped};
 ghost use Rattle.sci_port.specs.KeepsTo.{is_passed};
-ghost use Rattle.sci_port.specs.ReceiptList.{Appends, CountsOver, HasRoom, Receives, Replaces, Settles, WritesOver, last_passed, replaces};
+ghost use Rattle.sci_port.specs.ReceiptList.{Appends, CountsOver, HasRoom, Receives, Replaces, Settles, WritesOver, keeps, last_passed, line_before, replaces};
 
-use sci_core::{Event, Line, Outcome, Receipt};
+use sci_core::{Event, Line, Outcome, Pending, Receipt};
 use std::alloc::{AllocError, Global};
 use std::marker::Model;
 
@@ -23,6 +24,17 @@ fn is_passed(receipt: &Receipt) -> bool
     ensures { result ≡ is_passed receipt.now }
 {
     matches!(receipt, Receipt::Passed { .. })
+}
+
+// The line that a write from this step replaces; any line where it writes none.
+#[inline(always)]
+fn line_before(step: &Pending) -> Line
+    ensures { result ≡ line_before step.now }
+{
+    match step {
+        Pending::Purging { line, .. } => *line,
+        _ => Line::ZERO,
+    }
 }
 
 impl Model for Receipts {
@@ -84,6 +96,29 @@ impl Receipts {
         ensures room { self.new.room ≡ self.old.room }
     {
         self.passing = passing;
+    }
+
+    /// The event has a receipt, and there is room for it.
+    #[inline(always)]
+    pub fn keeps(&self, event: &Event) -> bool
+        ensures { result ≡ keeps event.now self.now }
+    {
+        match event {
+            Event::Unhold | Event::Written(Some(_)) => self.room() > 0,
+            Event::Settle => self.room() > 0 || self.passing && self.last_passed(),
+            _ => false,
+        }
+    }
+
+    /// Keeps what an event of this pending step, which allowed it, came to, as `receive` does. There is to be room.
+    #[inline(always)]
+    pub fn keep(&mut self, step: &Pending, event: &Event, outcome: &Outcome)
+        requires allowed { (n : ℕ) × (me : ℕ) × (is_allowed n me step.now event.now ≡ true) }
+        requires room { HasRoom event.now self.old }
+        ensures { Receives step.now (Stepped event.now outcome.now) self.old self.new }
+    {
+        let before = line_before(step);
+        self.receive(event, &before, outcome);
     }
 
     /// The receipts, in order.
