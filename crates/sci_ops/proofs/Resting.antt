@@ -6,3 +6,4 @@ pub mod Ranking
 pub mod Falling
 pub mod Keeping
 pub mod Turning
+pub mod Ends

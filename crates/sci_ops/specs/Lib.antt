@@ -3,6 +3,7 @@ pub mod Answers
 pub mod Change
 pub mod Operation
 pub mod Plan
+pub mod Ranking
 pub mod Rest
 pub mod Table
 pub mod Values

@@ -1,16 +1,17 @@
 -- Turns that nobody comes between, and how a line is brought to rest. This project's profile.
-use Rattle.std.specs.Prelude.{◌≡◌, ◌≢◌, ℕ, ◌<◌, suc, Bool, true, false, Option, List}
+use Rattle.std.specs.Prelude.{◌≡◌, ◌≢◌, ℕ, ◌<◌, suc, Bool, true, false, Option, Some, None, List, slice_index_or}
 use Rattle.sci_words.specs.declared.tags.Tag.{Tag}
 use Rattle.sci_words.specs.declared.memory.Mem.{Mem}
 use Rattle.sci_core.specs.declared.lines.Line.{Line}
 use Rattle.sci_core.specs.Progress.{IsMover}
 use Rattle.sci_core.specs.State.{State}
 use Rattle.sci_ops.specs.declared.goals.Goal.{Goal}
+use Rattle.sci_ops.specs.declared.answers.Answer.{Answer}
 use Rattle.sci_ops.specs.declared.answers.Turn.{Turn}
-use Rattle.sci_ops.specs.Alone.{TakesTurn}
+use Rattle.sci_ops.specs.Alone.{TakesTurn, Ends}
 use Rattle.sci_ops.specs.Plan.{Plan, own, mem, tag, exchange, ends, ended}
 use Rattle.sci_ops.specs.Operation.{Operation}
-use Rattle.sci_ops.specs.Table.{turn_of, begun}
+use Rattle.sci_ops.specs.Table.{turn_of, begun, after_turn}
 
 -- what is left of a plan of node me once its loads are made, of these words: an exchange, or an end without one
 abbrev pub read : Mem → (ℕ → Tag) → ℕ → Plan → Plan
@@ -38,3 +39,20 @@ ComesTo _ turn = ⊥
 pub data Rests (n : ℕ) (fits : List ℕ → Type 0) (s : State) : ℕ → State → Type 0 where
   at_first : Rests n fits s 0 s
   one_more : {k : ℕ} {mid t : State} {turn : Turn} → Rests n fits s k mid → (me : ℕ) → me < n → IsMover n mid me → (turn ≢ Turn.Waiting) → TakesTurn n fits me (begun Goal.Load) mid turn t → Rests n fits s (suc k) t
+
+-- the operation of node i is taken to its end from this state to that one; one that has ended stays as it is
+abbrev pub EndsOne : ℕ → (List ℕ → Type 0) → ℕ → Operation → Option Answer → State → Operation → State → Type 0
+EndsOne n fits i op (Some answer) s new t = (new ≡ op) × (t ≡ s)
+EndsOne n fits i op None s new t = (turns : ℕ) × (answer : Answer) × Ends n fits i op s turns answer t × (new ≡ after_turn op (Turn.Done answer))
+
+-- the operation of a node in a list
+abbrev pub op_at : List Operation → ℕ → Operation
+op_at ops i = slice_index_or ops i (begun Goal.Load)
+
+-- the operations of the first m nodes are taken to their ends, one after another
+pub record EndsEach (n : ℕ) (fits : List ℕ → Type 0) (m : ℕ) (ops new : List Operation) (s t : State) : Type 0 where
+  -- the line before the operation of each node
+  pub at : ℕ → State
+  pub first : at 0 ≡ s
+  pub last : at m ≡ t
+  pub each : (i : ℕ) → i < m → EndsOne n fits i (op_at ops i) (op_at ops i).answer (at i) (op_at new i) (at (suc i))

@@ -1,5 +1,6 @@
 //! Operations.
 ghost use Rattle.std.specs.Prelude.{◌≡◌, ◌≢◌, ◌<◌, ◌↔◌, true, None, IfOk, IsErr};
+ghost use Rattle.sci_core.specs.declared.pending.Pending.TheVariants.{Idle};
 ghost use Rattle.sci_core.specs.Progress.{IsMover};
 ghost use Rattle.sci_core.specs.Whole.{IsSameLine, nodes_of, state_of};
 ghost use Rattle.sci_ops.specs.declared.goals.Write as a_write;
@@ -7,6 +8,7 @@ ghost use Rattle.sci_ops.specs.Alone.{TakesTurn};
 ghost use Rattle.sci_ops.specs.Answers.{AnswersAt};
 ghost use Rattle.sci_ops.specs.Change.{StoresFitting};
 ghost use Rattle.sci_ops.specs.Plan.{Takes, LoadsAtMost};
+ghost use Rattle.sci_ops.specs.Ranking.{ranking};
 ghost use Rattle.sci_ops.specs.Rest.{due_turn, is_exchange, ComesTo};
 ghost use Rattle.sci_ops.specs.Table.{turn_of, begun, after_turn};
 ghost use Rattle.sci_ops.specs.Values.{IsTrueTurn};
@@ -97,6 +99,13 @@ impl Op {
         self.goal
     }
 
+    /// Its answer, once it has ended.
+    pub fn answer(&self) -> Option<Answer>
+        ensures { result ≡ self.now.answer }
+    {
+        self.answer
+    }
+
     /// One turn, by the table of turns: at most three loads and then at most one exchange, which the pending step allows. An
     /// answer is what the last of these calls gave. Seen: a load; Settle or Unhold was done, and answered this line. Wrote: a
     /// write; from Purging of a line with these words and a stamp one less, what the write makes of them was written. Spent: a
@@ -124,8 +133,8 @@ impl Op {
 
     /// One turn of a node on a line that is lent to it: `turn` over its `Solo`. Nobody comes between its loads and its exchange, so
     /// it never misses: it makes the exchange that the table of turns has on the line as it stands, and waits only where the table
-    /// says so. A node that moves, as `Whole::mover` gives one, makes an exchange. An answer is true of the line before and after
-    /// the turn. Seen: the line's value, and the node is a valid sharer of it. Wrote: the words before are those of the value
+    /// says so. A node that moves, as `Whole::mover` gives one, makes an exchange. An exchange of a node that isn't Idle leads nearer
+    /// to rest (`ranking` in `specs/Ranking.antt`). An answer is true of the line before and after the turn. Seen: the line's value, and the node is a valid sharer of it. Wrote: the words before are those of the value
     /// before, whose stamp is one less, the value after is what the write makes of them, with the stamp, and the node is the
     /// only valid sharer before and after. Spent: the stamp of the value is `u64::MAX`, the value stays, and the node is the
     /// only valid sharer before and after. Out: the node's tag is Invalid.
@@ -136,6 +145,7 @@ impl Op {
         ensures calls { TakesTurn (nodes_of whole.old) (K.fits whole.old.keep whole.old.number) node self.old (state_of whole.old) result (state_of whole.new) }
         ensures in_one_go { ComesTo (due_turn self.old node (state_of whole.old)) result }
         ensures mover { self.old.answer ≡ None → IsMover (nodes_of whole.old) (state_of whole.old) node → (is_exchange (due_turn self.old node (state_of whole.old)) ≡ true) × (result ≢ Turn.Waiting) }
+        ensures nearer { (state_of whole.old).steps node ≢ Idle → is_exchange (due_turn self.old node (state_of whole.old)) ≡ true → ranking (nodes_of whole.old) (state_of whole.new) < ranking (nodes_of whole.old) (state_of whole.old) }
         ensures answers { IsTrueTurn (nodes_of whole.old) (K.fits whole.old.keep whole.old.number) self.old node (state_of whole.old) result (state_of whole.new) }
         ensures op { self.new ≡ after_turn self.old result }
     {

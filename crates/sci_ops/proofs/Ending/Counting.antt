@@ -6,11 +6,7 @@ use Rattle.std.proofs.lemmas.Bool.Decides.{nat_tests}
 use Rattle.sci_words.specs.declared.tags.Kind.{Kind}
 use Rattle.sci_words.specs.declared.tags.Tag.{Tag}
 use Rattle.sci_core.specs.State.{update}
-
--- how many of the first n numbers have the property
-abbrev pub count : (ℕ → Bool) → ℕ → ℕ
-count f zero = 0
-count f (suc n) = cond (f n) 1 0 + count f n
+use Rattle.sci_ops.specs.Ranking.{count}
 
 abbrev pub is_listed : Kind → Bool
 is_listed Kind.Invalid = false

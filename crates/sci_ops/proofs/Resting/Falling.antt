@@ -37,12 +37,13 @@ use Rattle.sci_ops.specs.Alone.{on_line, TakesTurn}
 use Rattle.sci_ops.specs.Operation.{Operation}
 use Rattle.sci_ops.specs.Plan.{Plan, own, mem, tag, exchange, ends, Takes}
 use Rattle.sci_ops.specs.Rest.{read, due_turn, is_exchange}
+use Rattle.sci_ops.specs.Ranking.{stirs, is_late, names_purger, is_loose, is_stale, is_stirring, ranking}
 use Rattle.sci_ops.specs.Table.{is_same, turn_again}
-use Rattle.sci_ops.proofs.Ending.Counting.{count, count_max, updated, not_updated}
+use Rattle.sci_ops.proofs.Ending.Counting.{count_max, updated, not_updated}
 use Rattle.sci_ops.proofs.Ending.Inverse.{of_own, of_mem, of_tag}
 use Rattle.sci_ops.proofs.Ending.Rest.{next_in}
 use Rattle.sci_ops.proofs.Resting.Finding.{own_at}
-use Rattle.sci_ops.proofs.Resting.Ranking.{stirs, is_late, names_purger, is_loose, is_stale, is_stirring, ranking, count_mono, count_drop, is_queueing, Calm, both_true, or_left, or_right, loose_elsewhere, loose_kept, late_kept, stale_kept, stirring_kept, settled_less, calmed_less, turned_less}
+use Rattle.sci_ops.proofs.Resting.Ranking.{count_mono, count_drop, is_queueing, Calm, both_true, or_left, or_right, loose_elsewhere, loose_kept, late_kept, stale_kept, stirring_kept, settled_less, calmed_less, turned_less}
 use Rattle.sci_ops.proofs.Resting.Reading.{same_link, Renews, reach, IsDue, Came, came, Due, due_again, Done, done}
 
 -- the actor stirs no more, or nobody becomes stale

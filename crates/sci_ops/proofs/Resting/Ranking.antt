@@ -1,4 +1,4 @@
--- How far a line is from rest: what is left to do, and what that can make anew.
+-- A line is at most so far from rest, and what leads nearer.
 use Rattle.std.proofs.Common.{◌≡◌, ◌≢◌, ◌⊎◌, ◌<◌, ◌≤◌, ◌+◌, ◌*◌, ℕ, zero, suc, Bool, true, false, ◌&&◌, ◌||◌, not, Option, Some, None, List, Contains, refl, sym, ap, subst, inl, inr, ⊎_elim, ◌∙◌, arith}
 use Rattle.std.specs.Prelude.{cond, eqb}
 use Rattle.std.proofs.lemmas.Bool.{cases_eq, cases_Bool, cases_lt}
@@ -18,43 +18,8 @@ use Rattle.sci_core.specs.State.{State, update, word}
 use Rattle.sci_core.specs.Step.{Finds, tags_after, memory_after}
 use Rattle.sci_core.specs.Waiting.{is_purging}
 use Rattle.sci_core.proofs.Going.Facts.{and_left, and_right, not_true, or_cases, rolling_kind}
-use Rattle.sci_ops.specs.Table.{is_same}
-use Rattle.sci_ops.proofs.Ending.Counting.{count, count_max, updated, not_updated}
-
--- the steps of a node that is still to change the head that memory names, or to end a purge
-abbrev pub stirs : Pending → Bool
-stirs (Pending.Queueing f) = true
-stirs (Pending.Leaving d l q) = true
-stirs (Pending.Promoted d l x) = true
-stirs (Pending.Converting f t) = true
-stirs (Pending.Purging l q) = true
-stirs (Pending.Advancing l x w) = true
-stirs (Pending.Clearing l x w) = true
-stirs _ = false
-
--- a newcomer that found another head than memory names now
-abbrev pub is_late : Option ℕ → Pending → Bool
-is_late head (Pending.Queueing f) = not (is_same f head)
-is_late head _ = false
-
-abbrev pub names_purger : (ℕ → Tag) → Option ℕ → Bool
-names_purger tags (Some b) = is_purging (tags b).kind
-names_purger tags None = false
-
--- an entry in Roll whose back link is no purging node
-abbrev pub is_loose : (ℕ → Tag) → Tag → Bool
-is_loose tags t = is_rolling t.kind && not (names_purger tags t.back)
-
--- the node may requeue, or be adopted
-abbrev pub is_stale : Option ℕ → (ℕ → Tag) → (ℕ → Pending) → ℕ → Bool
-is_stale head tags steps i = is_late head (steps i) || is_loose tags (tags i)
-
-abbrev pub is_stirring : (ℕ → Pending) → ℕ → Bool
-is_stirring steps i = stirs (steps i)
-
--- a node that stirs may make all others stale, once
-abbrev pub ranking : ℕ → State → ℕ
-ranking n s = measure n s + n * count (is_stirring s.steps) n + count (is_stale s.memory.forw s.tags s.steps) n
+use Rattle.sci_ops.specs.Ranking.{stirs, is_late, names_purger, is_loose, is_stale, is_stirring, count, ranking}
+use Rattle.sci_ops.proofs.Ending.Counting.{count_max, updated, not_updated}
 
 bit_mono : (a b : Bool) → (b ≡ true → a ≡ true) → cond b 1 0 ≤ cond a 1 0
 bit_mono true true h = omega arith

@@ -9,11 +9,11 @@ use Rattle.sci_ops.specs.declared.goals.Goal.{Goal}
 use Rattle.sci_ops.specs.declared.answers.Turn.{Turn}
 use Rattle.sci_ops.specs.Alone.{TakesTurn}
 use Rattle.sci_ops.specs.Operation.{Operation}
+use Rattle.sci_ops.specs.Ranking.{ranking}
 use Rattle.sci_ops.specs.Rest.{due_turn, is_exchange}
 use Rattle.sci_ops.specs.Table.{begun}
 use Rattle.sci_ops.proofs.Resting.Falling.{turn_falls}
 use Rattle.sci_ops.proofs.Resting.Keeping.{turn_keeps}
-use Rattle.sci_ops.proofs.Resting.Ranking.{ranking}
 
 -- it makes an exchange, and leads nearer to rest
 pub record Turned (n : ℕ) (fits : List ℕ → Type 0) (me : ℕ) (s : State) (r : Turn) (t : State) : Type 0 where

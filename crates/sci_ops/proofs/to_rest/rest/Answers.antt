@@ -1,7 +1,8 @@
 use Rattle.std.proofs.Common.{◌≡◌, ◌+◌, ◌*◌, ◌≤◌, ◌<◌, ℕ, suc, refl, arith}
 use Rattle.sci_core.specs.Whole.{nodes_of, state_of}
+use Rattle.sci_ops.specs.Ranking.{ranking}
 use Rattle.sci_ops.specs.Rest.{at_first, one_more}
-use Rattle.sci_ops.proofs.Resting.Ranking.{ranking, ranking_bound}
+use Rattle.sci_ops.proofs.Resting.Ranking.{ranking_bound}
 use Rattle.sci_ops.proofs.Resting.Turning.{turned, same_line}
 use Rattle.sci_ops.proofs.to_rest.rest.Goals as goal
 

@@ -2,8 +2,8 @@ use Rattle.std.proofs.Common.{◌≡◌, ◌+◌, ◌*◌, ◌≤◌, ℕ}
 use Rattle.sci_core.specs.declared.lines.Line.{Line}
 use Rattle.sci_core.specs.Run.{HasValue}
 use Rattle.sci_core.specs.Whole.{IsSameLine, nodes_of, state_of}
+use Rattle.sci_ops.specs.Ranking.{ranking}
 use Rattle.sci_ops.specs.Rest.{Rests}
-use Rattle.sci_ops.proofs.Resting.Ranking.{ranking}
 use Rattle.sci_ops.proofs.to_rest.rest.Given as goal
 
 -- the turns so far, and those that are left, are at most as many as the line was far from rest
