@@ -18,7 +18,7 @@ mod wholes;
 mod writing;
 
 pub use banks::{BankDesk, NoDesk};
-pub use commands::{Command, Script, Size, Step};
+pub use commands::{Command, Opening, Script, Size, Step};
 pub use desk::Desk;
 pub use reader::read_script;
 pub use refusals::ScriptRefusal;
