@@ -60,6 +60,8 @@ RUNS = [
     ("draw", SCRIPT, 7, REFUSED, page),
     ("trace", WAITING, 4, REFUSED, lines),
     ("draw", WAITING, 4, REFUSED, page),
+    ("trace --log", SCRIPT, 7, REFUSED, nothing),
+    ("trace --log", WAITING, 4, REFUSED, nothing),
     ("check", DUMP, 1, REFUSED, nothing),
     ("check", DUMP.replace("ff0102", "ff0112"), 1, REFUSED, nothing),
     ("legal", HISTORY, 1, REFUSED, nothing),

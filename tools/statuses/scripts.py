@@ -129,7 +129,7 @@ CASES += [
     for arguments, given, status, out, error in SCRIPTS
 ] + [
     (["trace"], ONE_TURN, 0, "# node 0 line 0 load: Queue(none) Done; Queueing(none); HOME\n", ""),
-    (["trace", "--help"], "", 0, Begins("Runs a script, and says of each turn what it did\n\nUsage: scisim trace [FILE]\n"), ""),
+    (["trace", "--help"], "", 0, Begins("Runs a script, and says of each turn what it did\n\nUsage: scisim trace [OPTIONS] [FILE]\n"), ""),
 ]
 
 # And so does `draw`, as a page on standard output; it has one to write where the script's text is empty.

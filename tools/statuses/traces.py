@@ -1,5 +1,7 @@
 """What `trace` tells of each turn, worked by hand from the walks and the tables of docs/PROTOCOL.md. A page of `draw` has the same text."""
 
+import re
+
 from kinds import Little, WholePage, refused
 
 # Each walk: a script, the status, the trace, and what is told on standard error.
@@ -245,7 +247,58 @@ TRACED = [*WALKS, EACH_NODE, (UNENDED, 1, ITS_TRACE, refused("18 at line 7"))]
 LITTLE = Little(UNENDED, 6_000_000)
 assert len(ITS_TRACE) > LITTLE.memory
 
+TURN = re.compile(r"# node (\d+) line (\d+) [a-z ]+: ([^;]*); (\w+)")
+
+# In these steps a turn begins with a look at the own tag.
+LOOKING = ("Idle", "Purging", "Leaving", "Rolling")
+
+
+def logged(script, trace):
+    """The log of a script with this trace."""
+    log = [row for row in script.splitlines() if row.startswith(("memory ", "open "))]
+    steps = {}
+    for row in trace.splitlines():
+        if found := TURN.match(row):
+            node, line, what, step = found.groups()
+            if steps.get((node, line), "Idle") in LOOKING:
+                log.append(f"node {node} line {line} Look Done")
+            if what.endswith(" Done"):
+                log.append(f"node {node} line {line} {what}")
+            steps[node, line] = step
+    return "\n".join(log) + "\n"
+
+
+# The log of the first walk, worked by hand.
+ITS_LOG = (
+    "memory 2 1\n"
+    "node 0 line 0 Look Done\n"
+    "node 0 line 0 Queue(none) Done\n"
+    "node 0 line 0 PrependValid Done\n"
+    "node 0 line 0 ReturnMemory Done\n"
+    "node 0 line 0 Settle Done\n"
+    "node 1 line 0 Look Done\n"
+    "node 1 line 0 Queue(0) Done\n"
+    "node 1 line 0 PrependValid Done\n"
+    "node 1 line 0 ReturnMemory Done\n"
+    "node 1 line 0 AttachFresh(0 ONLY_FRESH) Done\n"
+    "node 1 line 0 Settle Done\n"
+    "node 1 line 0 Look Done\n"
+    "node 1 line 0 Convert(HEAD_FRESH) Done\n"
+    "node 1 line 0 FreshToGone Done\n"
+    "node 1 line 0 Converted Done\n"
+    "node 1 line 0 Look Done\n"
+    "node 1 line 0 PurgeOne(0 TAIL_VALID) Done\n"
+    "node 1 line 0 Advance Done\n"
+    "node 1 line 0 Clear Done\n"
+    "node 1 line 0 Look Done\n"
+    "node 1 line 0 Written(words 5 0 0 0 0 0 0 0) Done\n"
+)
+assert ITS_LOG == logged(*WALKS[0][::2])
+
 CASES = [
+    *((["trace", "--log"], script, status, logged(script, text), error) for script, status, text, error in TRACED),
+    (["trace", "--log"], "memory 2 2\ncapacity 1\nopen 1 3 1 2 3 4 5 6 7 8\nopen 1 4 0 0 0 0 0 0 0 18446744073709551615\n", 0,
+     "memory 2 2\nopen 1 3 1 2 3 4 5 6 7 8\nopen 1 4 0 0 0 0 0 0 0 18446744073709551615\n", ""),
     (["trace"], LITTLE, 1, ITS_TRACE, refused("18 at line 7")),
     (["draw"], LITTLE, 1, WholePage(ITS_TRACE), refused("18 at line 7")),
     *((["trace"], script, status, text, error) for script, status, text, error in TRACED),

@@ -137,6 +137,13 @@ impl Script {
         self.steps.as_slice()
     }
 
+    /// What its lines open with, in order; where a line has several, its last counts.
+    pub fn openings(&self) -> &[Opening]
+        ensures { result.now ≡ self.now.openings.items }
+    {
+        self.openings.as_slice()
+    }
+
     /// How many lines its memory has, 1 to 1,024.
     pub fn lines(&self) -> u16
         ensures value { result ≡ self.now.size.lines }

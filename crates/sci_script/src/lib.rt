@@ -19,7 +19,7 @@ mod wholes;
 mod writing;
 
 pub use banks::{BankDesk, NoDesk};
-pub use commands::{Command, Script, Size, Step};
+pub use commands::{Command, Opening, Script, Size, Step};
 pub use desk::Desk;
 pub use reader::{line_end, read_script, without_return};
 pub use refusals::ScriptRefusal;

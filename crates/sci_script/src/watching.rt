@@ -3,8 +3,9 @@ ghost use Rattle.std.specs.Prelude.{◌≡◌, ◌<◌, ℕ, true, Some, length,
 ghost use Rattle.sci_core.specs.Stage.{stage_of};
 ghost use Rattle.sci_core.specs.Whole.{nodes_of};
 ghost use Rattle.sci_cache.specs.Nodes.{IsSameNode, line_by};
+ghost use Rattle.sci_script.specs.declared.watching.Load.{Load};
 ghost use Rattle.sci_script.specs.Nodes.{TurnsOverOf, whole_of};
-ghost use Rattle.sci_script.specs.Passed.{ending_of, passed_by, PassesOverOf};
+ghost use Rattle.sci_script.specs.Passed.{ending_of, looks_by, passed_by, PassesOverOf};
 
 use crate::wholes::WholeDesk;
 use sci_cache::Node;
@@ -29,8 +30,8 @@ pub enum Load {
 pub enum Ending {
     /// The row was made.
     Done,
-    /// Another word than the row's was found.
-    Missed,
+    /// Another word than the row's was found: the word with this code in layout 2.
+    Missed(u64),
     /// Another had the line.
     Busy,
 }
@@ -40,6 +41,8 @@ pub enum Ending {
 pub struct Passed {
     /// The line of the last call.
     pub line: LineNo,
+    /// How many looks at the own tag were answered, up to 255. A turn makes at most three loads.
+    pub looks: u8,
     /// The last load.
     pub load: Option<Load>,
     /// The exchange that was tried, with its ending.
@@ -50,16 +53,27 @@ impl Passed {
     /// Nothing has passed.
     pub const NOTHING: Passed = Passed {
         line: 0,
+        looks: 0,
         load: None,
         step: None,
     };
 
     // Keeps a load.
     fn load(&mut self, line: LineNo, load: Load)
-        ensures { self.new ≡ record { line = line; load = Some load; step = self.old.step } }
+        ensures { self.new ≡ record { line = line; looks = self.old.looks; load = Some load; step = self.old.step } }
     {
         self.line = line;
         self.load = Some(load);
+    }
+
+    // Keeps a look at the own tag.
+    fn look(&mut self, line: LineNo, own: Option<Tag>)
+        ensures { self.new ≡ record { line = line; looks = looks_by self.old.looks own; load = Some (Load.Own own); step = self.old.step } }
+    {
+        if own.is_some() {
+            self.looks = self.looks.saturating_add(1);
+        }
+        self.load(line, Load::Own(own));
     }
 }
 
@@ -68,7 +82,7 @@ fn ending_of(outcome: &Outcome) -> Ending
 {
     match outcome {
         Outcome::Done(_) => Ending::Done,
-        Outcome::Missed(_) => Ending::Missed,
+        Outcome::Missed(word) => Ending::Missed(*word),
         Outcome::Busy => Ending::Busy,
     }
 }
@@ -131,7 +145,7 @@ impl<B: Bank> Bank for Watched<'_, '_, B> {
     fn own(&mut self, line: LineNo) -> Option<Tag> {
         let own = self.bank.own(line);
         let answer = own;
-        self.passed.load(line, Load::Own(answer));
+        self.passed.look(line, answer);
         own
     }
 

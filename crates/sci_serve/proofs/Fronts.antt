@@ -11,6 +11,7 @@ use Rattle.sci_script.specs.Request.{no_words}
 use Rattle.sci_script.specs.Run.{Leaves, PrintsAll}
 use Rattle.sci_script.specs.Shared.{Shared, shared_is_open, shared_does}
 use Rattle.sci_trace.specs.Traces.{Traces, TraceLeaves, FormLeaves}
+use Rattle.sci_trace.specs.Logging.{LogLeaves}
 use Rattle.sci_trace.specs.Pages.{page_of}
 use Rattle.sci_serve.specs.declared.faults.SimFault.{SimFault}
 use Rattle.sci_serve.specs.declared.faults.SimFault.TheVariants.{CannotRead, CannotWrite, InputTooLong, Refused, NoDump, Unlawful, NoRun}
@@ -65,6 +66,20 @@ form_front form nodes steps s WriteFailed written t n less (traced, so_far, (m, 
     let (inside, again) = front_again n m (form traced) written less is in
     (traced, so_far, (n, inside, again))
 
+front_of_nothing : (written : List ℕ) (n : ℕ) → n < length written → written ≡ [] → ⊥
+front_of_nothing written n less none = let e : length written ≡ 0 = ap (length {A = ℕ}) none in omega arith
+
+-- of what is left of a log
+log_front : (size : Size) (openings : List Opening) (steps : List Step) (s : Shared) (e : ScriptRefusal) (written : List ℕ) (t : Shared) (n : ℕ) → n < length written
+    → LogLeaves size openings steps s e written t → LogLeaves size openings steps s WriteFailed (take n written) t
+log_front size openings steps s OutOfMemory written t n less none = absurd (front_of_nothing written n less none)
+log_front size openings steps s (BadCommand l) written t n less stops = (written, (n, less, refl), inr (BadCommand l, stops))
+log_front size openings steps s (BadNumber l) written t n less stops = (written, (n, less, refl), inr (BadNumber l, stops))
+log_front size openings steps s (NotDone l) written t n less stops = (written, (n, less, refl), inr (NotDone l, stops))
+log_front size openings steps s WriteFailed written t n less (log, (m, short, is), run) =
+    let (inside, again) = front_again n m log written less is in
+    (log, (n, inside, again), run)
+
 front_of_left : (form : Form) (size : Size) (capacity : ℕ) (openings : List Opening) (steps : List Step) (e : ScriptRefusal) (written : List ℕ) (n : ℕ) → n < length written
     → IsLeft form size capacity openings steps e written → IsLeft form size capacity openings steps WriteFailed (take n written)
 front_of_left Form.Script size capacity openings steps e written n less (s, t, opens, left) =
@@ -72,6 +87,7 @@ front_of_left Form.Script size capacity openings steps e written n less (s, t, o
     (s, u, opens, front)
 front_of_left Form.Trace size capacity openings steps e written n less (s, t, opens, left) = (s, t, opens, trace_front size.nodes steps s e written t n less left)
 front_of_left Form.Draw size capacity openings steps e written n less (s, t, opens, left) = (s, t, opens, form_front page_of size.nodes steps s e written t n less left)
+front_of_left Form.Log size capacity openings steps e written n less (s, t, opens, left) = (s, t, opens, log_front size openings steps s e written t n less left)
 
 front_of_written : (form : Form) (size : Size) (capacity : ℕ) (openings : List Opening) (steps : List Step) (text : List ℕ) (n : ℕ) → n < length text
     → IsWritten form size capacity openings steps text → IsLeft form size capacity openings steps WriteFailed (take n text)
@@ -82,6 +98,7 @@ front_of_written Form.Trace size capacity openings steps traced n less (s, t, op
 front_of_written Form.Draw size capacity openings steps text n less (s, t, traced, opens, all, told, is) =
     let so_far = subst (λ (l : List Step). Traces l s traced t) (sym (take_all (length steps) steps (omega arith))) all in
     (s, t, opens, (traced, (length steps, t, so_far), (n, subst (λ (x : List ℕ). n < length x) is less, ap (take n) is)))
+front_of_written Form.Log size capacity openings steps text n less (s, t, opens, logged) = (s, t, opens, (text, (n, less, refl), inl logged))
 
 front_of_run : (form : Form) (e : ScriptRefusal) (input written : List ℕ) (n : ℕ) → n < length written → StopsRunning form e input written → StopsRunning form WriteFailed input (take n written)
 front_of_run form e input written n less (short, size, capacity, openings, steps, is, left) =
@@ -90,9 +107,6 @@ front_of_run form e input written n less (short, size, capacity, openings, steps
 pub front_of_text : (form : Form) (input text : List ℕ) (n : ℕ) → n < length text → Serves form input text → StopsRunning form WriteFailed input (take n text)
 front_of_text form input text n less (short, size, capacity, openings, steps, is, written) =
     (short, size, capacity, openings, steps, is, front_of_written form size capacity openings steps text n less written)
-
-front_of_nothing : (written : List ℕ) (n : ℕ) → n < length written → written ≡ [] → ⊥
-front_of_nothing written n less none = let e : length written ≡ 0 = ap (length {A = ℕ}) none in omega arith
 
 -- wherever the command stops, a front of what it wrote is what it leaves where the writer fails
 pub front_of_stop : (form : Form) (e : SimFault) (input written : List ℕ) (n : ℕ) → n < length written → Stops form e input written → Stops form CannotWrite input (take n written)

@@ -13,22 +13,26 @@ use Rattle.sci_script.specs.Format.{script_of}
 use Rattle.sci_script.specs.ScriptText.{Opens, IsTextOf, IsLeftOf}
 use Rattle.sci_script.specs.Request.{no_words}
 use Rattle.sci_script.specs.Shared.{Shared}
+use Rattle.sci_trace.specs.Logging.{Logs, LogLeaves}
 use Rattle.sci_trace.specs.Pages.{page_of}
 use Rattle.sci_trace.specs.Telling.{TellsAll}
 use Rattle.sci_trace.specs.Traces.{Traces, TraceLeaves, FormLeaves}
 
--- what is written of a run: the script's text; that text with the lines of its turns between, one by one; or the page of that
+-- what is written of a run: the script's text; that text with the lines of its turns between, one by one; the page of that; or the
+-- log of its events
 abbrev pub IsWritten : Form → Size → ℕ → List Opening → List Step → List ℕ → Type 0
 IsWritten Form.Script size capacity openings steps text = IsTextOf size capacity openings steps text
 IsWritten Form.Trace size capacity openings steps text = (s t : Shared) × Opens size capacity openings s × Traces steps s text t × TellsAll no_words s steps text t
 IsWritten Form.Draw size capacity openings steps text =
     (s t : Shared) × (traced : List ℕ) × Opens size capacity openings s × Traces steps s traced t × TellsAll no_words s steps traced t × (text ≡ page_of traced)
+IsWritten Form.Log size capacity openings steps text = (s t : Shared) × Opens size capacity openings s × Logs size openings steps s text t
 
 -- what is written of a run that fails
 abbrev pub IsLeft : Form → Size → ℕ → List Opening → List Step → ScriptRefusal → List ℕ → Type 0
 IsLeft Form.Script size capacity openings steps e written = IsLeftOf size capacity openings steps e written
 IsLeft Form.Trace size capacity openings steps e written = (s t : Shared) × Opens size capacity openings s × TraceLeaves size.nodes steps s e written t
 IsLeft Form.Draw size capacity openings steps e written = (s t : Shared) × Opens size capacity openings s × FormLeaves page_of size.nodes steps s e written t
+IsLeft Form.Log size capacity openings steps e written = (s t : Shared) × Opens size capacity openings s × LogLeaves size openings steps s e written t
 
 -- where memory runs out before the run, nothing is written
 abbrev pub FailsWith : Form → Size → ℕ → List Opening → List Step → ScriptRefusal → List ℕ → Type 0

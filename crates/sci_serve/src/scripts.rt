@@ -11,7 +11,7 @@ ghost use Rattle.sci_serve.specs.Serve.{IsWritten, FailsWith, Serves, Stops, Lea
 use crate::faults::SimFault;
 use crate::input::read_input;
 use sci_script::{Script, ScriptRefusal, WholeDesk, put, read_script};
-use sci_trace::{TraceDesk, draw, trace};
+use sci_trace::{LogDesk, TraceDesk, draw, log, trace};
 use std::alloc::Global;
 use std::io::{BufWriter, Read, Write};
 
@@ -24,6 +24,8 @@ pub enum Form {
     Trace,
     /// A page of HTML that shows the trace.
     Draw,
+    /// The log of the run: its memory, what its lines open with, and its events.
+    Log,
 }
 
 /// Runs a script, and writes its text.
@@ -59,6 +61,17 @@ fn run_draw<W: Write>(alloc: Global, script: &Script, writer: &mut W) -> Result<
     draw(alloc, script, &mut desk, writer)
 }
 
+/// Runs a script, and writes its log.
+fn run_log<W: Write>(alloc: Global, script: &Script, writer: &mut W) -> Result<(), ScriptRefusal>
+    ensures ok { OnOk result ((text : List ℕ) × IsWritten forms.Log script.now.size script.now.capacity script.now.openings.items script.now.steps.items text
+        × Appends (W.contents writer.old) (W.contents writer.new) text) }
+    ensures err { IfErr result (λ e. (written : List ℕ) × FailsWith forms.Log script.now.size script.now.capacity script.now.openings.items script.now.steps.items e written
+        × Appends (W.contents writer.old) (W.contents writer.new) written) }
+{
+    let mut desk = LogDesk::open(alloc, script)?;
+    log(alloc, script, &mut desk, writer)
+}
+
 /// Runs a script, and writes its run in this form.
 fn run<W: Write>(
     alloc: Global,
@@ -75,6 +88,7 @@ fn run<W: Write>(
         Form::Script => run_script(alloc, script, writer),
         Form::Trace => run_trace(alloc, script, writer),
         Form::Draw => run_draw(alloc, script, writer),
+        Form::Log => run_log(alloc, script, writer),
     }
 }
 

@@ -139,6 +139,13 @@ const READER_TOLD: &str = "# node 0 line 0 load: Queue(none) Done; Queueing(none
     # node 0 line 0 load: Settle Done; Idle; FRESH 0: 0 ONLY_FRESH\n\
     node 0 read 0 stamp 0\n";
 
+const READER_LOGGED: &str = "memory 1 1\n\
+    node 0 line 0 Look Done\n\
+    node 0 line 0 Queue(none) Done\n\
+    node 0 line 0 PrependValid Done\n\
+    node 0 line 0 ReturnMemory Done\n\
+    node 0 line 0 Settle Done\n";
+
 /// A writer with so much room, that takes two bytes a write, and is interrupted before each.
 fn with_room(alloc: Global, room: usize) -> Paced {
     let pace = Pace {
@@ -165,6 +172,7 @@ fn one_byte_at_a_time(rt: HostRuntime) {
     let cases = [
         (Form::Script, SHARERS, SHARED),
         (Form::Trace, READER, READER_TOLD),
+        (Form::Log, READER, READER_LOGGED),
     ];
     for (form, script, text) in cases {
         let (fault, held) = by_bytes(rt.alloc(), form, script);
@@ -189,7 +197,7 @@ fn written(alloc: Global, form: Form, script: &str, room: usize) -> (Option<SimF
 
 #[test]
 fn readers_and_writers_that_fail(rt: HostRuntime) {
-    for form in [Form::Script, Form::Trace] {
+    for form in [Form::Script, Form::Trace, Form::Log] {
         let (fault, out) = unread(rt.alloc(), form, &mut Broken);
         same(&rt, &fault, &Some(SimFault::CannotRead));
         same_bytes(&rt, &out, b"");
@@ -197,6 +205,7 @@ fn readers_and_writers_that_fail(rt: HostRuntime) {
     for (form, script, text) in [
         (Form::Script, SHARERS, SHARED),
         (Form::Trace, READER, READER_TOLD),
+        (Form::Log, READER, READER_LOGGED),
     ] {
         for room in 0..text.len() {
             let (fault, held) = written(rt.alloc(), form, script, room);

@@ -71,6 +71,14 @@ OPERATION is load, store, add or evict; on a line other than the call's own it i
 STEP is the node's pending step after the turn, with the node that it keeps. LIST is the list after it, as `list` has it, with
 ` lent` behind memory's state and ` held` behind an entry's name.
 
+With --log it writes the log of the script in place of all that: `memory NODES LINES`, the script's `open` lines, and then each event
+in order, looks at the own tag among them, which a trace leaves out:
+
+  node N line L EVENT OUTCOME
+
+EVENT is as in a trace. OUTCOME is Done; or Missed and the word that was found, in 16 hexadecimal digits of layout 2; or Busy. No run
+of a script is known to have the latter two. Where a command is refused, the log goes up to there; on 7 nothing is written.
+
 Example:
   printf 'memory 1 1\\nload 0 0 0\\ndone 0\\n' | scisim trace";
 
@@ -178,6 +186,13 @@ fn progress<'a>(rt: &impl AllocGlobal) -> Arg<'a> {
         .help("says on standard error each time that 100000 more calls of the nodes have ended")
 }
 
+fn log<'a>(rt: &impl AllocGlobal) -> Arg<'a> {
+    Arg::new(rt.alloc(), "log")
+        .long("log")
+        .action(ArgAction::SetTrue)
+        .help("writes the log of the script in place of its trace")
+}
+
 /// A command that reads a file. It says nothing of its texts, so that no proof of the commands above it carries them.
 fn reader_of<'a>(
     rt: &impl AllocGlobal,
@@ -199,7 +214,7 @@ fn script<'a>(rt: &impl AllocGlobal) -> Result<Command<'a>, AllocError> {
 
 fn trace<'a>(rt: &impl AllocGlobal) -> Result<Command<'a>, AllocError> {
     let about = "Runs a script, and says of each turn what it did";
-    reader_of(rt, "trace", about, TRACES, SCRIPT_FILE)
+    reader_of(rt, "trace", about, TRACES, SCRIPT_FILE)?.arg(log(rt))
 }
 
 fn draw<'a>(rt: &impl AllocGlobal) -> Result<Command<'a>, AllocError> {

@@ -81,6 +81,15 @@ fn legal(rt: &HostRuntime, path: Option<&str>) -> Result<(), SimFault> {
     }
 }
 
+/// The form in which `trace` writes a run.
+fn trace_form(options: &ArgMatches<'_>) -> Form {
+    if options.get_flag("log") {
+        Form::Log
+    } else {
+        Form::Trace
+    }
+}
+
 /// The status of the program's command of this name.
 fn served<T: Threads + Wait + Eprint + Sync>(
     rt: &HostRuntime,
@@ -91,7 +100,7 @@ fn served<T: Threads + Wait + Eprint + Sync>(
     let path = options.get_str("FILE");
     match name {
         "script" => script(rt, Form::Script, path)?,
-        "trace" => script(rt, Form::Trace, path)?,
+        "trace" => script(rt, trace_form(options), path)?,
         "draw" => script(rt, Form::Draw, path)?,
         "run" => run(rt, threads, path, options.get_flag("progress"))?,
         "check" => check(rt, path)?,

@@ -8,3 +8,5 @@ pub mod Digits
 pub mod Pieces
 pub mod Walking
 pub mod Pushing
+pub mod Repeated
+pub mod Logged

@@ -53,30 +53,30 @@ written_text (Some words) = codes "words" ++ flat_map (λ word. codes " " ++ dec
 -- how the exchange ended, behind an event without an argument, and behind an argument
 abbrev pub ending_text : Ending → List ℕ
 ending_text Ending.Done = codes " Done; "
-ending_text Ending.Missed = codes " Missed; "
+ending_text (Ending.Missed word) = codes " Missed; "
 ending_text Ending.Busy = codes " Busy; "
 
 abbrev pub closed_ending : Ending → List ℕ
 closed_ending ending = codes ")" ++ ending_text ending
 
--- what stands behind the name: a link, the words, or the tag that was found, and the ending
-abbrev pub argument_text : Option Load → Event → Ending → List ℕ
-argument_text load (Event.Queue forw) ending = link_word forw ++ closed_ending ending
-argument_text load (Event.Requeue forw) ending = link_word forw ++ closed_ending ending
-argument_text load (Event.AttachFresh found) ending = found_text load found ++ closed_ending ending
-argument_text load (Event.Hold found) ending = found_text load found ++ closed_ending ending
-argument_text load (Event.Convert found) ending = found_text load found ++ closed_ending ending
-argument_text load (Event.BeginPurge found) ending = found_text load found ++ closed_ending ending
-argument_text load (Event.Written words) ending = written_text words ++ closed_ending ending
-argument_text load (Event.AttachDirty found) ending = found_text load found ++ closed_ending ending
-argument_text load (Event.PurgeOne found) ending = found_text load found ++ closed_ending ending
-argument_text load (Event.Roll found) ending = found_text load found ++ closed_ending ending
-argument_text load (Event.TellSuccessor found) ending = found_text load found ++ closed_ending ending
-argument_text load (Event.TellPredecessor found) ending = found_text load found ++ closed_ending ending
-argument_text load (Event.Adopt found) ending = found_text load found ++ closed_ending ending
-argument_text load (Event.Leave found) ending = found_text load found ++ closed_ending ending
-argument_text load (Event.Promote found) ending = found_text load found ++ closed_ending ending
-argument_text load _ ending = ending_text ending
+-- what stands behind the name: a link, the words, or the tag that was found, and what closes it; or what stands there without
+abbrev pub argument_text : Option Load → Event → List ℕ → List ℕ → List ℕ
+argument_text load (Event.Queue forw) bare closed = link_word forw ++ closed
+argument_text load (Event.Requeue forw) bare closed = link_word forw ++ closed
+argument_text load (Event.AttachFresh found) bare closed = found_text load found ++ closed
+argument_text load (Event.Hold found) bare closed = found_text load found ++ closed
+argument_text load (Event.Convert found) bare closed = found_text load found ++ closed
+argument_text load (Event.BeginPurge found) bare closed = found_text load found ++ closed
+argument_text load (Event.Written words) bare closed = written_text words ++ closed
+argument_text load (Event.AttachDirty found) bare closed = found_text load found ++ closed
+argument_text load (Event.PurgeOne found) bare closed = found_text load found ++ closed
+argument_text load (Event.Roll found) bare closed = found_text load found ++ closed
+argument_text load (Event.TellSuccessor found) bare closed = found_text load found ++ closed
+argument_text load (Event.TellPredecessor found) bare closed = found_text load found ++ closed
+argument_text load (Event.Adopt found) bare closed = found_text load found ++ closed
+argument_text load (Event.Leave found) bare closed = found_text load found ++ closed
+argument_text load (Event.Promote found) bare closed = found_text load found ++ closed
+argument_text load _ bare closed = bare
 
 abbrev pub event_text : Option Load → Event → Ending → List ℕ
-event_text load event ending = event_name event ++ argument_text load event ending
+event_text load event ending = event_name event ++ argument_text load event (ending_text ending) (closed_ending ending)

@@ -29,7 +29,7 @@ abbrev pub telling : Shared → List ℕ → Telling
 telling s notes = record { shared = s; notes = notes; is_cut = false }
 
 abbrev pub nothing : Passed
-nothing = record { line = 0; load = None; step = None }
+nothing = record { line = 0; looks = 0; load = None; step = None }
 
 -- this is told of the turn that the node took from s to t: whose it was, what it came to, what passed in it, and the node's pending
 -- step, memory's word and the list's entries after it

@@ -17,7 +17,7 @@ use sci_script::{Ending, Load};
 use std::alloc::AllocError;
 
 /// Words, each behind a space.
-fn push_words(text: &mut NoteText, words: &[u64]) -> Result<(), AllocError>
+pub(crate) fn push_words(text: &mut NoteText, words: &[u64]) -> Result<(), AllocError>
     ensures { OnOk result (note_bytes text.new ≡ note_bytes text.old ++ flat_map (λ word. codes " " ++ decimal word) words.now) }
 {
     for word in words {
@@ -45,7 +45,7 @@ fn ending_text(ending: Ending) -> Short
 {
     match ending {
         Ending::Done => Short::new(b" Done;          ", 7),
-        Ending::Missed => Short::new(b" Missed;        ", 9),
+        Ending::Missed(_) => Short::new(b" Missed;        ", 9),
         Ending::Busy => Short::new(b" Busy;          ", 7),
     }
 }
@@ -56,19 +56,21 @@ fn closed_ending(ending: Ending) -> Short
 {
     match ending {
         Ending::Done => Short::new(b") Done;         ", 8),
-        Ending::Missed => Short::new(b") Missed;       ", 10),
+        Ending::Missed(_) => Short::new(b") Missed;       ", 10),
         Ending::Busy => Short::new(b") Busy;         ", 8),
     }
 }
 
-/// What stands behind an event's name: a link, the words, or the tag that was found behind this load, and how the exchange ended.
-fn push_argument(
+/// What stands behind an event's name: a link, the words, or the tag that was found behind this load, and what closes it; or what
+/// stands there without.
+pub(crate) fn push_argument(
     text: &mut NoteText,
     load: &Option<Load>,
     event: &Event,
-    ending: Ending,
+    bare: Short,
+    closed: Short,
 ) -> Result<(), AllocError>
-    ensures { OnOk result (note_bytes text.new ≡ note_bytes text.old ++ argument_text load.now event.now ending) }
+    ensures { OnOk result (note_bytes text.new ≡ note_bytes text.old ++ argument_text load.now event.now (short_bytes bare) (short_bytes closed)) }
 {
     match event {
         Event::Queue(forw) | Event::Requeue(forw) => push_link(text, b"", *forw, b"")?,
@@ -85,9 +87,9 @@ fn push_argument(
         | Event::Adopt(found)
         | Event::Leave(found)
         | Event::Promote(found) => push_found(text, load, *found)?,
-        _ => return text.push_short(ending_text(ending)),
+        _ => return text.push_short(bare),
     }
-    text.push_short(closed_ending(ending))
+    text.push_short(closed)
 }
 
 /// An event with its argument, behind this load, and how the exchange ended.
@@ -100,5 +102,11 @@ pub(crate) fn push_event(
     ensures { OnOk result (note_bytes text.new ≡ note_bytes text.old ++ event_text load.now event.now ending) }
 {
     text.push_short(event_name(event))?;
-    push_argument(text, load, event, ending)
+    push_argument(
+        text,
+        load,
+        event,
+        ending_text(ending),
+        closed_ending(ending),
+    )
 }

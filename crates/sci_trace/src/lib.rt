@@ -4,9 +4,12 @@
 mod coding;
 mod desk;
 mod drawing;
+mod entries;
 mod event_names;
 mod events;
 mod lists;
+mod log_desk;
+mod logging;
 mod note_text;
 mod notes;
 mod numbers;
@@ -20,6 +23,8 @@ mod words;
 
 pub use desk::TraceDesk;
 pub use drawing::draw;
+pub use log_desk::LogDesk;
+pub use logging::log;
 pub use running::trace;
 
 /// What the calls of this crate are made of. It is public for the tests alone, which stand in a crate above.

@@ -17,7 +17,7 @@ use sci_serve::{
     serve_trace,
 };
 use sci_trace::parts::NoteText;
-use sci_trace::{TraceDesk, draw, trace};
+use sci_trace::{LogDesk, TraceDesk, draw, log, trace};
 use sci_work::{OpenGate, WorkRefusal};
 use std::alloc::{AllocError, Global};
 use std::io;
@@ -360,4 +360,38 @@ fn refused_growths_of_traces(rt: HostRuntime) -> Result<(), Fail> {
     traces_a_script(&rt, rt.alloc(), &script)?;
     draws_a_script(&rt, rt.alloc(), &script)?;
     pushes(&rt, rt.alloc())
+}
+
+const LOGGED: &str = "memory 1 1\n\
+    node 0 line 0 Look Done\n\
+    node 0 line 0 Queue(none) Done\n\
+    node 0 line 0 PrependValid Done\n";
+
+// A log of a script that is read.
+fn logs_a_script(rt: &impl Abort, alloc: Global, script: &Script) -> Result<(), Fail> {
+    let Ok(mut desk) = LogDesk::open(alloc, script) else {
+        LogDesk::open(alloc, script)?;
+        return Err(Fail::new("open answered 7"));
+    };
+    let mut out = empty();
+    match log(alloc, script, &mut desk, &mut out) {
+        Ok(()) => {
+            assert!(rt; out.text() == LOGGED.as_bytes());
+            Ok(())
+        }
+        Err(refusal) => {
+            same(rt, &refusal, &ScriptRefusal::OutOfMemory);
+            same(rt, &out.length, &0);
+            Err(Fail::new("log answered 7"))
+        }
+    }
+}
+
+/// Growths: 3 made up for, 1 of read_script, 11 of open, 5 of log.
+#[test]
+fn refused_growths_of_logs(rt: HostRuntime) -> Result<(), Fail> {
+    let Ok(script) = read_script(rt.alloc(), SCRIPT.as_bytes()) else {
+        return Err(Fail::new("read_script answered 7"));
+    };
+    logs_a_script(&rt, rt.alloc(), &script)
 }

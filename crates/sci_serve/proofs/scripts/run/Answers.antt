@@ -17,3 +17,9 @@ returns-in-Draw-clause-ok g c = rw c.in-Draw.is c.run_draw.ensures.ok
 
 pub returns-in-Draw-clause-err : goal.returns-in-Draw-clause-err
 returns-in-Draw-clause-err g c = rw c.in-Draw.is c.run_draw.ensures.err
+
+pub returns-in-Log-clause-ok : goal.returns-in-Log-clause-ok
+returns-in-Log-clause-ok g c = rw c.in-Log.is c.run_log.ensures.ok
+
+pub returns-in-Log-clause-err : goal.returns-in-Log-clause-err
+returns-in-Log-clause-err g c = rw c.in-Log.is c.run_log.ensures.err
