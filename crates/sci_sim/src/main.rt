@@ -1,12 +1,14 @@
 //! `scisim script [FILE]` runs a script; `scisim trace [FILE]` says of each turn what it did, and `scisim draw [FILE]` shows it on a
-//! page; `scisim run [FILE]` runs a workload; `scisim check [FILE]` checks a dump.
+//! page; `scisim talk` answers a script's commands one by one; `scisim run [FILE]` runs a workload; `scisim check [FILE]` checks a dump.
 #![tactic(auto)]
 
 mod commands;
 
 use clap::{ArgMatches, Error, error};
 use commands::commands;
-use sci_serve::{Form, Progress, SimFault, serve_buffered, serve_check, serve_run, serve_run_by};
+use sci_serve::{
+    Form, Progress, SimFault, serve_buffered, serve_check, serve_run, serve_run_by, serve_talk,
+};
 use std::alloc::{AllocError, Global};
 use std::fs::File;
 use std::io::{self, BufWriter, ErrorKind, Read, Write};
@@ -31,6 +33,14 @@ fn script(rt: &HostRuntime, form: Form, path: Option<&str>) -> Result<(), SimFau
         None => serve_buffered(rt.alloc(), form, &mut rt.reader(), output),
     };
     served
+}
+
+/// Answers the commands that standard input has.
+fn talk(rt: &HostRuntime) -> Result<(), SimFault> {
+    let mut output = BufWriter::with_capacity(rt.alloc(), BUFFER, io::writer(rt)).map_err(
+        |_| SimFault::from(AllocError),
+    )?;
+    serve_talk(rt.alloc(), &mut rt.reader(), &mut output)
 }
 
 /// Runs the settings of a reader, and says meanwhile on standard error how many calls have ended, where that is wanted.
@@ -82,6 +92,7 @@ fn served<T: Threads + Wait + Eprint + Sync>(
         "script" => script(rt, Form::Script, path)?,
         "trace" => script(rt, Form::Trace, path)?,
         "draw" => script(rt, Form::Draw, path)?,
+        "talk" => talk(rt)?,
         "run" => run(rt, threads, path, options.get_flag("progress"))?,
         "check" => check(rt, path)?,
         _ => return Ok(ExitCode::from(2)),
