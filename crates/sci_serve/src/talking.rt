@@ -140,7 +140,7 @@ impl Talker {
         ensures held { IsPart result.held [] }
     {
         Talker {
-            talk: Talk::new(alloc),
+            talk: Talk::start(alloc),
             held: Held::new(alloc),
             text: String::new(alloc),
         }
