@@ -1,7 +1,7 @@
 """What `script`, `trace` and `draw` read and write."""
 
 from kinds import AT_LIMIT, CLOSED, FOLDER, FULL, LIMIT, READ, UNREAD, USAGE, WRITE
-from kinds import Begins, Drawn, Little, Page, Traced, WholePage, refused
+from kinds import Begins, Broken, Drawn, Filled, Little, Page, Traced, WholePage, refused
 
 ROW = "memory 3 1\nload 0 0 0\ndone 0\nload 1 0 0\ndone 1\nload 2 0 0\ndone 2\nlist 0\n"
 TEXT = (
@@ -52,11 +52,30 @@ FILES = {
     "-row": ROW,
 }
 
+HELP = """A model of cache coherence by sharing lists: runs scripts of loads, stores and exits, turn by turn, runs workloads in threads, and checks
+texts of your own.
+
+Usage: scisim <COMMAND>
+
+Scripts:
+  script  Runs a script and prints its text
+  trace   Runs a script, and says of each turn what it did
+  draw    Runs a script, and writes a page that shows each turn
+  talk    Answers a script's commands one by one
+
+Workloads:
+  run     Runs a workload, each node in a thread of its own, and prints its result
+
+Checks of your own texts:
+  check   Checks that each line of a dump is an exact sharing list
+  legal   Checks that what the nodes read and wrote on each line is one history of it
+"""
+
 # The whole program's, and those of `script`.
 CASES = [
     ([], ROW, 2, "", USAGE),
     (["nonsense"], ROW, 2, "", USAGE),
-    (["--help"], "", 0, Begins("A model of cache coherence by sharing lists: runs a script of loads, stores and exits, turn by turn, runs workloads in threads, and checks dumps and histories.\n\nUsage: scisim <COMMAND>\n"), ""),
+    (["--help"], "", 0, Begins(HELP), ""),
     (["--version"], "", 0, "scisim 0.1.0\n", ""),
     (["--help"], "", 1, FULL, WRITE),
     (["nonsense"], "", 2, "", CLOSED),
@@ -143,6 +162,30 @@ CASES += [
     (["draw"], "memory 1 1\nlist 0\n", 0, WholePage("line 0 HOME\n"), ""),
     (["draw"], ONE_TURN, 0, Begins("<!DOCTYPE html>\n"), ""),
     (["draw", "--help"], "", 0, Begins("Runs a script, and writes a page that shows each turn\n\nUsage: scisim draw [FILE]\n"), ""),
+]
+
+TALKED = (
+    "ok\nok\nnode 0 read 0 stamp 0\nok\nok\nnode 1 read 0 stamp 0\nok\nok\nnode 2 read 0 stamp 0\nok\n"
+    "line 0 FRESH 2: 2 HEAD_FRESH, 1 MID_VALID, 0 TAIL_VALID\nok\n"
+)
+
+# `talk` answers each line, refused ones too.
+CASES += [
+    (["talk"], ROW, 0, TALKED, ""),
+    (["talk"], "", 0, "", ""),
+    (["talk"], "list 0\nmemory 0 1\nmemory 1 1\nmemory 1 1\nlist 0", 0, "refused 16\nrefused 17\nok\nrefused 16\nline 0 HOME\nok\n", ""),
+    (["talk"], UNENDED + "done 0\n", 0, "ok\nok\nnode 0 wrote stamp 1\nok\nok\nok\nok\nrefused 18\nnode 0 wrote stamp 2\nok\n", ""),
+    (["talk"], AT_LIMIT + "\n" + AT_LIMIT + " \n" + ROW, 0, "ok\nrefused 16\n" + TALKED, ""),
+    (["talk"], Broken("memory 1 1\nlist 0\nlist"), 1, "ok\nline 0 HOME\nok\n", READ),
+    (["talk"], FOLDER, 1, "", READ),
+    (["talk"], CLOSED, 1, "", READ),
+    (["talk"], ROW, 1, FULL, WRITE),
+    (["talk"], ROW, 1, UNREAD, WRITE),
+    (["talk"], ROW, 1, CLOSED, WRITE),
+    (["talk"], ROW, 0, Filled(TALKED), ""),
+    (["talk"], ROW, 1, Filled(TALKED[:-1]), WRITE),
+    (["talk", "row"], ROW, 2, "", USAGE),
+    (["talk", "--help"], "", 0, Begins("Answers a script's commands one by one\n\nUsage: scisim talk\n"), ""),
 ]
 
 # Scripts that end in each way: `trace` and `draw` do with them what `script` does.

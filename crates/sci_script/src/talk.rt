@@ -209,7 +209,7 @@ impl Talk {
     ghost use Rattle.sci_script.specs.Talkers.{standing_of};
 
     /// A talk in which nothing was said.
-    pub fn new(alloc: Global) -> Talk
+    pub fn start(alloc: Global) -> Talk
         ensures { standing_of result ≡ Silent }
     {
         Talk {

@@ -9,3 +9,4 @@ pub mod SettingsKeys
 pub mod SettingsItems
 pub mod SettingsLimits
 pub mod Declining
+pub mod Heard

@@ -6,3 +6,4 @@ pub mod Serve
 pub mod Settings
 pub mod Verdicts
 pub mod Works
+pub mod Talked

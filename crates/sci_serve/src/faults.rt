@@ -2,12 +2,12 @@
 
 ghost use Rattle.std.specs.Prelude.{◌≡◌};
 ghost use Rattle.sci_serve.specs.Fault.{fault_of, dump_fault_of, settings_fault_of, work_fault_of, status_of};
-ghost use Rattle.sci_serve.specs.declared.faults.SimFault.TheVariants.{Refused};
+ghost use Rattle.sci_serve.specs.declared.faults.SimFault.TheVariants.{CannotWrite, Refused};
 ghost use Rattle.sci_script.specs.declared.refusals.ScriptRefusal.TheVariants.{OutOfMemory};
 
 use crate::settings::SettingsRefusal;
 use sci_dump::DumpRefusal;
-use sci_script::ScriptRefusal;
+use sci_script::{ScriptRefusal, WriteFailed};
 use sci_work::WorkRefusal;
 use std::alloc::AllocError;
 use thiserror::Error;
@@ -105,5 +105,13 @@ impl From<AllocError> for SimFault {
 
     fn from(_e: AllocError) -> SimFault {
         SimFault::Refused(ScriptRefusal::OutOfMemory)
+    }
+}
+
+impl From<WriteFailed> for SimFault {
+    ghost from_gives = { λ _ e. e ≡ CannotWrite };
+
+    fn from(_e: WriteFailed) -> SimFault {
+        SimFault::CannotWrite
     }
 }

@@ -1,8 +1,9 @@
 //! What each command of `scisim` does, over any reader and writer.
 //!
-//! [`serve_script`], [`serve_trace`] and [`serve_draw`] run a script and write its run in one of three forms, [`serve_run`] and
-//! [`serve_run_by`] run the workload that settings ask for, [`serve_check`] checks a dump, and [`serve_legal`] a history. Each answers
-//! Ok or a [`SimFault`], which has the program's status. [`read_settings`] reads the settings of a workload.
+//! [`serve_script`], [`serve_trace`] and [`serve_draw`] run a script and write its run, [`serve_talk`] answers a script's commands one
+//! by one, [`serve_run`] and [`serve_run_by`] run the workload that settings ask for, [`serve_check`] checks a dump, and
+//! [`serve_legal`] a history. Each answers Ok or a [`SimFault`], which has the program's status. [`read_settings`] reads the settings
+//! of a workload.
 #![tactic(auto)]
 
 mod checking;
@@ -13,6 +14,7 @@ mod progress;
 mod running;
 mod scripts;
 mod settings;
+mod talking;
 mod verdicts;
 mod wholly;
 mod works;
@@ -24,4 +26,5 @@ pub use progress::Progress;
 pub use running::{serve_run, serve_run_by};
 pub use scripts::{Form, serve, serve_buffered, serve_draw, serve_script, serve_trace};
 pub use settings::{Numbers, Settings, SettingsRefusal, read_settings};
+pub use talking::serve_talk;
 pub use works::{cells_text, count_text, items_text};

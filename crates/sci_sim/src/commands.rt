@@ -4,11 +4,29 @@ use crate::histories::HISTORIES;
 use clap::{Arg, ArgAction, Command};
 use std::alloc::AllocError;
 
-const ABOUT: &str =
-    "A model of cache coherence by sharing lists: runs a script of loads, stores and exits, turn by turn, runs workloads in threads, \
-     and checks dumps and histories.";
+const HELP: &str = "\
+A model of cache coherence by sharing lists: runs scripts of loads, stores and exits, turn by turn, runs workloads in threads, and checks
+texts of your own.
 
-const STATUSES: &str = "\
+Usage: scisim <COMMAND>
+
+Scripts:
+  script  Runs a script and prints its text
+  trace   Runs a script, and says of each turn what it did
+  draw    Runs a script, and writes a page that shows each turn
+  talk    Answers a script's commands one by one
+
+Workloads:
+  run     Runs a workload, each node in a thread of its own, and prints its result
+
+Checks of your own texts:
+  check   Checks that each line of a dump is an exact sharing list
+  legal   Checks that what the nodes read and wrote on each line is one history of it
+
+Options:
+  -h, --help     Print help
+  -V, --version  Print version
+
 Statuses: 0 all went well; 1 a refusal, `scisim: refused R` or `scisim: refused R at line N`, or a fault of reading or writing; \
 2 a fault of usage; 3 a check that says no.
 
@@ -16,8 +34,9 @@ Example:
   printf 'memory 2 1\\nstore 0 0 0 5\\ndone 0\\nload 1 0 0\\ndone 1\\nlist 0\\n' | scisim script
 
 `scisim script --help` lists the commands of scripts, `scisim trace --help` has the lines of turns, `scisim draw --help` the keys of
-pages, `scisim run --help` the keys of settings, `scisim check --help` the format of dumps, and `scisim legal --help` that of histories;
-they say what each refusal means.";
+pages, `scisim talk --help` the answers, `scisim run --help` the keys of settings, `scisim check --help` the format of dumps, and
+`scisim legal --help` that of histories; they say what each refusal means.
+";
 
 const SCRIPTS: &str = "\
 One command a line. N is a node, L a line, W a word of it (0 to 7), V a number below 2^64. A line that begins with # is a comment.
@@ -102,6 +121,24 @@ Where a script is faulty, nothing is written. Where a command of its run is refu
 
 Example:
   printf 'memory 1 1\\nload 0 0 0\\ndone 0\\n' | scisim draw > page.html";
+
+const TALKS: &str = "\
+Reads a script's commands from standard input, and answers each line before it reads on: what it prints, then `ok`, or `refused N`
+alone. It goes on behind a refusal. A comment, or a line of blanks, is answered by `ok` too. `scisim script --help` lists the commands:
+`memory`, `capacity` and `open` come first, and the first other command opens the memory. Without its lines `ok`, what is written of an
+accepted script is what `script` writes.
+
+Refusals:
+   7  memory ran out: what the command did before stays, though nothing says it
+  16  a faulty command, one out of place, a call begun while the node's last is open, or a turn without a call; a line of more than
+      1048576 bytes: nothing was changed
+  17  a faulty number: not 1 to 20 digits, or no such node, line, word or value: nothing was changed
+  18  a command that didn't end: its 100000 turns were taken
+
+At the end of the input it ends with status 0. `cannot read` and `cannot write` are faults of the input, or of the output.
+
+Example:
+  printf 'memory 1 1\\nload 0 0 0\\ndone 0\\ndone 0\\n' | scisim talk";
 
 const SETTINGS: &str = "\
 Settings are TOML. A work has these keys and no others, and needs each but dump.
@@ -222,6 +259,15 @@ fn draw<'a>(rt: &impl AllocGlobal) -> Result<Command<'a>, AllocError> {
     reader_of(rt, "draw", about, PAGES, SCRIPT_FILE)
 }
 
+fn talk<'a>(rt: &impl AllocGlobal) -> Result<Command<'a>, AllocError> {
+    let named = Command::new(rt.alloc(), "talk");
+    Ok(
+        named
+            .about("Answers a script's commands one by one")
+            .after_help(TALKS),
+    )
+}
+
 fn run<'a>(rt: &impl AllocGlobal) -> Result<Command<'a>, AllocError> {
     let about = "Runs a workload, each node in a thread of its own, and prints its result";
     let file = "the settings; without it standard input is read";
@@ -246,8 +292,7 @@ fn program<'a>(rt: &impl AllocGlobal) -> Result<Command<'a>, AllocError> {
     Ok(
         named
             .version("0.1.0")
-            .about(ABOUT)
-            .after_help(STATUSES)
+            .override_help(HELP)
             .subcommand_required(true),
     )
 }
@@ -265,6 +310,7 @@ pub fn commands<'a>(rt: &impl AllocGlobal) -> Result<Command<'a>, AllocError> {
     let program = with(program(rt), script(rt));
     let program = with(program, trace(rt));
     let program = with(program, draw(rt));
+    let program = with(program, talk(rt));
     let program = with(program, run(rt));
     let program = with(program, check(rt));
     with(program, legal(rt))

@@ -1,5 +1,6 @@
 //! `scisim script [FILE]` runs a script; `scisim trace [FILE]` says of each turn what it did, and `scisim draw [FILE]` shows it on a
-//! page; `scisim run [FILE]` runs a workload; `scisim check [FILE]` checks a dump, and `scisim legal [FILE]` a history.
+//! page; `scisim talk` answers a script's commands one by one; `scisim run [FILE]` runs a workload; `scisim check [FILE]` checks a dump,
+//! and `scisim legal [FILE]` a history.
 #![tactic(auto)]
 
 mod commands;
@@ -8,7 +9,7 @@ mod histories;
 use clap::{ArgMatches, Error, error};
 use commands::commands;
 use sci_serve::{
-    Form, Progress, SimFault, serve_buffered, serve_check, serve_legal, serve_run, serve_run_by,
+    Form, Progress, SimFault, serve_buffered, serve_check, serve_legal, serve_run, serve_run_by, serve_talk,
 };
 use std::alloc::{AllocError, Global};
 use std::fs::File;
@@ -34,6 +35,14 @@ fn script(rt: &HostRuntime, form: Form, path: Option<&str>) -> Result<(), SimFau
         None => serve_buffered(rt.alloc(), form, &mut rt.reader(), output),
     };
     served
+}
+
+/// Answers the commands that standard input has.
+fn talk(rt: &HostRuntime) -> Result<(), SimFault> {
+    let mut output = BufWriter::with_capacity(rt.alloc(), BUFFER, io::writer(rt)).map_err(
+        |_| SimFault::from(AllocError),
+    )?;
+    serve_talk(rt.alloc(), &mut rt.reader(), &mut output)
 }
 
 /// Runs the settings of a reader, and says meanwhile on standard error how many calls have ended, where that is wanted.
@@ -102,6 +111,7 @@ fn served<T: Threads + Wait + Eprint + Sync>(
         "script" => script(rt, Form::Script, path)?,
         "trace" => script(rt, trace_form(options), path)?,
         "draw" => script(rt, Form::Draw, path)?,
+        "talk" => talk(rt)?,
         "run" => run(rt, threads, path, options.get_flag("progress"))?,
         "check" => check(rt, path)?,
         "legal" => legal(rt, path)?,

@@ -4,4 +4,6 @@
 #[cfg(test)]
 mod checks;
 #[cfg(test)]
+mod serve;
+#[cfg(test)]
 mod talk;

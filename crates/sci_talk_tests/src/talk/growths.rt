@@ -20,7 +20,7 @@ const LINES: [(&str, &str); 7] = [
 ];
 
 fn refuses(rt: &impl Abort, alloc: Global) -> Result<(), Fail> {
-    let mut talk = Talk::new(alloc);
+    let mut talk = Talk::start(alloc);
     let mut text = String::new(alloc);
     let mut answered_7 = false;
     for (line, printed) in LINES {

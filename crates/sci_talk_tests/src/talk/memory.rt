@@ -6,7 +6,7 @@ use sci_script::Talk;
 
 #[test]
 fn talks_begun_take_no_memory(rt: HostRuntime) {
-    let mut talk = Talk::new(rt.alloc());
+    let mut talk = Talk::start(rt.alloc());
     let mut text = String::new(rt.alloc());
     for _ in 0..1000 {
         same(&rt, &talk.say(b"# nothing", &mut text), &Ok(()));
