@@ -20,6 +20,7 @@ mod writing;
 pub use banks::{BankDesk, NoDesk};
 pub use commands::{Command, Script, Size, Step};
 pub use desk::Desk;
+pub use line_words::is_skipped;
 pub use reader::read_script;
 pub use refusals::ScriptRefusal;
 pub use running::{NODES, TURNS, is_end, note, perform};
