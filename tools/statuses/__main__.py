@@ -24,6 +24,7 @@ sys.dont_write_bytecode = True
 import caches
 import cuts
 import dumps
+import logs
 import runs
 import scripts
 import settings
@@ -35,7 +36,7 @@ from kinds import CLOSED, FOLDER, FULL, UNREAD
 from kinds import Begins, Broken, Crowded, Drawn, Filled, Lawful, Little, Page, Traced, WholePage
 
 PROGRAM = os.path.realpath(sys.argv[1] if sys.argv[1:] else HOME / "crates/sci_sim/out/sci_sim")
-TABLES = [scripts, caches, sizes, cuts, shortages, traces, dumps, runs, settings]
+TABLES = [scripts, caches, sizes, cuts, shortages, traces, dumps, logs, runs, settings]
 # The files that lie where the program runs; `folder` is a folder.
 FILES = scripts.FILES | dumps.FILES | runs.FILES
 # How long a file may be that an output fills.

@@ -8,3 +8,4 @@ pub mod SettingsKeys
 pub mod SettingsItems
 pub mod SettingsLimits
 pub mod Declining
+pub mod Departing

@@ -4,4 +4,5 @@ pub mod Runs
 pub mod Serve
 pub mod Settings
 pub mod Verdicts
+pub mod Followed
 pub mod Works

@@ -7,6 +7,7 @@
 
 mod checking;
 mod faults;
+mod following;
 mod input;
 mod progress;
 mod running;
@@ -17,6 +18,7 @@ mod works;
 
 pub use checking::serve_check;
 pub use faults::SimFault;
+pub use following::serve_follow;
 pub use progress::Progress;
 pub use running::{serve_run, serve_run_by};
 pub use scripts::{Form, serve, serve_buffered, serve_draw, serve_script, serve_trace};

@@ -1,15 +1,17 @@
 //! `scisim script [FILE]` runs a script; `scisim trace [FILE]` says of each turn what it did, and `scisim draw [FILE]` shows it on a
-//! page; `scisim run [FILE]` runs a workload; `scisim check [FILE]` checks a dump.
+//! page; `scisim run [FILE]` runs a workload; `scisim check [FILE]` checks a dump, and `scisim follow [FILE]` a log.
 #![tactic(auto)]
 
 mod commands;
 
 use clap::{ArgMatches, Error, error};
 use commands::commands;
-use sci_serve::{Form, Progress, SimFault, serve_buffered, serve_check, serve_run, serve_run_by};
+use sci_serve::{
+    Form, Progress, SimFault, serve_buffered, serve_check, serve_follow, serve_run, serve_run_by,
+};
 use std::alloc::{AllocError, Global};
 use std::fs::File;
-use std::io::{self, BufWriter, ErrorKind, Read, Write};
+use std::io::{self, BufReader, BufWriter, ErrorKind, Read, Write};
 use std::process::ExitCode;
 use std::sync::Wait;
 use std::thread::Threads;
@@ -70,6 +72,21 @@ fn check(rt: &HostRuntime, path: Option<&str>) -> Result<(), SimFault> {
     }
 }
 
+/// Follows the log of a reader.
+fn follow_from<R: Read + Drop>(rt: &HostRuntime, reader: R) -> Result<(), SimFault> {
+    let mut input = BufReader::with_capacity(rt.alloc(), BUFFER, reader).map_err(|_| SimFault::from(
+        AllocError,
+    ))?;
+    serve_follow(rt.alloc(), &mut input, &mut io::writer(rt))
+}
+
+fn follow(rt: &HostRuntime, path: Option<&str>) -> Result<(), SimFault> {
+    match path {
+        Some(path) => follow_from(rt, open(rt, path)?),
+        None => follow_from(rt, rt.reader()),
+    }
+}
+
 /// The status of the program's command of this name.
 fn served<T: Threads + Wait + Eprint + Sync>(
     rt: &HostRuntime,
@@ -84,6 +101,7 @@ fn served<T: Threads + Wait + Eprint + Sync>(
         "draw" => script(rt, Form::Draw, path)?,
         "run" => run(rt, threads, path, options.get_flag("progress"))?,
         "check" => check(rt, path)?,
+        "follow" => follow(rt, path)?,
         _ => return Ok(ExitCode::from(2)),
     }
     Ok(ExitCode::SUCCESS)
