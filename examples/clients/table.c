@@ -71,7 +71,7 @@ static turned make(uint16_t me, sci_event event, uint16_t whose) {
     uint64_t *word = row.word == SCI_MEMORY ? &memory : &tags[row.word];
     log_event(me, &event, whose);
     if (*word != row.before) {
-        if (is_log) printf(" Missed %llu\n", (unsigned long long)*word);
+        if (is_log) printf(" Missed %016llx\n", (unsigned long long)*word);
         return MOVED;
     }
     *word = row.after;

@@ -25,6 +25,7 @@ import caches
 import cuts
 import dumps
 import histories
+import logs
 import runs
 import scripts
 import settings
@@ -36,7 +37,7 @@ from kinds import CLOSED, FOLDER, FULL, UNREAD
 from kinds import Begins, Broken, Crowded, Drawn, Filled, Lawful, Little, Page, Traced, WholePage
 
 PROGRAM = os.path.realpath(sys.argv[1] if sys.argv[1:] else HOME / "crates/sci_sim/out/sci_sim")
-TABLES = [scripts, caches, sizes, cuts, shortages, traces, dumps, histories, runs, settings]
+TABLES = [scripts, caches, sizes, cuts, shortages, traces, dumps, histories, logs, runs, settings]
 # The files that lie where the program runs; `folder` is a folder.
 FILES = scripts.FILES | dumps.FILES | histories.FILES | runs.FILES
 # How long a file may be that an output fills.

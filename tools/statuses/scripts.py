@@ -69,6 +69,7 @@ Workloads:
 Checks of your own texts:
   check   Checks that each line of a dump is an exact sharing list
   legal   Checks that what the nodes read and wrote on each line is one history of it
+  follow  Checks that a log of a simulator's own run is one of the table of exchanges
 """
 
 # The whole program's, and those of `script`.

@@ -111,14 +111,14 @@ pub fn word(text: &[u8]) -> Option<(u64, &[u8])>
 
 /// A number behind a space.
 #[tactic(auto, unfolding(crate::specs::Reading::value_at))]
-fn value(text: &[u8]) -> Option<(u64, &[u8])>
+pub fn value(text: &[u8]) -> Option<(u64, &[u8])>
     ensures { Reads (λ x. (x.0, x.1.now)) result (value_at text.now) }
 {
     number(behind(b" ", text)?)
 }
 
 /// Eight numbers, each behind a space.
-fn values(text: &[u8]) -> Option<([u64; 8], &[u8])>
+pub fn values(text: &[u8]) -> Option<([u64; 8], &[u8])>
     ensures { Reads (λ x. (x.0, x.1.now)) result (values_at 8 text.now) }
 {
     let mut values = [0; 8];

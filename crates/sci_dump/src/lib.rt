@@ -3,7 +3,7 @@
 
 mod checking;
 mod dumps;
-mod fields;
+pub mod fields;
 mod ranges;
 mod reader;
 mod refusals;

@@ -1,2 +1,5 @@
 pub mod Widths
 pub mod Running
+pub mod Standing
+pub mod Names
+pub mod Cutting

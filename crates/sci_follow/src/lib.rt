@@ -2,10 +2,22 @@
 #![tactic(auto)]
 
 mod entries;
+mod event_names;
+mod event_text;
 mod follower;
+mod line_text;
 mod lines;
+mod logs;
+mod meaning;
 mod runs;
+mod streams;
+mod tag_text;
+mod told;
 
 pub use entries::{Claim, Deviation, Entry};
+pub use line_text::{read_entry, read_memory, read_opening};
 pub use lines::Follower;
+pub use logs::{Log, LogFault};
 pub use runs::Departure;
+pub use streams::follow_text;
+pub use told::{Asks, Found, Noted, Told};

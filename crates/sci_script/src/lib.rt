@@ -21,6 +21,7 @@ mod writing;
 pub use banks::{BankDesk, NoDesk};
 pub use commands::{Command, Opening, Script, Size, Step};
 pub use desk::Desk;
+pub use line_words::is_skipped;
 pub use reader::{line_end, read_script, without_return};
 pub use refusals::ScriptRefusal;
 pub use running::{NODES, TURNS, is_end, note, perform};

@@ -10,3 +10,4 @@ pub mod SettingsItems
 pub mod SettingsLimits
 pub mod Declining
 pub mod Heard
+pub mod Departing

@@ -5,5 +5,6 @@ pub mod Runs
 pub mod Serve
 pub mod Settings
 pub mod Verdicts
+pub mod Followed
 pub mod Works
 pub mod Talked

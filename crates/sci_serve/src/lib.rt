@@ -8,6 +8,7 @@
 
 mod checking;
 mod faults;
+mod following;
 mod input;
 mod legality;
 mod progress;
@@ -22,6 +23,7 @@ mod works;
 pub use checking::serve_check;
 pub use faults::SimFault;
 pub use legality::serve_legal;
+pub use following::serve_follow;
 pub use progress::Progress;
 pub use running::{serve_run, serve_run_by};
 pub use scripts::{Form, serve, serve_buffered, serve_draw, serve_script, serve_trace};

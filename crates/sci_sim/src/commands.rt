@@ -22,6 +22,7 @@ Workloads:
 Checks of your own texts:
   check   Checks that each line of a dump is an exact sharing list
   legal   Checks that what the nodes read and wrote on each line is one history of it
+  follow  Checks that a log of a simulator's own run is one of the table of exchanges
 
 Options:
   -h, --help     Print help
@@ -34,8 +35,8 @@ Example:
   printf 'memory 2 1\\nstore 0 0 0 5\\ndone 0\\nload 1 0 0\\ndone 1\\nlist 0\\n' | scisim script
 
 `scisim script --help` lists the commands of scripts, `scisim trace --help` has the lines of turns, `scisim draw --help` the keys of
-pages, `scisim talk --help` the answers, `scisim run --help` the keys of settings, `scisim check --help` the format of dumps, and
-`scisim legal --help` that of histories; they say what each refusal means.
+pages, `scisim talk --help` the answers, `scisim run --help` the keys of settings, `scisim check --help` the format of dumps,
+`scisim legal --help` that of histories, and `scisim follow --help` that of logs; they say what each refusal means.
 ";
 
 const SCRIPTS: &str = "\
@@ -210,6 +211,35 @@ Example: a line that three nodes share.
   tag 0 2 0000ffff00010002 0 0 0 0 0 0 0 0 0
   end";
 
+const LOGS: &str = "\
+A log tells the events of a run, each with how it ended. Its first lines are those of a script; then each line is an event.
+
+  memory NODES LINES
+  open L S V V V V V V V V  any number of them, as in a script
+  node N line L EVENT Done              the exchange was made, or the node looked at its tag
+  node N line L EVENT Done S V V V V V V V V    the same, and it answered this stamp and these words
+  node N line L EVENT Missed WORD       another word stood there: this one
+  node N line L EVENT Busy              the line was not to be had
+
+EVENT is as in a trace, or Look. A tag is told by its name, or by its word where the exchange missed; a word is 16 hexadecimal digits.
+One space stands between words. A line that begins with #, or has blanks alone, says nothing.
+
+Prints `follows` where the log is a run of the table of exchanges from its opening, else `line K: WHY` and status 3: the first line
+that no lawful line answers so.
+  not in turn               the node's pending step has no such event
+  another word stood there  the exchange finds another word than it asks for, or than the log says
+  another line is answered  the event answers another line, or none
+  it can't end so           it is done, or misses, and the log says otherwise
+
+Refusals, on standard error; nothing is printed:
+   7  memory ran out: free some
+  16  no line of a log, or one out of place, at this line: mend it
+  17  no such node or line, at this line: mend it
+`cannot read` and `cannot write` are faults of FILE, of the input, or of the output.
+
+Example:
+  printf 'memory 1 1\\nnode 0 line 0 Queue(none) Done\\n' | scisim follow";
+
 const SCRIPT_FILE: &str = "the script; without it standard input is read";
 
 fn file<'a>(rt: &impl AllocGlobal, help: &'a str) -> Arg<'a> {
@@ -286,6 +316,12 @@ fn legal<'a>(rt: &impl AllocGlobal) -> Result<Command<'a>, AllocError> {
     reader_of(rt, "legal", about, HISTORIES, file)
 }
 
+fn follow<'a>(rt: &impl AllocGlobal) -> Result<Command<'a>, AllocError> {
+    let about = "Checks that a log of a simulator's own run is one of the table of exchanges";
+    let file = "the log; without it standard input is read";
+    reader_of(rt, "follow", about, LOGS, file)
+}
+
 /// The program without its commands.
 fn program<'a>(rt: &impl AllocGlobal) -> Result<Command<'a>, AllocError> {
     let named = Command::new(rt.alloc(), "scisim").bin_name("scisim")?;
@@ -313,5 +349,6 @@ pub fn commands<'a>(rt: &impl AllocGlobal) -> Result<Command<'a>, AllocError> {
     let program = with(program, talk(rt));
     let program = with(program, run(rt));
     let program = with(program, check(rt));
-    with(program, legal(rt))
+    let program = with(program, legal(rt));
+    with(program, follow(rt))
 }

@@ -1,6 +1,6 @@
 //! `scisim script [FILE]` runs a script; `scisim trace [FILE]` says of each turn what it did, and `scisim draw [FILE]` shows it on a
 //! page; `scisim talk` answers a script's commands one by one; `scisim run [FILE]` runs a workload; `scisim check [FILE]` checks a dump,
-//! and `scisim legal [FILE]` a history.
+//! `scisim legal [FILE]` a history, and `scisim follow [FILE]` a log.
 #![tactic(auto)]
 
 mod commands;
@@ -9,11 +9,11 @@ mod histories;
 use clap::{ArgMatches, Error, error};
 use commands::commands;
 use sci_serve::{
-    Form, Progress, SimFault, serve_buffered, serve_check, serve_legal, serve_run, serve_run_by, serve_talk,
+    Form, Progress, SimFault, serve_buffered, serve_check, serve_follow, serve_legal, serve_run, serve_run_by, serve_talk,
 };
 use std::alloc::{AllocError, Global};
 use std::fs::File;
-use std::io::{self, BufWriter, ErrorKind, Read, Write};
+use std::io::{self, BufReader, BufWriter, ErrorKind, Read, Write};
 use std::process::ExitCode;
 use std::sync::Wait;
 use std::thread::Threads;
@@ -90,6 +90,21 @@ fn legal(rt: &HostRuntime, path: Option<&str>) -> Result<(), SimFault> {
     }
 }
 
+/// Follows the log of a reader.
+fn follow_from<R: Read + Drop>(rt: &HostRuntime, reader: R) -> Result<(), SimFault> {
+    let mut input = BufReader::with_capacity(rt.alloc(), BUFFER, reader).map_err(|_| SimFault::from(
+        AllocError,
+    ))?;
+    serve_follow(rt.alloc(), &mut input, &mut io::writer(rt))
+}
+
+fn follow(rt: &HostRuntime, path: Option<&str>) -> Result<(), SimFault> {
+    match path {
+        Some(path) => follow_from(rt, open(rt, path)?),
+        None => follow_from(rt, rt.reader()),
+    }
+}
+
 /// The form in which `trace` writes a run.
 fn trace_form(options: &ArgMatches<'_>) -> Form {
     if options.get_flag("log") {
@@ -115,6 +130,7 @@ fn served<T: Threads + Wait + Eprint + Sync>(
         "run" => run(rt, threads, path, options.get_flag("progress"))?,
         "check" => check(rt, path)?,
         "legal" => legal(rt, path)?,
+        "follow" => follow(rt, path)?,
         _ => return Ok(ExitCode::from(2)),
     }
     Ok(ExitCode::SUCCESS)

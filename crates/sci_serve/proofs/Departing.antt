@@ -1,0 +1,47 @@
+-- What the command `follow` writes, by how the log ended.
+use Rattle.std.proofs.Common.{◌≡◌, ℕ, ◌<◌, List, [], length, take, Option, IfSome, refl, inl, inr}
+use Rattle.std.specs.Prelude.{codes}
+use Rattle.std.proofs.KnownBytes.{Appends-nil}
+use Rattle.std.proofs.lemmas.Option.{IfSome_then}
+use Rattle.std.specs.Io.KnownBytes.{Appends}
+use Rattle.sci_script.specs.declared.refusals.ScriptRefusal.TheVariants.{OutOfMemory, BadCommand, BadNumber}
+use Rattle.sci_follow.specs.declared.entries.Deviation.{Deviation}
+use Rattle.sci_follow.specs.declared.logs.LogFault.{LogFault}
+use Rattle.sci_follow.specs.Streams.{FollowsAll, FaultsWith, StopsWith}
+use Rattle.sci_serve.specs.declared.faults.SimFault.{SimFault}
+use Rattle.sci_serve.specs.declared.faults.SimFault.TheVariants.{CannotRead, CannotWrite, Refused, Unlawful}
+use Rattle.sci_serve.specs.Followed.{departure_line, IsFollowed, StopsFollowing}
+
+-- what is told where the command fails
+abbrev pub Stops : SimFault → Option (List ℕ) → Option (List ℕ) → Option (List ℕ) → Type 0
+Stops e had old new = IfSome had (λ input. (written : List ℕ) × StopsFollowing e input written × Appends old new written)
+
+pub follows_written : (had old new : Option (List ℕ)) → IfSome had FollowsAll → Appends old new (codes "follows\n") → IfSome had (λ input. FollowsAll input × Appends old new (codes "follows\n"))
+follows_written had old new h appended = IfSome_then had h (λ input follows. (follows, appended))
+
+pub follows_cut : (had old new : Option (List ℕ)) → IfSome had FollowsAll → ((n : ℕ) × (n < length (codes "follows\n")) × Appends old new (take n (codes "follows\n"))) → Stops CannotWrite had old new
+follows_cut had old new h cut = IfSome_then had h (λ input follows. (take cut.0 (codes "follows\n"), (codes "follows\n", cut.0, inl (follows, refl), cut.1, refl), cut.2))
+
+pub departs_written : (had old new : Option (List ℕ)) (number : ℕ) (why : Deviation) (text : List ℕ) → IfSome had (StopsWith (LogFault.Departs number why)) → text ≡ departure_line number why
+    → Appends old new text → Stops Unlawful had old new
+departs_written had old new number why text h is appended = IfSome_then had h (λ input departs. (text, (number, why, departs, is), appended))
+
+pub departs_cut : (had old new : Option (List ℕ)) (number : ℕ) (why : Deviation) (text : List ℕ) → IfSome had (StopsWith (LogFault.Departs number why)) → text ≡ departure_line number why
+    → ((n : ℕ) × (n < length text) × Appends old new (take n text)) → Stops CannotWrite had old new
+departs_cut had old new number why text h is cut = IfSome_then had h (λ input departs. (take cut.0 text, (text, cut.0, inr (number, why, departs, is), cut.1, refl), cut.2))
+
+-- nothing is written
+silent : (had old : Option (List ℕ)) (e : SimFault) (fault : LogFault) → IfSome had (StopsWith fault) → ((input : List ℕ) → StopsWith fault input → StopsFollowing e input []) → Stops e had old old
+silent had old e fault h each = IfSome_then had h (λ input stops. ([], each input stops, Appends-nil old))
+
+pub unread : (had old : Option (List ℕ)) → IfSome had (StopsWith LogFault.CannotRead) → Stops CannotRead had old old
+unread had old h = silent had old CannotRead LogFault.CannotRead h (λ input stops. refl)
+
+pub no_memory : (had old : Option (List ℕ)) (fault : LogFault) → IfSome had (StopsWith fault) → Stops (Refused OutOfMemory) had old old
+no_memory had old fault h = silent had old (Refused OutOfMemory) fault h (λ input stops. refl)
+
+pub bad_line : (had old : Option (List ℕ)) (n : ℕ) → IfSome had (StopsWith (LogFault.BadLine n)) → Stops (Refused (BadCommand n)) had old old
+bad_line had old n h = silent had old (Refused (BadCommand n)) (LogFault.BadLine n) h (λ input stops. (stops, refl))
+
+pub bad_number : (had old : Option (List ℕ)) (n : ℕ) → IfSome had (StopsWith (LogFault.BadNumber n)) → Stops (Refused (BadNumber n)) had old old
+bad_number had old n h = silent had old (Refused (BadNumber n)) (LogFault.BadNumber n) h (λ input stops. (stops, refl))

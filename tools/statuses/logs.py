@@ -1,0 +1,43 @@
+"""Which logs `follow` calls runs, the first line of others that is none, and which texts are no logs."""
+
+import pathlib
+
+from kinds import CLOSED, FOLDER, FULL, LIMIT, READ, USAGE, WRITE
+from kinds import Begins, refused
+
+CLIENTS = pathlib.Path(__file__).resolve().parents[2] / "examples/clients"
+PURGE = (CLIENTS / "purge_by_steps.log").read_text(encoding="utf-8")
+LINES = PURGE.splitlines(keepends=True)
+FOLLOWS = "follows\n"
+# Node 0 is alone on its list, and looks at its tag again and again: more bytes than a script may have.
+ALONE = "".join(LINES[:5])
+LONG = ALONE + "node 0 line 0 Look Done\n" * (LIMIT // 20)
+
+
+def without(line):
+    """The purge with a line of text left out, counted from 1."""
+    return "".join(LINES[: line - 1] + LINES[line:])
+
+
+CASES = [
+    (["follow"], PURGE, 0, FOLLOWS, ""),
+    (["follow"], "memory 1024 1024\n", 0, FOLLOWS, ""),
+    (["follow"], PURGE.replace("\n", "\r\n"), 0, FOLLOWS, ""),
+    (["follow"], PURGE.rstrip(), 0, FOLLOWS, ""),
+    (["follow"], LONG, 0, FOLLOWS, ""),
+    (["follow"], LONG + "node 0 line 0 Settle Done\n", 3, f"line {LONG.count(chr(10)) + 1}: not in turn\n", ""),
+    (["follow"], without(22), 3, "line 23: not in turn\n", ""),
+    (["follow"], PURGE.replace("0 ONLY_FRESH", "0 ONLY_DIRTY"), 3, "line 9: another word stood there\n", ""),
+    (["follow"], ALONE.replace("Settle Done", "Settle Done 1 0 0 0 0 0 0 0 0"), 3, "line 5: another line is answered\n", ""),
+    (["follow"], ALONE.replace("Settle Done", "Settle Busy"), 3, "line 5: it can't end so\n", ""),
+    (["follow"], "", 1, "", refused("16 at line 1")),
+    (["follow"], "# nothing\n", 1, "", refused("16 at line 2")),
+    (["follow"], PURGE.replace("Settle Done", "Settle done", 1), 1, "", refused("16 at line 5")),
+    (["follow"], PURGE.replace("node 1 ", "node 3 ", 1), 1, "", refused("17 at line 6")),
+    (["follow", "missing"], PURGE, 1, "", READ),
+    (["follow"], CLOSED, 1, "", READ),
+    (["follow"], FOLDER, 1, "", READ),
+    (["follow"], PURGE, 1, FULL, WRITE),
+    (["follow", "x", "y"], PURGE, 2, "", USAGE),
+    (["follow", "--help"], "", 0, Begins("Checks that a log of a simulator's own run is one of the table of exchanges\n\nUsage: scisim follow [FILE]\n"), ""),
+]
