@@ -1,5 +1,5 @@
 //! Operations.
-ghost use Rattle.std.specs.Prelude.{◌≡◌, ◌≢◌, ◌<◌, ◌↔◌, true, None, IfOk, IsErr};
+ghost use Rattle.std.specs.Prelude.{◌≡◌, ◌≢◌, ◌<◌, ◌≤◌, ◌↔◌, true, None, IfOk, IsErr};
 ghost use Rattle.sci_core.specs.declared.pending.Pending.TheVariants.{Idle};
 ghost use Rattle.sci_core.specs.Progress.{IsMover};
 ghost use Rattle.sci_core.specs.Whole.{IsSameLine, nodes_of, state_of};
@@ -131,13 +131,14 @@ impl Op {
         turn
     }
 
-    /// One turn of a node on a line that is lent to it: `turn` over its `Solo`. Nobody comes between its loads and its exchange, so
-    /// it never misses: it makes the exchange that the table of turns has on the line as it stands, and waits only where the table
-    /// says so. A node that moves, as `Whole::mover` gives one, makes an exchange. An exchange of a node that isn't Idle leads nearer
-    /// to rest (`ranking` in `specs/Ranking.antt`). An answer is true of the line before and after the turn. Seen: the line's value, and the node is a valid sharer of it. Wrote: the words before are those of the value
-    /// before, whose stamp is one less, the value after is what the write makes of them, with the stamp, and the node is the
-    /// only valid sharer before and after. Spent: the stamp of the value is `u64::MAX`, the value stays, and the node is the
-    /// only valid sharer before and after. Out: the node's tag is Invalid.
+    /// One turn of a node on a line that is lent to it: `turn` over its `Solo`. Nobody comes between its loads and its
+    /// exchange, so it never misses: it makes the exchange that the table of turns has on the line as it stands, and waits only
+    /// where the table says so. A node that moves, as `Whole::mover` gives one, makes an exchange. An exchange of a node that
+    /// isn't Idle leads nearer to rest, and no turn of it farther (`ranking` in `specs/Ranking.antt`). An answer is true of the
+    /// line before and after the turn. Seen: the line's value, and the node is a valid sharer of it. Wrote: the words before
+    /// are those of the value before, whose stamp is one less, the value after is what the write makes of them, with the stamp,
+    /// and the node is the only valid sharer before and after. Spent: the stamp of the value is `u64::MAX`, the value stays,
+    /// and the node is the only valid sharer before and after. Out: the node's tag is Invalid.
     pub fn turn_on<K: Keeps>(&mut self, whole: &mut Whole<K>, node: NodeId) -> Turn
         requires node { node < nodes_of whole.old }
         requires fits { StoresFitting (K.fits whole.old.keep whole.old.number) self.old.goal }
@@ -146,6 +147,7 @@ impl Op {
         ensures in_one_go { ComesTo (due_turn self.old node (state_of whole.old)) result }
         ensures mover { self.old.answer ≡ None → IsMover (nodes_of whole.old) (state_of whole.old) node → (is_exchange (due_turn self.old node (state_of whole.old)) ≡ true) × (result ≢ Turn.Waiting) }
         ensures nearer { (state_of whole.old).steps node ≢ Idle → is_exchange (due_turn self.old node (state_of whole.old)) ≡ true → ranking (nodes_of whole.old) (state_of whole.new) < ranking (nodes_of whole.old) (state_of whole.old) }
+        ensures no_farther { (state_of whole.old).steps node ≢ Idle → ranking (nodes_of whole.old) (state_of whole.new) ≤ ranking (nodes_of whole.old) (state_of whole.old) }
         ensures answers { IsTrueTurn (nodes_of whole.old) (K.fits whole.old.keep whole.old.number) self.old node (state_of whole.old) result (state_of whole.new) }
         ensures op { self.new ≡ after_turn self.old result }
     {

@@ -382,3 +382,23 @@ module _ (n : ℕ) (fits : List ℕ → Type 0) (me : ℕ) (below : me < n) wher
       let near : ranking n u ≤ ranking n s = reach_ranks plan s r t h in
       let falls : ranking n t < ranking n u = came_falls (read s.memory s.tags me plan) u r t (reach_busy plan s busy) goes (due_again n fits me op.goal op.answer s) (came n fits me plan s r t h) in
       omega (arith, near, falls)
+
+  came_stays : (plan : Plan) (u : State) (r : Turn) (t : State) → is_exchange plan ≡ false → Came n fits me plan u r t → ranking n t ≤ ranking n u
+  came_stays (exchange e end) u r t x h = absurd (false≢true (sym x))
+  came_stays (own next) u r t x h = absurd h
+  came_stays (mem next) u r t x h = absurd h
+  came_stays (tag y next) u r t x h = absurd h
+  came_stays (ends turn) u r t x h = subst (λ (w : State). ranking n w ≤ ranking n u) (sym h.1) (omega arith)
+
+  -- and leads no farther from it otherwise
+  pub turn_ranks : (op : Operation) (s : State) (r : Turn) (t : State) → s.steps me ≢ Pending.Idle → TakesTurn n fits me op s r t → ranking n t ≤ ranking n s
+  turn_ranks op s r t busy h =
+      ⊎_elim
+      (λ x. let falls : ranking n t < ranking n s = turn_falls op s r t busy h x in omega (arith, falls))
+      (λ x.
+      let plan : Plan = turn_again op.goal op.answer me (s.steps me) in
+      let u : State = reach n fits me s plan in
+      let near : ranking n u ≤ ranking n s = reach_ranks plan s r t h in
+      let stays : ranking n t ≤ ranking n u = came_stays (read s.memory s.tags me plan) u r t x (came n fits me plan s r t h) in
+      omega (arith, near, stays))
+      (cases_Bool (is_exchange (due_turn op me s)))

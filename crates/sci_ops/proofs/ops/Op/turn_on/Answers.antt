@@ -2,7 +2,7 @@ use Rattle.std.proofs.Common.{rules}
 use Rattle.sci_core.specs.Whole.{state_of}
 use Rattle.sci_port.specs.declared.solo.Solo.{Solo}
 use Rattle.sci_ops.proofs.Ending.Along.{turn_once}
-use Rattle.sci_ops.proofs.Resting.Falling.{turn_falls}
+use Rattle.sci_ops.proofs.Resting.Falling.{turn_falls, turn_ranks}
 use Rattle.sci_ops.proofs.Resting.Going.{mover_turns}
 use Rattle.sci_ops.proofs.Resting.Reading.{turn_comes_to}
 use Rattle.sci_ops.proofs.Valued.{lent_answers}
@@ -19,6 +19,9 @@ returns-clause-mover g c = λ none m. mover_turns _ c.args.node (state_of c.args
 
 pub returns-clause-nearer : goal.returns-clause-nearer
 returns-clause-nearer g c = λ busy goes. turn_falls _ _ c.args.node c.requires.node c.args.self.now (state_of c.args.whole.now) c.turn.result _ busy (returns-clause-calls g c) goes
+
+pub returns-clause-no_farther : goal.returns-clause-no_farther
+returns-clause-no_farther g c = λ busy. turn_ranks _ _ c.args.node c.requires.node c.args.self.now (state_of c.args.whole.now) c.turn.result _ busy (returns-clause-calls g c)
 
 pub returns-clause-answers : goal.returns-clause-answers
 returns-clause-answers g c = lent_answers c.new.result c.turn.new.port g.K.Keeps.fits (λ x. x.whole.now) (λ x. x.node) (λ x. x.whole.ghost_name) c.args.self.now _ c.turn.result c.args.whole.now _ c.args.node c.new.ensures.same_line c.new.ensures.node (search rules) c.turn.ensures.answers
