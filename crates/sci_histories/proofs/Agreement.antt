@@ -1,14 +1,13 @@
 -- What a whole table tells of the words.
-use Rattle.std.proofs.Common.{◌≡◌, ◌≢◌, ◌⊎◌, inl, inr, ⊎_elim, ℕ, zero, suc, ◌+◌, ◌-◌, ◌==◌, ◌<◌, ◌≤◌, Bool, true, false, Option, Some, None, is_some, List, [], ◌∷◌, length, get_or, refl, sym, ap, subst, ◌∙◌, arith, eqb-true}
+use Rattle.std.proofs.Common.{◌≡◌, ◌≢◌, inl, inr, ℕ, ◌+◌, ◌-◌, ◌==◌, ◌≤◌, Bool, true, false, Option, Some, None, is_some, List, [], get_or, refl, sym, ap, subst, ◌∙◌, arith, eqb-true}
 use Rattle.std.proofs.lemmas.Bool.{cases_Bool}
 use mathlib.Core.Option.{some}
-use lib.ListN.{get_elem?}
 use Rattle.sci_core.specs.declared.receipts.Receipt.{Receipt}
 use Rattle.sci_core.specs.declared.receipts.Receipt.TheVariants.{Read, Passed, Wrote}
 use Rattle.sci_dump.specs.Rules.{Decides}
 use Rattle.sci_histories.specs.Each.{Each}
-use Rattle.sci_histories.specs.Histories.{LineReceipts, of_node}
-use Rattle.sci_histories.specs.Rules.{EachReceipt, Agrees, IsHistoryOf, KeepsAgreed, KeepsWithin, IsWithin}
+use Rattle.sci_histories.specs.Histories.{LineReceipts}
+use Rattle.sci_histories.specs.Rules.{Agrees, IsHistoryOf, KeepsAgreed, KeepsWithin, IsWithin}
 use Rattle.sci_histories.specs.Table.{WritesAs, slot, IsTable, found, AgreesIn, AllAgree}
 use Rattle.sci_histories.proofs.Places.{get_elem, element, some_value, each_receipt, each_list}
 

@@ -5,7 +5,7 @@ use Rattle.sci_core.specs.declared.receipts.Receipt.{Receipt}
 use Rattle.sci_core.specs.declared.receipts.Receipt.TheVariants.{Read, Passed, Wrote}
 use Rattle.sci_core.specs.declared.whole.TheConstants.{MOST_NODES}
 use Rattle.sci_dump.specs.declared.refusals.DumpRefusal.{DumpRefusal}
-use Rattle.sci_dump.specs.Reading.{◌>>>◌, Gives, on_line, behind, numbered_at, value_at, values_at, content_at, count_at, counted_at}
+use Rattle.sci_dump.specs.Reading.{◌>>>◌, Gives, on_line, behind, value_at, values_at, content_at, counted_at}
 use Rattle.sci_dump.specs.Text.{values_text}
 use Rattle.sci_dump.proofs.Inverting.{both_some, both_ok, some_of, ok_of, not_none, not_err, line_ok, behind_text}
 use Rattle.sci_dump.proofs.FieldTexts.{value_text, values_read, content_read, numbered_read, count_read}

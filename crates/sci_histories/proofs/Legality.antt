@@ -1,16 +1,14 @@
 -- The rules together are a legal history.
-use Rattle.std.proofs.Common.{◌≡◌, ◌⊎◌, ◌↔◌, inl, inr, Option, Some, None, ℕ, zero, suc, ◌+◌, ◌-◌, ◌<◌, ◌≤◌, Bool, true, false, List, [], ◌∷◌, length, get_or, slice_index_or, All, refl, sym, ap, subst, ◌∙◌, arith}
+use Rattle.std.proofs.Common.{◌≡◌, inl, inr, Option, Some, None, ℕ, zero, suc, ◌+◌, ◌-◌, ◌<◌, List, [], ◌∷◌, length, slice_index_or, sym, ap, subst, ◌∙◌, arith}
 use Rattle.std.specs.Option.{MatchOption}
 use Rattle.std.proofs.lemmas.Bool.{cases_lt}
-use mathlib.Core.Option.{some}
-use lib.ListN.{get_elem?}
 use Rattle.sci_core.specs.declared.receipts.Receipt.{Receipt}
 use Rattle.sci_core.specs.declared.receipts.Receipt.TheVariants.{Read, Passed, Wrote}
-use Rattle.sci_core.specs.Legal.{IsShown, IsLegal}
-use Rattle.sci_histories.specs.Histories.{LineReceipts, of_node}
+use Rattle.sci_core.specs.Legal.{IsShown}
+use Rattle.sci_histories.specs.Histories.{LineReceipts}
 use Rattle.sci_histories.specs.declared.rules.Rule.{Rule}
 use Rattle.sci_histories.specs.declared.rules.Rule.TheVariants.{Within, Ordered, Written, Once, Agreed}
-use Rattle.sci_histories.specs.Rules.{IsWithin, KeepsWithin, KeepsOrdered, KeepsWritten, KeepsOnce, Agrees, IsHistoryOf, KeepsAgreed, BreaksFirst, IsLegalLine, AreLegal}
+use Rattle.sci_histories.specs.Rules.{IsWithin, KeepsWithin, KeepsOrdered, KeepsWritten, KeepsOnce, Agrees, KeepsAgreed, BreaksFirst, IsLegalLine, AreLegal}
 use Rattle.sci_histories.specs.Table.{BreaksOf}
 
 shown : (history : ℕ → List ℕ) (first last : ℕ) (r : Receipt) → IsWithin first last r → Agrees history r → IsShown history first last r

@@ -1,12 +1,11 @@
 -- Reading receipt by receipt, node by node, and line by line.
-use Rattle.std.proofs.Common.{◌≡◌, ℕ, suc, ◌+◌, List, [], ◌∷◌, ◌++◌, true, false, Option, Some, None, Result, Ok, Err, length, refl, sym, ap, ◌∙◌, append_assoc}
+use Rattle.std.proofs.Common.{◌≡◌, ℕ, suc, ◌+◌, List, [], ◌∷◌, ◌++◌, true, false, Some, None, Result, Ok, Err, length, refl, sym, ◌∙◌, append_assoc}
 use Rattle.std.proofs.lemmas.List.{append-nil}
-use Rattle.sci_core.specs.declared.lines.Line.{Line}
 use Rattle.sci_core.specs.declared.receipts.Receipt.{Receipt}
 use Rattle.sci_dump.specs.declared.refusals.DumpRefusal.{DumpRefusal}
 use Rattle.sci_dump.specs.declared.refusals.DumpRefusal.TheVariants.{OutOfMemory, DumpFault}
 use Rattle.sci_dump.specs.Reading.{◌>>>◌, Fails}
-use Rattle.sci_histories.specs.Histories.{LineReceipts, HistoryLines}
+use Rattle.sci_histories.specs.Histories.{LineReceipts}
 use Rattle.sci_histories.specs.Reading.{next, begins_at, receipt_at, receipts_at, lists_at, line_at, lines_at, head_at, end_at, history_of}
 
 -- so many lists or lines, and where the reading goes on

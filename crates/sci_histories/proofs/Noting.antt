@@ -1,9 +1,9 @@
 -- One more receipt in the table, and what the whole table tells.
-use Rattle.std.proofs.Common.{◌≡◌, ◌≢◌, ◌⊎◌, inl, inr, ⊎_elim, ℕ, zero, suc, ◌+◌, ◌-◌, ◌<◌, ◌≤◌, ◌||◌, Bool, true, false, Option, Some, None, is_some, List, [], ◌∷◌, length, get_or, set, replicate, refl, sym, ap, subst, ◌∙◌, arith}
-use Rattle.std.proofs.lemmas.Bool.{cases_lt, cases_Bool}
+use Rattle.std.proofs.Common.{◌≡◌, ◌⊎◌, inl, inr, ⊎_elim, ℕ, ◌+◌, ◌-◌, ◌<◌, ◌≤◌, ◌||◌, Bool, true, false, Option, Some, None, is_some, List, length, get_or, set, replicate, refl, sym, ap, subst, ◌∙◌, arith}
+use Rattle.std.proofs.lemmas.Bool.{cases_lt}
 use Rattle.std.proofs.lemmas.List.{length-set, length-replicate}
 use mathlib.Core.Logic.{dite}
-use mathlib.Core.Option.{some, some-injective, some-ne-none}
+use mathlib.Core.Option.{some, some-injective}
 use native.Mathlib.Decide.{ℕ_discrete}
 use lib.ListN.{get_elem?}
 use Rattle.sci_core.specs.declared.lines.Line.{Line}
@@ -14,7 +14,7 @@ use Rattle.sci_port.proofs.Elements.{inside, at_set, clash}
 use Rattle.sci_histories.specs.Each.{Each}
 use Rattle.sci_histories.specs.Histories.{LineReceipts, of_node}
 use Rattle.sci_histories.specs.Rules.{IsWithin, KeepsWithin, KeepsOnce, KeepsWritten}
-use Rattle.sci_histories.specs.Table.{IsEarlier, IsFull, WritesAs, slot, IsTable, IsNoted}
+use Rattle.sci_histories.specs.Table.{IsEarlier, IsFull, slot, IsTable, IsNoted}
 use Rattle.sci_histories.proofs.Places.{element, elem_or, node_below, set_here, set_else, full_of, not_full, none_full, some_value, writes_as}
 
 nothing_earlier : (j p : ℕ) → IsEarlier 0 0 j p → ⊥

@@ -1,13 +1,12 @@
 -- A list whose neighbours are in order is in order.
-use Rattle.std.proofs.Common.{◌≡◌, ◌⊎◌, inl, inr, ℕ, zero, suc, ◌+◌, ◌-◌, ◌<◌, ◌≤◌, true, List, [], ◌∷◌, length, get_or, refl, sym, ap, subst, ◌∙◌, arith}
+use Rattle.std.proofs.Common.{◌≡◌, inl, inr, ℕ, zero, suc, ◌+◌, ◌-◌, ◌<◌, ◌≤◌, List, [], length, get_or, sym, ap, subst, ◌∙◌, arith}
 use Rattle.std.proofs.lemmas.Bool.{cases_lt}
 use mathlib.Core.Option.{some, some-injective}
 use lib.ListN.{get_elem?}
 use Rattle.sci_core.specs.declared.receipts.Receipt.{Receipt}
-use Rattle.sci_core.specs.Legal.{stamp_of, is_write}
 use Rattle.sci_port.proofs.Elements.{inside}
 use Rattle.sci_histories.specs.Each.{Each}
-use Rattle.sci_histories.specs.Histories.{LineReceipts, of_node}
+use Rattle.sci_histories.specs.Histories.{LineReceipts}
 use Rattle.sci_histories.specs.Rules.{IsBehind, IsOrdered, KeepsOrdered}
 use Rattle.sci_histories.proofs.Places.{element, elem_or, get_elem, node_below}
 

@@ -1,5 +1,5 @@
 -- Receipts by node and place.
-use Rattle.std.proofs.Common.{◌≡◌, ◌≢◌, ◌⊎◌, inl, inr, ℕ, zero, suc, ◌+◌, ◌<◌, ◌≤◌, Bool, true, false, Option, Some, None, is_some, List, [], ◌∷◌, length, get_or, set, replicate, refl, sym, ap, subst, ◌∙◌, arith}
+use Rattle.std.proofs.Common.{◌≡◌, ◌≢◌, ℕ, zero, suc, ◌+◌, ◌<◌, ◌≤◌, Bool, true, false, Option, Some, None, is_some, List, [], ◌∷◌, length, get_or, set, replicate, refl, sym, ap, ◌∙◌, arith}
 use mathlib.Core.Option.{some, some-injective, some-ne-none}
 use lib.ListN.{get_elem?}
 use Rattle.sci_core.specs.declared.receipts.Receipt.{Receipt}
@@ -9,7 +9,7 @@ use Rattle.sci_dump.specs.Rules.{Decides}
 use Rattle.sci_dump.proofs.Deciding.{same_default}
 use Rattle.sci_port.proofs.Elements.{looked_at, looked_all}
 use Rattle.sci_histories.specs.Each.{Each}
-use Rattle.sci_histories.specs.Histories.{LineReceipts, of_node}
+use Rattle.sci_histories.specs.Histories.{LineReceipts}
 use Rattle.sci_histories.specs.Rules.{EachReceipt, IsWithin, KeepsWithin}
 use Rattle.sci_histories.specs.Table.{IsFull, WritesAs}
 

@@ -1,16 +1,14 @@
 -- A list too short for the stamps that it is to have.
-use Rattle.std.proofs.Common.{◌≡◌, ◌⊎◌, inl, inr, ⊎_elim, ℕ, zero, suc, ◌+◌, ◌-◌, ◌<◌, ◌≤◌, List, [], ◌∷◌, ◌++◌, length, get_or, refl, sym, ap, subst, ◌∙◌, arith}
-use mathlib.Core.Logic.{dite}
+use Rattle.std.proofs.Common.{◌≡◌, ℕ, zero, suc, ◌+◌, ◌-◌, ◌<◌, ◌≤◌, List, [], ◌∷◌, ◌++◌, length, get_or, refl, sym, ap, subst, ◌∙◌, arith}
 use mathlib.Core.Option.{some, some-injective, some-ne-none}
-use native.Mathlib.Decide.{ℕ_discrete}
 use lib.ListN.{get_elem?}
 use Rattle.sci_core.specs.declared.receipts.Receipt.{Receipt}
 use Rattle.sci_core.specs.Legal.{stamp_of}
-use Rattle.sci_histories.specs.Histories.{LineReceipts, of_node}
+use Rattle.sci_histories.specs.Histories.{LineReceipts}
 use Rattle.sci_histories.specs.Rules.{KeepsWritten}
 use Rattle.std.proofs.Common.{length-append}
 use Rattle.std.proofs.lemmas.List.{length-map, take_all}
-use Rattle.std.proofs.Common.{map, take, drop}
+use Rattle.std.proofs.Common.{map, take}
 use Rattle.sci_histories.specs.Rooms.{room}
 
 -- the list without one place

@@ -32,7 +32,11 @@ fn judges(rt: &impl Abort, alloc: Global) -> Result<(), Fail> {
         assert!(rt; out.text() == b"legal\n");
         return Ok(());
     }
-    same(rt, &end, &Some(SimFault::Refused(ScriptRefusal::OutOfMemory)));
+    same(
+        rt,
+        &end,
+        &Some(SimFault::Refused(ScriptRefusal::OutOfMemory)),
+    );
     same(rt, &out.length, &0);
     let (end, out) = judged(alloc);
     same(rt, &end, &None);

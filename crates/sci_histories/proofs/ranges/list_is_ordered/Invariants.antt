@@ -1,4 +1,3 @@
-use Rattle.std.proofs.Common.{◌≤◌}
 use Rattle.sci_histories.proofs.Ordering.{AreBehind}
 use Rattle.sci_histories.proofs.ranges.list_is_ordered.Given as goal
 

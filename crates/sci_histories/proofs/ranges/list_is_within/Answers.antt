@@ -1,7 +1,6 @@
-use Rattle.std.proofs.Common.{ℕ, List, Option, [], true, is_some, None, arith, subst, sym, ap, rules, refl, length, get_or, ◌≡◌, ◌∙◌}
+use Rattle.std.proofs.Common.{[], arith, get_or}
 use Rattle.sci_core.specs.declared.receipts.Receipt.{Receipt}
 use Rattle.sci_core.specs.declared.receipts.Receipt.TheVariants.{Read}
-use Rattle.sci_histories.specs.Each.{Each}
 use Rattle.sci_histories.specs.Rules.{IsWithin}
 use Rattle.sci_histories.proofs.Places.{elem_or, looked_or, looked_each}
 use Rattle.sci_histories.proofs.ranges.list_is_within.Goals as goal

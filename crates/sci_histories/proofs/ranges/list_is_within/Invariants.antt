@@ -1,8 +1,7 @@
-use Rattle.std.proofs.Common.{◌≡◌, ◌<◌, ℕ, List}
+use Rattle.std.proofs.Common.{◌≡◌, ◌<◌, ℕ}
 use mathlib.Core.Option.{some}
 use lib.ListN.{get_elem?}
 use Rattle.sci_core.specs.declared.receipts.Receipt.{Receipt}
-use Rattle.sci_histories.specs.Each.{Each}
 use Rattle.sci_histories.specs.Rules.{IsWithin}
 use Rattle.sci_histories.proofs.ranges.list_is_within.Given as goal
 

@@ -1,4 +1,3 @@
-use Rattle.std.proofs.Common.{◌≡◌, ℕ, List, Some, Ok}
 use Rattle.sci_histories.proofs.Looping.{all_read}
 use Rattle.sci_histories.proofs.reader.parse.Goals as goal
 

@@ -1,4 +1,4 @@
-use Rattle.std.proofs.Common.{◌-◌, ◌+◌, [], ◌∷◌, length, arith, refl, length-append}
+use Rattle.std.proofs.Common.{◌-◌, ◌+◌, [], ◌∷◌, arith, refl, length-append}
 use Rattle.std.proofs.lemmas.Result.{err_from_is_err_and}
 use Rattle.sci_histories.specs.Reading.{lists_at}
 use Rattle.sci_histories.proofs.Looping.{list_more, list_fault, lists_done}

@@ -1,6 +1,6 @@
-use Rattle.std.proofs.Common.{◌-◌, ◌+◌, length, arith, rules, refl, sym, ◌∙◌}
+use Rattle.std.proofs.Common.{◌-◌, ◌+◌, length, arith, rules}
 use Rattle.sci_histories.specs.Reading.{receipts_at}
-use Rattle.sci_histories.proofs.Looping.{with_none, receipt_more, receipt_fault, receipts_other, receipts_done}
+use Rattle.sci_histories.proofs.Looping.{receipt_more, receipt_fault, receipts_other, receipts_done}
 use Rattle.sci_histories.proofs.reader.read_receipts.Goals as goal
 
 pub returns-then-not-begins : goal.returns-then-not-begins

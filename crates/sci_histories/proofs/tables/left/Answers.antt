@@ -1,6 +1,6 @@
 use Rattle.std.proofs.Common.{List, arith, ap, length}
 use Rattle.sci_core.specs.declared.receipts.Receipt.{Receipt}
-use Rattle.sci_histories.proofs.Rooms.{room_more, room_all}
+use Rattle.sci_histories.proofs.Rooms.{room_more}
 use Rattle.sci_histories.proofs.tables.left.Goals as goal
 
 pub loop-node-preserved : goal.loop-node-preserved
