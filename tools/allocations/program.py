@@ -27,6 +27,10 @@ HISTORY = (
     "scihistory 1 2 1\nline 0 0 0 0 0 0 0 0 0 0\nclosed 0 1 7 0 0 0 0 0 0 0\npassed 0 0 0 0 0 0 0 0 0 0\n"
     "wrote 0 1 7 0 0 0 0 0 0 0 over 0 0 0 0 0 0 0 0\nread 1 1 7 0 0 0 0 0 0 0\nend\n"
 )
+LOG = (
+    "memory 2 1\nopen 0 1 7 0 0 0 0 0 0 0\nnode 0 line 0 Queue(none) Done\nnode 0 line 0 PrependValid Done\n"
+    "node 0 line 0 ReturnMemory Done\nnode 0 line 0 Settle Done 1 7 0 0 0 0 0 0 0\n"
+)
 STENCIL = 'work = "stencil"\nnodes = 2\ncapacity = 1\nphases = 2\ncells = [0, 0, 0, 1, 0, 0, 0, 0, 0, 0, 2, 0, 0, 0]\n'
 RING = 'work = "ring"\nlines = 2\ncapacity = 1\nitems = [0, 3, 6]\n'
 COUNT = 'work = "count"\nnodes = 1\nadds = 2\ncapacity = 1\ndump = true\n'
@@ -66,6 +70,8 @@ RUNS = [
     ("check", DUMP.replace("ff0102", "ff0112"), 1, REFUSED, nothing),
     ("legal", HISTORY, 1, REFUSED, nothing),
     ("legal", HISTORY.replace("read 1 1 7", "read 1 1 8"), 1, REFUSED, nothing),
+    ("follow", LOG, 1, REFUSED, nothing),
+    ("follow", LOG.replace("Done 1 7", "Done 2 7"), 1, REFUSED, nothing),
     ("run", COUNT, 1, OR_NO_THREAD, nothing),
     ("run", STENCIL, 1, OR_NO_THREAD, nothing),
     ("run", RING, 1, OR_NO_THREAD, nothing),
