@@ -84,7 +84,8 @@ impl Node {
     pub fn open_call(&self) -> Option<OpenCall>
         ensures { result ≡ self.now.call }
     {
-        self.call
+        let open = self.call;
+        open
     }
 
     /// Opens a call. A request other than Evict makes its line the most recent; where it is new and the table full, the last

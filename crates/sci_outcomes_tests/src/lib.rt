@@ -1,5 +1,7 @@
-//! The tests of the search of turns.
+//! The tests of the search of turns, and of races.
 #![tactic(auto)]
 
+#[cfg(test)]
+mod races;
 #[cfg(test)]
 mod search;
