@@ -22,8 +22,8 @@ mod works;
 
 pub use checking::serve_check;
 pub use faults::SimFault;
-pub use legality::serve_legal;
 pub use following::serve_follow;
+pub use legality::serve_legal;
 pub use progress::Progress;
 pub use running::{serve_run, serve_run_by};
 pub use scripts::{Form, serve, serve_buffered, serve_draw, serve_script, serve_trace};

@@ -9,7 +9,8 @@ mod histories;
 use clap::{ArgMatches, Error, error};
 use commands::commands;
 use sci_serve::{
-    Form, Progress, SimFault, serve_buffered, serve_check, serve_follow, serve_legal, serve_run, serve_run_by, serve_talk,
+    Form, Progress, SimFault, serve_buffered, serve_check, serve_follow, serve_legal, serve_run,
+    serve_run_by, serve_talk,
 };
 use std::alloc::{AllocError, Global};
 use std::fs::File;
