@@ -31,7 +31,8 @@ def words(by):
 
 def line_of(by, nodes):
     """A legal line: its contents by stamp, and by node what it saw of them, in order."""
-    first, writes = by.choice((0, 5, MOST - 9)), by.randrange(6)
+    writes = by.randrange(6)
+    first = by.choice((0, 5, MOST - writes))
     contents = [words(by) for _ in range(writes + 1)]
     lists = [[] for _ in range(nodes)]
     for at, content in enumerate(contents):
@@ -115,11 +116,13 @@ def main():
     by = random.Random(int(GIVEN[1]) if GIVEN[1:] else 48)
     seen = []
     for _ in range(COUNT):
-        nodes, lines = by.randint(1, 4), by.randint(1, 3)
+        nodes, lines = by.choice((1, 2, 3, 4, 11)), by.randint(1, 3)
         made = [line_of(by, nodes) for _ in range(lines)]
         text = text_of(nodes, made)
-        change(by, by.choice(made))
-        changed = damaged(by, text_of(nodes, made))
+        changed = text
+        while changed == text:
+            change(by, by.choice(made))
+            changed = damaged(by, text_of(nodes, made))
         for it, wanted in ((text, "legal\n"), (changed, checker.verdict(changed))):
             told = said(it)
             seen.append(told == wanted)

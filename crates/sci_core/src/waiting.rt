@@ -130,8 +130,8 @@ impl<K: Keeps> Whole<K> {
         }
     }
 
-    /// Whom a node waits for: a node that isn't Idle and has to go on first. None exactly where the node is Idle, or makes an
-    /// exchange in its next turn if nobody comes between. A node before the list waits for who has memory's slot in hand; one in
+    /// Whom a node waits for: a node that isn't Idle and has to go on first. None exactly where the node is Idle or moves: then it
+    /// makes an exchange in its next turn if nobody comes between. A node before the list waits for who has memory's slot in hand; one in
     /// the list for who is due at the entry behind it, or, where that one was told that the node goes, in front of it. So
     /// nobody ever waits in a circle. This project's profile.
     pub fn waits_for(&self, node: NodeId) -> Option<NodeId>

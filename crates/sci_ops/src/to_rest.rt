@@ -18,7 +18,8 @@ use std::sync::ledger::Ledger;
 
 /// Takes turns of nodes that aren't Idle until every node is Idle, as for a checkpoint: of n nodes at most n * n + 9 * n. Each turn
 /// is a mover's (`Whole::mover`) and makes an exchange, as a load would take it, and is counted as one step. So nothing is written,
-/// and the line's value stays. Calls that are open stay open: a call whose step was taken so goes on from Idle later.
+/// and the line's value stays. Calls that are open stay open: a call whose step was taken so goes on from Idle later. No `Receipts` keep
+/// what these turns show.
 pub fn rest<K: Keeps, L: Ledger>(whole: &mut Whole<K>, steps: &mut Steps<L>)
     ensures rest { IsAtRest (state_of whole.new) }
     ensures bound { steps.new ≤ steps.old + (nodes_of whole.old * nodes_of whole.old + 9 * nodes_of whole.old) }
@@ -59,7 +60,8 @@ fn ended<K: Keeps, L: Ledger>(
 }
 
 /// `rest`, and then each operation that hasn't ended is taken to its end alone, in the order of their nodes: of n nodes at most
-/// n * n + 9 * n turns, and then 3 * n + 16 for each node. `ops` has the operation of each node. One that has ended stays as it is.
+/// n * n + 9 * n turns, and then 3 * n + 16 for each node, counted as steps. `ops` has the operation of each node. One that has ended
+/// stays as it is. No `Receipts` keep what these turns show.
 pub fn end<K: Keeps, L: Ledger>(whole: &mut Whole<K>, ops: &mut [Op], steps: &mut Steps<L>)
     requires count { length ops.old ≡ nodes_of whole.old }
     requires fit { (i : ℕ) → StoresFitting (K.fits whole.old.keep whole.old.number) (op_at ops.old i).goal }
