@@ -5,3 +5,9 @@
 mod checks;
 #[cfg(test)]
 mod follow;
+#[cfg(test)]
+mod reads;
+#[cfg(test)]
+mod serving;
+#[cfg(test)]
+mod texts;
