@@ -1,4 +1,6 @@
 //! What races come to. The numbers of states and of outcomes were counted on another model of the protocol.
+mod growths;
+
 use sci_endings::search_outcomes;
 use sci_outcomes::SearchRefusal;
 use sci_races::{Report, outcomes_text, race_after};
