@@ -29,7 +29,7 @@ fn judged(alloc: Global) -> (Option<SimFault>, Fixed) {
 fn judges(rt: &impl Abort, alloc: Global) -> Result<(), Fail> {
     let (end, out) = judged(alloc);
     if end.is_none() {
-        assert!(rt; out.text() == b"legal\n");
+        assert!(rt; out.text() == b"legal\n".as_slice());
         return Ok(());
     }
     same(
@@ -40,7 +40,7 @@ fn judges(rt: &impl Abort, alloc: Global) -> Result<(), Fail> {
     same(rt, &out.length, &0);
     let (end, out) = judged(alloc);
     same(rt, &end, &None);
-    assert!(rt; out.text() == b"legal\n");
+    assert!(rt; out.text() == b"legal\n".as_slice());
     Err(Fail::new("serve_legal answered 7"))
 }
 
