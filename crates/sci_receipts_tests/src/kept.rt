@@ -1,11 +1,11 @@
 //! Node 0 stores 7 in word 0 of a line of zeros, and then node 1 loads: their receipts, on each kind of line.
-ghost use Rattle.std.specs.Prelude.{◌≡◌, All, IfOk};
+ghost use Rattle.std.specs.Prelude.{IfSome};
 ghost use Rattle.sci_coarse.specs.Seats.{IsSeatOf as IsCoarseSeatOf};
 ghost use Rattle.sci_fine.specs.Seats.{IsSeatOf};
 
 use crate::checks::same;
 use sci_coarse::CoarseLine;
-use sci_core::{AnyWords, Line, OpenRefusal, Receipt, Whole};
+use sci_core::{AnyWords, Line, Receipt, Whole};
 use sci_fine::FineLine;
 use sci_ops::{Op, Turn};
 use sci_port::{Port, Receipted, Receipts, Solo};
@@ -121,40 +121,62 @@ fn receipts_on_a_line_that_is_lent(rt: HostRuntime) -> Result<(), Fail> {
     on_whole(&rt, rt.alloc(), &mut whole, 1)
 }
 
-// A line on separate words, and its seats.
-fn fine(alloc: Global) -> Result<(FineLine<AnyWords>, Vec<sci_fine::Seat<AnyWords>>), OpenRefusal>
-    ensures { IfOk result (λ r. All (λ s. IsSeatOf r.0 s) r.1.items) }
+// A line of two nodes on separate words, with its seats.
+fn fine_pair(
+    alloc: Global,
+) -> Option<
+    (
+        FineLine<AnyWords>,
+        sci_fine::Seat<AnyWords>,
+        sci_fine::Seat<AnyWords>,
+    ),
+>
+    ensures { IfSome result (λ r. IsSeatOf r.0 r.1 × IsSeatOf r.0 r.2) }
 {
-    let (line, seats) = FineLine::new(alloc, 2, 0, Line::ZERO, AnyWords)?;
-    Ok((line, seats))
+    let Ok((line, mut seats)) = FineLine::new(alloc, 2, 0, Line::ZERO, AnyWords) else {
+        return None;
+    };
+    let one = seats.pop()?;
+    let zero = seats.pop()?;
+    Some((line, zero, one))
 }
 
-// A line under a lock word, and its seats.
-fn coarse(
+// A line of two nodes under a lock word, with its seats.
+fn coarse_pair(
     alloc: Global,
-) -> Result<(CoarseLine<AnyWords>, Vec<sci_coarse::Seat<AnyWords>>), OpenRefusal>
-    ensures { IfOk result (λ r. All (λ s. IsCoarseSeatOf r.0 s) r.1.items) }
+) -> Option<
+    (
+        CoarseLine<AnyWords>,
+        sci_coarse::Seat<AnyWords>,
+        sci_coarse::Seat<AnyWords>,
+    ),
+>
+    ensures { IfSome result (λ r. IsCoarseSeatOf r.0 r.1 × IsCoarseSeatOf r.0 r.2) }
 {
-    let (line, seats) = CoarseLine::new(alloc, 2, 0, Line::ZERO, AnyWords)?;
-    Ok((line, seats))
+    let Ok((line, mut seats)) = CoarseLine::new(alloc, 2, 0, Line::ZERO, AnyWords) else {
+        return None;
+    };
+    let one = seats.pop()?;
+    let zero = seats.pop()?;
+    Some((line, zero, one))
 }
 
 #[test]
 fn receipts_on_a_line_on_separate_words(rt: HostRuntime) -> Result<(), Fail> {
-    let (line, mut seats) = fine(rt.alloc())?;
-    for seat in seats.iter_mut() {
-        keeps(&rt, rt.alloc(), &mut line.port(seat))?;
-    }
-    Ok(())
+    let Some((line, mut zero, mut one)) = fine_pair(rt.alloc()) else {
+        return Err(Fail::new("no line"));
+    };
+    keeps(&rt, rt.alloc(), &mut line.port(&mut zero))?;
+    keeps(&rt, rt.alloc(), &mut line.port(&mut one))
 }
 
 #[test]
 fn receipts_on_a_line_under_a_lock_word(rt: HostRuntime) -> Result<(), Fail> {
-    let (line, mut seats) = coarse(rt.alloc())?;
-    for seat in seats.iter_mut() {
-        keeps(&rt, rt.alloc(), &mut line.port(seat))?;
-    }
-    Ok(())
+    let Some((line, mut zero, mut one)) = coarse_pair(rt.alloc()) else {
+        return Err(Fail::new("no line"));
+    };
+    keeps(&rt, rt.alloc(), &mut line.port(&mut zero))?;
+    keeps(&rt, rt.alloc(), &mut line.port(&mut one))
 }
 
 // Where there is no room nothing is kept, and the operations go on.
