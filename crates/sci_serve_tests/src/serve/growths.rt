@@ -351,7 +351,7 @@ fn pushes(rt: &impl Abort, alloc: Global) -> Result<(), Fail> {
     }
 }
 
-/// Growths: 3 made up for, 1 of read_script, 12 of open, 5 of trace, 12 of open, 5 of draw, 1 of push_bytes.
+/// Growths: 3 made up for, 1 of read_script, 8 of open, 9 of trace, 8 of open, 9 of draw, 1 of push_bytes.
 #[test]
 fn refused_growths_of_traces(rt: HostRuntime) -> Result<(), Fail> {
     let Ok(script) = read_script(rt.alloc(), SCRIPT.as_bytes()) else {
@@ -387,7 +387,7 @@ fn logs_a_script(rt: &impl Abort, alloc: Global, script: &Script) -> Result<(), 
     }
 }
 
-/// Growths: 3 made up for, 1 of read_script, 11 of open, 5 of log.
+/// Growths: 3 made up for, 1 of read_script, 7 of open, 9 of log.
 #[test]
 fn refused_growths_of_logs(rt: HostRuntime) -> Result<(), Fail> {
     let Ok(script) = read_script(rt.alloc(), SCRIPT.as_bytes()) else {

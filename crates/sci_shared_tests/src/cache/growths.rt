@@ -122,7 +122,7 @@ fn waits_each<R: Abort + Wait>(rt: &R, alloc: Global) -> Result<(), Fail> {
     Ok(())
 }
 
-/// Growths: 6 of new, 10 of open, 2 of begin, 1 of resident, 4 of open, 6 of new, 1 of store, 1 of load, 1 of add, 1 of write_line.
+/// Growths: 2 of new, 10 of open, 6 of begin, 1 of resident, 4 of open, 2 of new, 5 of store, 1 of load, 1 of add, 1 of write_line.
 #[test]
 fn refused_growths(rt: HostRuntime) -> Result<(), Fail> {
     let alloc = rt.alloc();
