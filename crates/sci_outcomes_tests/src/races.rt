@@ -17,12 +17,8 @@ const COUNTED: [(&str, usize, usize); 4] = [
         639,
         5,
     ),
-    // three sharers: one stores, and two leave
-    (
-        "memory 3 1\nload 0 0 0\ndone 0\nload 1 0 0\ndone 1\nload 2 0 0\ndone 2\nstore 0 0 0 5\nevict 1 0\nevict 2 0\n",
-        681,
-        1,
-    ),
+    // nobody has the line, and three load: an outcome for each order of the list
+    ("memory 3 1\nload 0 0 0\nload 1 0 0\nload 2 0 0\n", 293, 6),
     // three sharers, and each stores
     (
         "memory 3 1\nload 0 0 0\ndone 0\nload 1 0 0\ndone 1\nload 2 0 0\ndone 2\nstore 0 0 0 5\nstore 1 0 0 6\nstore 2 0 0 7\n",
