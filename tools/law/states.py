@@ -24,8 +24,8 @@ each is for, and the signs used here. `x` is another node.
 
 ## Which row, by the pending step
 
-A number is the row's in the list below. An event that isn't named in a step isn't in turn there. Look is always allowed; where it isn't
-named it records nothing.
+A number is the row's in the list below. Where there is none, the event isn't in turn. Look is always allowed; where it has no number it
+records nothing.
 
 """
 LIST = """
@@ -45,10 +45,10 @@ miss. While memory is lent every event misses but ReturnMemory, which never miss
 TAGS = """
 ## On a tag
 
-The same by the kind of the tag that an exchange finds, the node's own or another's; the links must be the row's too. A
-held tag, with `+`, counts as another kind. An event that carries the tag that its node has loaded isn't in turn with another; with a
-right one it still misses where the tag has changed since. Whether a kind can be met there at all is a matter of the law: what a node's
-own tag is in each step stands in [PROTOCOL.md](PROTOCOL.md#pending-steps).
+The same by the kind of the tag that an exchange finds, the node's own or another's; the links must be the row's too. `+` is held. An
+event that carries the tag that its node has loaded isn't in turn with a tag of another kind (`-`); with a right one it still misses
+where the tag has changed since. Whether a kind can be met there at all is a matter of the law: what a node's own tag is in each step
+stands in [PROTOCOL.md](PROTOCOL.md#pending-steps).
 
 """
 
@@ -183,10 +183,11 @@ def grid(head, rows):
 
 
 def by_step():
-    """Pending steps: their events, with the numbers of the rows."""
-    numbers = lambda phase, event: [str(NUMBERS[row.name]) for row in ORDER if row.event == event and row.step[0] == phase]
-    events = lambda phase: [f'{event} {" or ".join(numbers(phase, event))}' for event in EVENTS if numbers(phase, event)]
-    return grid(['step', 'events in turn'], [[phase, ', '.join(events(phase))] for phase in STEP_FIELDS])
+    """Events and pending steps: the numbers of their rows."""
+    phases = list(STEP_FIELDS)
+    cells = lambda event: [', '.join(str(NUMBERS[row.name]) for row in ORDER if row.event == event and row.step[0] == phase)
+                           for phase in phases]
+    return grid(['event'] + phases, [[event] + cells(event) for event in EVENTS])
 
 
 def listed():
@@ -212,15 +213,16 @@ def by_memory():
 
 def by_tag():
     """The rows on a tag, by the kind that is found."""
+    columns = [(kind, held) for kind in KINDS for held in ([False, True] if kind in HOLDABLE else [False])]
     rows = []
     for row in ORDER:
         if not row.words:
             continue
         node, kinds, held = kinds_of(row)
-        found = ', '.join(kind + ('+' if held else '') for kind in KINDS if kind in kinds)
-        label = f'{NUMBERS[row.name]} {LABELS.get(row.name, row.event)}'
-        rows.append([label, ('own: ' if node == 'me' else 'x: ') + found, "isn't in turn" if row.event in FOUND else 'misses'])
-    return grid(['row', 'is made at', 'at another kind'], rows)
+        number, other = str(NUMBERS[row.name]), '-' if row.event in FOUND else 'miss'
+        cells = [number if kind in kinds and is_held == held else other for kind, is_held in columns]
+        rows.append([f'{number} {LABELS.get(row.name, row.event)}', 'own' if node == 'me' else 'x'] + cells)
+    return grid(['row', 'tag'] + [kind + ('+' if held else '') for kind, held in columns], rows)
 
 
 def page():
