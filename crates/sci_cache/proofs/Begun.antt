@@ -6,8 +6,10 @@ use Rattle.sci_ops.specs.Table.{begun}
 use Rattle.sci_cache.specs.declared.refusals.NodeRefusal.{NodeRefusal}
 use Rattle.sci_cache.specs.declared.requests.Request.{Request}
 use Rattle.sci_cache.specs.Requests.{line_of, goal_of, is_evict, has_bad_word}
-use Rattle.sci_cache.specs.Residents.{is_resident, used, displaced_by}
-use Rattle.sci_cache.specs.Nodes.{NodeState, node_state, node_with, refusal_of}
+use Rattle.sci_cache.specs.declared.calls.OpenCall.{OpenCall}
+use Rattle.sci_cache.specs.Residents.{is_resident, used, displaced_by, AreBelow}
+use Rattle.sci_cache.specs.Nodes.{NodeState, node_state, node_with, node_used, call_with, victim_with, residents_with, refusal_of, IsLine, IsSoundCall}
+use Rattle.sci_cache.proofs.Ordered.{below_displaced}
 
 if_so : {A : Type 0} (b : Bool) (x y : A) → b ≡ true → (if b then x else y) ≡ x
 if_so b x y h = ap (λ (a : Bool). if a then x else y) h
@@ -51,21 +53,35 @@ module _ (n now : NodeState) (view : n ≡ now) (r : Request) where
   had_memory {line = line} same other named (inr resident) =
       named (ap (λ (k : ℕ). is_resident k n.residents) same ∙ subst (λ (k : NodeState). is_resident (line_of r) k.residents ≡ true) (sym view) resident)
 
-  module _ (line : ℕ) (op : Operation) (same : line ≡ line_of r) (is : op ≡ begun (goal_of r)) where
-    evicts : is_evict r ≡ true → node_state n.id n.lines n.capacity n.residents (Some record { line = line; op = op; victim = None }) ≡ node_with n r
-    evicts h =
-        let residents : n.residents ≡ (if is_evict r then n.residents else used n.capacity (line_of r) n.residents) = sym (if_so (is_evict r) _ _ h) in
-        let victim : None ≡ (if is_evict r then None else displaced_by n.capacity (line_of r) n.residents) = sym (if_so (is_evict r) _ _ h) in
-        λ i. node_state n.id n.lines n.capacity (residents i) (Some record { line = same i; op = is i; victim = victim i })
+  sound_now : (c : OpenCall) → IsSoundCall n.lines (Some c) → IsSoundCall now.lines (Some c)
+  sound_now c h = subst (λ (k : NodeState). IsSoundCall k.lines (Some c)) view h
 
-    pub begun_evict : is_evict r ≡ true → node_state n.id n.lines n.capacity n.residents (Some record { line = line; op = op; victim = None }) ≡ node_with now r
-    begun_evict h = evicts h ∙ ap (λ (k : NodeState). node_with k r) view
+  pub used_evict : is_evict r ≡ true → now ≡ node_used now r
+  used_evict h = ap (λ (xs : List ℕ). record now { residents = xs }) (sym (if_so (is_evict r) now.residents _ h))
 
-    uses : (capacity : ℕ) (rs : List ℕ) (victim : Option ℕ) → is_evict r ≡ false → capacity ≡ n.capacity → rs ≡ used n.capacity line n.residents → victim ≡ displaced_by n.capacity line n.residents → node_state n.id n.lines capacity rs (Some record { line = line; op = op; victim = victim }) ≡ node_with n r
-    uses capacity rs victim h e f d =
-        let residents : rs ≡ (if is_evict r then n.residents else used n.capacity (line_of r) n.residents) = f ∙ ap (λ (k : ℕ). used n.capacity k n.residents) same ∙ sym (if_not (is_evict r) _ _ h) in
-        let out : victim ≡ (if is_evict r then None else displaced_by n.capacity (line_of r) n.residents) = d ∙ ap (λ (k : ℕ). displaced_by n.capacity k n.residents) same ∙ sym (if_not (is_evict r) _ _ h) in
-        λ i. node_state n.id n.lines (e i) (residents i) (Some record { line = same i; op = is i; victim = out i })
+  module _ (line : ℕ) (op : Operation) (same : line ≡ line_of r) (is : op ≡ begun (goal_of r)) (inside : line < n.lines) where
+    pub sound_evict : IsSoundCall now.lines (Some record { line = line; op = op; victim = None })
+    sound_evict = sound_now record { line = line; op = op; victim = None } (inside, ap (λ (o : Operation). o.answer) is, tt)
 
-    pub begun_used : (capacity : ℕ) (rs : List ℕ) (victim : Option ℕ) → is_evict r ≡ false → capacity ≡ n.capacity → rs ≡ used n.capacity line n.residents → victim ≡ displaced_by n.capacity line n.residents → node_state n.id n.lines capacity rs (Some record { line = line; op = op; victim = victim }) ≡ node_with now r
-    begun_used capacity rs victim h e f d = uses capacity rs victim h e f d ∙ ap (λ (k : NodeState). node_with k r) view
+    pub call_evict : is_evict r ≡ true → record { line = line; op = op; victim = None } ≡ call_with now r
+    call_evict h =
+        let victim : None ≡ victim_with now r = sym (if_so (is_evict r) _ _ h) in
+        λ i. record { line = same i; op = is i; victim = victim i }
+
+    module _ (other : is_evict r ≡ false) where
+      pub sound_used : (victim : Option ℕ) → victim ≡ displaced_by n.capacity line n.residents → AreBelow n.lines n.residents → IsSoundCall now.lines (Some record { line = line; op = op; victim = victim })
+      sound_used victim d below = sound_now record { line = line; op = op; victim = victim } (inside, ap (λ (o : Operation). o.answer) is, subst (λ (o : Option ℕ). IsLine n.lines o) (sym d) (below_displaced n.lines line n.capacity n.residents below))
+
+      pub call_used : (victim : Option ℕ) → victim ≡ displaced_by n.capacity line n.residents → record { line = line; op = op; victim = victim } ≡ call_with now r
+      call_used victim d =
+          let out : victim ≡ victim_with n r = d ∙ ap (λ (k : ℕ). displaced_by n.capacity k n.residents) same ∙ sym (if_not (is_evict r) _ _ other) in
+          (λ i. record { line = same i; op = is i; victim = out i }) ∙ ap (λ (k : NodeState). call_with k r) view
+
+      pub used_line : (capacity : ℕ) (xs : List ℕ) → capacity ≡ n.capacity → xs ≡ used n.capacity line n.residents → node_state n.id n.lines capacity xs n.call ≡ node_used now r
+      used_line capacity xs e f =
+          let all : xs ≡ residents_with n r = f ∙ ap (λ (k : ℕ). used n.capacity k n.residents) same ∙ sym (if_not (is_evict r) _ _ other) in
+          (λ i. node_state n.id n.lines (e i) (all i) n.call) ∙ ap (λ (k : NodeState). node_used k r) view
+
+-- the call that was made is opened
+pub opened : (n m : NodeState) (r : Request) (c : OpenCall) → m ≡ node_used n r → c ≡ call_with n r → record m { call = Some c } ≡ node_with n r
+opened n m r c h g = λ i. record (h i) { call = Some (g i) }

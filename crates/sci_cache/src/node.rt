@@ -40,7 +40,7 @@ impl Model for Node {
 
 impl Node {
     ghost use Rattle.sci_core.specs.declared.pending.Pending.TheVariants.{Idle};
-    ghost use Rattle.sci_cache.specs.Nodes.{node_state, refusal_of, IsRefused, node_with, TurnsBy, line_by, ShowsAnswerTo, IsIdleBut, IsSameNode};
+    ghost use Rattle.sci_cache.specs.Nodes.{node_state, refusal_of, IsRefused, IsSoundCall, call_with, node_used, node_closed, node_with, TurnsBy, line_by, ShowsAnswerTo, IsIdleBut, IsSameNode};
 
     /// A node of a memory of so many lines, which names up to `capacity` of them and has used none. The refusals: 13 for a
     /// capacity of 0 or more than 1,024, then 7.
@@ -100,6 +100,27 @@ impl Node {
         ensures same_node { IsSameNode self.old self.new }
         ensures succeeds { refusal_of self.old request ≡ None → (is_evict request ≡ true) ⊎ (is_resident (line_of request) self.old.residents ≡ true) → IsOk result }
     {
+        match self.admit(request) {
+            Ok(call) => {
+                self.call = Some(call);
+                Ok(())
+            }
+            Err(refusal) => Err(refusal),
+        }
+    }
+
+    // The call that a request makes, not open yet. The refusals are those of `begin`.
+    #[inline(always)]
+    pub(crate) fn admit(&mut self, request: Request) -> Result<OpenCall, NodeRefusal>
+        ensures refused { IfErr result (IsRefused self.old request) }
+        ensures accepted { OnOk result (refusal_of self.old request ≡ None) }
+        ensures call { IfOk result (λ c. c ≡ call_with self.old request) }
+        ensures sound { IfOk result (λ c. IsSoundCall self.old.lines (Some c)) }
+        ensures used { OnOk result (self.new ≡ node_used self.old request) }
+        ensures same { OnErr result (self.new ≡ self.old) }
+        ensures same_node { IsSameNode self.old self.new }
+        ensures succeeds { refusal_of self.old request ≡ None → (is_evict request ≡ true) ⊎ (is_resident (line_of request) self.old.residents ≡ true) → IsOk result }
+    {
         if self.call.is_some() {
             return Err(NodeRefusal::CallOpen);
         }
@@ -112,14 +133,23 @@ impl Node {
         };
         if request.is_evict() {
             let victim = None;
-            self.call = Some(OpenCall { line, op, victim });
-            return Ok(());
+            return Ok(OpenCall { line, op, victim });
         }
         let Ok(victim) = make_recent(&mut self.table, line) else {
             return Err(NodeRefusal::OutOfMemory);
         };
-        self.call = Some(OpenCall { line, op, victim });
-        Ok(())
+        Ok(OpenCall { line, op, victim })
+    }
+
+    // Ends a call that was never opened: an eviction takes its line out.
+    #[inline(always)]
+    pub(crate) fn close(&mut self, request: &Request)
+        ensures closed { self.new ≡ node_closed self.old request.now }
+        ensures same_node { IsSameNode self.old self.new }
+    {
+        if request.is_evict() {
+            take_out(&mut self.table, request.line());
+        }
     }
 
     /// One turn of the open call: of the victim's eviction, as long as there is one, whose end is Moved, and then of the
