@@ -40,7 +40,7 @@ impl Model for Node {
 
 impl Node {
     ghost use Rattle.sci_core.specs.declared.pending.Pending.TheVariants.{Idle};
-    ghost use Rattle.sci_cache.specs.Nodes.{node_state, refusal_of, IsRefused, IsSoundCall, call_with, node_used, node_closed, node_with, TurnsBy, line_by, ShowsAnswerTo, IsIdleBut, IsSameNode};
+    ghost use Rattle.sci_cache.specs.Nodes.{node_state, refusal_of, IsRefused, IsSoundCall, call_with, victim_with, node_used, node_closed, node_with, TurnsBy, line_by, ShowsAnswerTo, IsIdleBut, IsSameNode};
 
     /// A node of a memory of so many lines, which names up to `capacity` of them and has used none. The refusals: 13 for a
     /// capacity of 0 or more than 1,024, then 7.
@@ -100,26 +100,27 @@ impl Node {
         ensures same_node { IsSameNode self.old self.new }
         ensures succeeds { refusal_of self.old request ≡ None → (is_evict request ≡ true) ⊎ (is_resident (line_of request) self.old.residents ≡ true) → IsOk result }
     {
-        match self.admit(request) {
-            Ok(call) => {
-                self.call = Some(call);
-                Ok(())
-            }
-            Err(refusal) => Err(refusal),
-        }
+        let victim = match self.admit(&request) {
+            Ok(victim) => victim,
+            Err(refusal) => return Err(refusal),
+        };
+        let line = request.line();
+        let Ok(op) = request.op() else { unreachable!() };
+        self.call = Some(OpenCall { line, op, victim });
+        Ok(())
     }
 
-    // The call that a request makes, not open yet. The refusals are those of `begin`.
+    // Makes a request's line the most recent: the line that this puts out. The refusals are those of `begin`.
     #[inline(always)]
-    pub(crate) fn admit(&mut self, request: Request) -> Result<OpenCall, NodeRefusal>
-        ensures refused { IfErr result (IsRefused self.old request) }
-        ensures accepted { OnOk result (refusal_of self.old request ≡ None) }
-        ensures call { IfOk result (λ c. c ≡ call_with self.old request) }
-        ensures sound { IfOk result (λ c. IsSoundCall self.old.lines (Some c)) }
-        ensures used { OnOk result (self.new ≡ node_used self.old request) }
+    pub(crate) fn admit(&mut self, request: &Request) -> Result<Option<LineNo>, NodeRefusal>
+        ensures refused { IfErr result (IsRefused self.old request.now) }
+        ensures accepted { OnOk result (refusal_of self.old request.now ≡ None) }
+        ensures victim { IfOk result (λ v. v ≡ victim_with self.old request.now) }
+        ensures sound { OnOk result (IsSoundCall self.old.lines (Some (call_with self.old request.now))) }
+        ensures used { OnOk result (self.new ≡ node_used self.old request.now) }
         ensures same { OnErr result (self.new ≡ self.old) }
         ensures same_node { IsSameNode self.old self.new }
-        ensures succeeds { refusal_of self.old request ≡ None → (is_evict request ≡ true) ⊎ (is_resident (line_of request) self.old.residents ≡ true) → IsOk result }
+        ensures succeeds { refusal_of self.old request.now ≡ None → (is_evict request.now ≡ true) ⊎ (is_resident (line_of request.now) self.old.residents ≡ true) → IsOk result }
     {
         if self.call.is_some() {
             return Err(NodeRefusal::CallOpen);
@@ -128,17 +129,16 @@ impl Node {
         if line >= self.lines {
             return Err(NodeRefusal::BadLine);
         }
-        let Ok(op) = request.op() else {
+        let Ok(_) = request.op() else {
             return Err(NodeRefusal::BadWord);
         };
         if request.is_evict() {
-            let victim = None;
-            return Ok(OpenCall { line, op, victim });
+            return Ok(None);
         }
         let Ok(victim) = make_recent(&mut self.table, line) else {
             return Err(NodeRefusal::OutOfMemory);
         };
-        Ok(OpenCall { line, op, victim })
+        Ok(victim)
     }
 
     // Ends a call that was never opened: an eviction takes its line out.

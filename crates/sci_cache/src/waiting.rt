@@ -62,13 +62,15 @@ impl Node {
         requires fits { StoresFitting (B.Keep.fits (B.keep bank.old) (line_of request)) (goal_of request) }
         ensures { HasCalled B.way B.nodes_on B.keep B.Keep.fits B.gives B.at_step self.old request bank.old result bank.new self.new }
     {
-        let call = match self.admit(request) {
-            Ok(call) => call,
+        let victim = match self.admit(&request) {
+            Ok(victim) => victim,
             Err(refusal) => return Err(refusal),
         };
-        make_way(rt, bank, call.victim);
-        let line = call.line;
-        let mut op = call.op;
+        make_way(rt, bank, victim);
+        let line = request.line();
+        let Ok(mut op) = request.op() else {
+            unreachable!()
+        };
         let backoff = Backoff::new();
         for _ in rt.forever() {
             match turn_at(bank, line, &mut op) {
