@@ -6,8 +6,9 @@ use Rattle.sci_ops.specs.Table.{begun}
 use Rattle.sci_cache.specs.declared.refusals.NodeRefusal.{NodeRefusal}
 use Rattle.sci_cache.specs.declared.requests.Request.{Request}
 use Rattle.sci_cache.specs.Requests.{line_of, goal_of, is_evict, has_bad_word}
-use Rattle.sci_cache.specs.Residents.{is_resident, used, displaced_by}
-use Rattle.sci_cache.specs.Nodes.{NodeState, node_state, node_with, refusal_of}
+use Rattle.sci_cache.specs.Residents.{is_resident, used, displaced_by, AreBelow}
+use Rattle.sci_cache.specs.Nodes.{NodeState, node_state, node_with, node_used, call_with, victim_with, residents_with, refusal_of, IsLine, IsSoundCall}
+use Rattle.sci_cache.proofs.Ordered.{below_displaced}
 
 if_so : {A : Type 0} (b : Bool) (x y : A) → b ≡ true → (if b then x else y) ≡ x
 if_so b x y h = ap (λ (a : Bool). if a then x else y) h
@@ -51,21 +52,45 @@ module _ (n now : NodeState) (view : n ≡ now) (r : Request) where
   had_memory {line = line} same other named (inr resident) =
       named (ap (λ (k : ℕ). is_resident k n.residents) same ∙ subst (λ (k : NodeState). is_resident (line_of r) k.residents ≡ true) (sym view) resident)
 
-  module _ (line : ℕ) (op : Operation) (same : line ≡ line_of r) (is : op ≡ begun (goal_of r)) where
-    evicts : is_evict r ≡ true → node_state n.id n.lines n.capacity n.residents (Some record { line = line; op = op; victim = None }) ≡ node_with n r
-    evicts h =
-        let residents : n.residents ≡ (if is_evict r then n.residents else used n.capacity (line_of r) n.residents) = sym (if_so (is_evict r) _ _ h) in
-        let victim : None ≡ (if is_evict r then None else displaced_by n.capacity (line_of r) n.residents) = sym (if_so (is_evict r) _ _ h) in
-        λ i. node_state n.id n.lines n.capacity (residents i) (Some record { line = same i; op = is i; victim = victim i })
+  pub used_evict : is_evict r ≡ true → now ≡ node_used now r
+  used_evict h = ap (λ (xs : List ℕ). record now { residents = xs }) (sym (if_so (is_evict r) now.residents _ h))
 
-    pub begun_evict : is_evict r ≡ true → node_state n.id n.lines n.capacity n.residents (Some record { line = line; op = op; victim = None }) ≡ node_with now r
-    begun_evict h = evicts h ∙ ap (λ (k : NodeState). node_with k r) view
+  pub victim_evict : is_evict r ≡ true → None ≡ victim_with now r
+  victim_evict h = sym (if_so (is_evict r) _ _ h)
 
-    uses : (capacity : ℕ) (rs : List ℕ) (victim : Option ℕ) → is_evict r ≡ false → capacity ≡ n.capacity → rs ≡ used n.capacity line n.residents → victim ≡ displaced_by n.capacity line n.residents → node_state n.id n.lines capacity rs (Some record { line = line; op = op; victim = victim }) ≡ node_with n r
-    uses capacity rs victim h e f d =
-        let residents : rs ≡ (if is_evict r then n.residents else used n.capacity (line_of r) n.residents) = f ∙ ap (λ (k : ℕ). used n.capacity k n.residents) same ∙ sym (if_not (is_evict r) _ _ h) in
-        let out : victim ≡ (if is_evict r then None else displaced_by n.capacity (line_of r) n.residents) = d ∙ ap (λ (k : ℕ). displaced_by n.capacity k n.residents) same ∙ sym (if_not (is_evict r) _ _ h) in
-        λ i. node_state n.id n.lines (e i) (residents i) (Some record { line = same i; op = is i; victim = out i })
+  -- the call that it makes is sound, since its line and its victim are
+  sound_by : line_of r < n.lines → IsLine n.lines (victim_with n r) → IsSoundCall now.lines (Some (call_with now r))
+  sound_by inside victim = subst (λ (k : NodeState). IsSoundCall k.lines (Some (call_with k r))) view (inside, refl, victim)
 
-    pub begun_used : (capacity : ℕ) (rs : List ℕ) (victim : Option ℕ) → is_evict r ≡ false → capacity ≡ n.capacity → rs ≡ used n.capacity line n.residents → victim ≡ displaced_by n.capacity line n.residents → node_state n.id n.lines capacity rs (Some record { line = line; op = op; victim = victim }) ≡ node_with now r
-    begun_used capacity rs victim h e f d = uses capacity rs victim h e f d ∙ ap (λ (k : NodeState). node_with k r) view
+  pub sound_evict : is_evict r ≡ true → line_of r < n.lines → IsSoundCall now.lines (Some (call_with now r))
+  sound_evict h inside = sound_by inside (subst (λ (o : Option ℕ). IsLine n.lines o) (sym (if_so (is_evict r) _ _ h)) tt)
+
+  pub sound_used : is_evict r ≡ false → line_of r < n.lines → AreBelow n.lines n.residents → IsSoundCall now.lines (Some (call_with now r))
+  sound_used other inside below = sound_by inside (subst (λ (o : Option ℕ). IsLine n.lines o) (sym (if_not (is_evict r) _ _ other)) (below_displaced n.lines (line_of r) n.capacity n.residents below))
+
+  module _ (line : ℕ) (same : line ≡ line_of r) (other : is_evict r ≡ false) where
+    pub victim_used : (victim : Option ℕ) → victim ≡ displaced_by n.capacity line n.residents → victim ≡ victim_with now r
+    victim_used victim d = d ∙ ap (λ (k : ℕ). displaced_by n.capacity k n.residents) same ∙ sym (if_not (is_evict r) _ _ other) ∙ ap (λ (k : NodeState). victim_with k r) view
+
+    pub used_line : (capacity : ℕ) (xs : List ℕ) → capacity ≡ n.capacity → xs ≡ used n.capacity line n.residents → node_state n.id n.lines capacity xs n.call ≡ node_used now r
+    used_line capacity xs e f =
+        let all : xs ≡ residents_with n r = f ∙ ap (λ (k : ℕ). used n.capacity k n.residents) same ∙ sym (if_not (is_evict r) _ _ other) in
+        (λ i. node_state n.id n.lines (e i) (all i) n.call) ∙ ap (λ (k : NodeState). node_used k r) view
+
+none_bad : (a b d : Bool) → ◌≡◌ {A = Option NodeRefusal} (if a then Some NodeRefusal.CallOpen else (if b then Some NodeRefusal.BadLine else (if d then Some NodeRefusal.BadWord else None))) None → d ≡ true → ⊥
+none_bad true b d h is = let e = h in cc
+none_bad false true d h is = let e = h in cc
+none_bad false false true h is = let e = h in cc
+none_bad false false false h is = let e = is in cc
+
+-- a request that is accepted names a word
+pub has_word : (n : NodeState) (r : Request) → refusal_of n r ≡ None → has_bad_word r ≡ true → ⊥
+has_word n r h is = none_bad (is_some n.call) (not (nat_lt (line_of r) n.lines)) (has_bad_word r) h is
+
+module _ (n : NodeState) (r : Request) (line : ℕ) (op : Operation) (victim : Option ℕ) (same : line ≡ line_of r) (is : op ≡ begun (goal_of r)) (out : victim ≡ victim_with n r) where
+  pub call_made : record { line = line; op = op; victim = victim } ≡ call_with n r
+  call_made = λ i. record { line = same i; op = is i; victim = out i }
+
+  -- that call is opened
+  pub opened : (m : NodeState) → m ≡ node_used n r → record m { call = Some record { line = line; op = op; victim = victim } } ≡ node_with n r
+  opened m h = λ i. record (h i) { call = Some (call_made i) }

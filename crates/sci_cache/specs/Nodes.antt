@@ -61,9 +61,17 @@ residents_with n r = if is_evict r then n.residents else used n.capacity (line_o
 abbrev pub victim_with : NodeState → Request → Option ℕ
 victim_with n r = if is_evict r then None else displaced_by n.capacity (line_of r) n.residents
 
+-- the call that a request makes
+abbrev pub call_with : NodeState → Request → OpenCall
+call_with n r = record { line = line_of r; op = begun (goal_of r); victim = victim_with n r }
+
+-- the node that has used the request's line
+abbrev pub node_used : NodeState → Request → NodeState
+node_used n r = record n { residents = residents_with n r }
+
 -- the node with the request as its open call
 abbrev pub node_with : NodeState → Request → NodeState
-node_with n r = record n { residents = residents_with n r; call = Some record { line = line_of r; op = begun (goal_of r); victim = victim_with n r } }
+node_with n r = record n { residents = residents_with n r; call = Some (call_with n r) }
 
 -- the line at work, and what is done there: first the victim is evicted
 abbrev pub line_by : Option ℕ → ℕ → ℕ
@@ -104,6 +112,10 @@ node_after n c turn = record n { residents = residents_after c c.victim turn n.r
 -- the request is refused with this, for want of memory where nothing else stands against it
 abbrev pub IsRefused : NodeState → Request → NodeRefusal → Type 0
 IsRefused n r e = (refusal_of n r ≡ Some e) ⊎ ((refusal_of n r ≡ None) × (e ≡ NodeRefusal.OutOfMemory))
+
+-- the node where an eviction's line was taken out
+abbrev pub node_closed : NodeState → Request → NodeState
+node_closed n r = record n { residents = (if is_evict r then without (line_of r) n.residents else n.residents) }
 
 -- the node where the request has ended
 abbrev pub node_ended : NodeState → Request → NodeState

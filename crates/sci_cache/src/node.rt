@@ -40,7 +40,7 @@ impl Model for Node {
 
 impl Node {
     ghost use Rattle.sci_core.specs.declared.pending.Pending.TheVariants.{Idle};
-    ghost use Rattle.sci_cache.specs.Nodes.{node_state, refusal_of, IsRefused, node_with, TurnsBy, line_by, ShowsAnswerTo, IsIdleBut, IsSameNode};
+    ghost use Rattle.sci_cache.specs.Nodes.{node_state, refusal_of, IsRefused, IsSoundCall, call_with, victim_with, node_used, node_closed, node_with, TurnsBy, line_by, ShowsAnswerTo, IsIdleBut, IsSameNode};
 
     /// A node of a memory of so many lines, which names up to `capacity` of them and has used none. The refusals: 13 for a
     /// capacity of 0 or more than 1,024, then 7.
@@ -100,6 +100,28 @@ impl Node {
         ensures same_node { IsSameNode self.old self.new }
         ensures succeeds { refusal_of self.old request ≡ None → (is_evict request ≡ true) ⊎ (is_resident (line_of request) self.old.residents ≡ true) → IsOk result }
     {
+        let victim = match self.admit(&request) {
+            Ok(victim) => victim,
+            Err(refusal) => return Err(refusal),
+        };
+        let line = request.line();
+        let Ok(op) = request.op() else { unreachable!() };
+        self.call = Some(OpenCall { line, op, victim });
+        Ok(())
+    }
+
+    // Makes a request's line the most recent: the line that this puts out. The refusals are those of `begin`.
+    #[inline(always)]
+    pub(crate) fn admit(&mut self, request: &Request) -> Result<Option<LineNo>, NodeRefusal>
+        ensures refused { IfErr result (IsRefused self.old request.now) }
+        ensures accepted { OnOk result (refusal_of self.old request.now ≡ None) }
+        ensures victim { IfOk result (λ v. v ≡ victim_with self.old request.now) }
+        ensures sound { OnOk result (IsSoundCall self.old.lines (Some (call_with self.old request.now))) }
+        ensures used { OnOk result (self.new ≡ node_used self.old request.now) }
+        ensures same { OnErr result (self.new ≡ self.old) }
+        ensures same_node { IsSameNode self.old self.new }
+        ensures succeeds { refusal_of self.old request.now ≡ None → (is_evict request.now ≡ true) ⊎ (is_resident (line_of request.now) self.old.residents ≡ true) → IsOk result }
+    {
         if self.call.is_some() {
             return Err(NodeRefusal::CallOpen);
         }
@@ -107,19 +129,27 @@ impl Node {
         if line >= self.lines {
             return Err(NodeRefusal::BadLine);
         }
-        let Ok(op) = request.op() else {
+        let Ok(_) = request.op() else {
             return Err(NodeRefusal::BadWord);
         };
         if request.is_evict() {
-            let victim = None;
-            self.call = Some(OpenCall { line, op, victim });
-            return Ok(());
+            return Ok(None);
         }
         let Ok(victim) = make_recent(&mut self.table, line) else {
             return Err(NodeRefusal::OutOfMemory);
         };
-        self.call = Some(OpenCall { line, op, victim });
-        Ok(())
+        Ok(victim)
+    }
+
+    // Ends a call that was never opened: an eviction takes its line out.
+    #[inline(always)]
+    pub(crate) fn close(&mut self, request: &Request)
+        ensures closed { self.new ≡ node_closed self.old request.now }
+        ensures same_node { IsSameNode self.old self.new }
+    {
+        if request.is_evict() {
+            take_out(&mut self.table, request.line());
+        }
     }
 
     /// One turn of the open call: of the victim's eviction, as long as there is one, whose end is Moved, and then of the

@@ -1,23 +1,55 @@
 //! Calls of a node that wait for their end.
-ghost use Rattle.std.specs.Prelude.{◌≡◌};
+ghost use Rattle.std.specs.Prelude.{◌≡◌, ◌<◌, Some};
 ghost use Rattle.sci_ops.specs.declared.goals.Goal as goal;
 ghost use Rattle.sci_ops.specs.declared.goals.Write as write;
 ghost use Rattle.sci_ops.specs.Change.{StoresFitting};
 ghost use Rattle.sci_cache.specs.declared.requests.Request as request;
 ghost use Rattle.sci_cache.specs.Requests.{line_of, goal_of};
-ghost use Rattle.sci_cache.specs.Called.{HasCalled};
+ghost use Rattle.sci_cache.specs.Called.{HasCalled, HasMadeWay};
+ghost use Rattle.sci_cache.specs.Nodes.{IsLine};
 
 use crate::node::Node;
+use crate::ports::turn_at;
 use crate::refusals::NodeRefusal;
 use crate::requests::Request;
 use crossbeam_utils::Backoff;
-use sci_ops::{Answer, Turn};
+use sci_ops::{Answer, Op, Turn};
 use sci_port::Bank;
 use sci_words::LineNo;
 use std::sync::Wait;
 
+// Leaves the list of a line that the node puts out.
+#[inline(never)]
+fn leave<B: Bank, R: Wait>(rt: &R, bank: &mut B, victim: LineNo)
+    requires line { victim < (B.way bank.old).lines }
+    ensures { HasMadeWay B.way B.nodes_on B.keep B.gives B.at_step (Some victim) bank.old bank.new }
+{
+    let mut op = Op::evict();
+    let backoff = Backoff::new();
+    for _ in rt.forever() {
+        match turn_at(bank, victim, &mut op) {
+            Turn::Done(_) => return,
+            Turn::Moved => backoff.reset(),
+            Turn::Waiting => backoff.snooze(),
+        }
+    }
+    unreachable!()
+}
+
+// The same, where there is one.
+#[inline(always)]
+fn make_way<B: Bank, R: Wait>(rt: &R, bank: &mut B, victim: Option<LineNo>)
+    requires line { IsLine (B.way bank.old).lines victim }
+    ensures { HasMadeWay B.way B.nodes_on B.keep B.gives B.at_step victim bank.old bank.new }
+{
+    let Some(victim) = victim else {
+        return;
+    };
+    leave(rt, bank, victim);
+}
+
 impl Node {
-    // Begins a call, and takes its turns to the end.
+    // Takes a call's turns to the end. Its operation stays here, and the node has no call open.
     #[inline(always)]
     fn call<B: Bank, R: Wait>(
         &mut self,
@@ -30,17 +62,25 @@ impl Node {
         requires fits { StoresFitting (B.Keep.fits (B.keep bank.old) (line_of request)) (goal_of request) }
         ensures { HasCalled B.way B.nodes_on B.keep B.Keep.fits B.gives B.at_step self.old request bank.old result bank.new self.new }
     {
-        if let Err(refusal) = self.begin(request) {
-            return Err(refusal);
-        }
+        let victim = match self.admit(&request) {
+            Ok(victim) => victim,
+            Err(refusal) => return Err(refusal),
+        };
+        make_way(rt, bank, victim);
+        let line = request.line();
+        let Ok(mut op) = request.op() else {
+            unreachable!()
+        };
         let backoff = Backoff::new();
         for _ in rt.forever() {
-            match self.turn(bank) {
-                Ok(Turn::Done(Answer::Spent)) => return Err(NodeRefusal::StampsSpent),
-                Ok(Turn::Done(answer)) => return Ok(answer),
-                Ok(Turn::Moved) => backoff.reset(),
-                Ok(Turn::Waiting) => backoff.snooze(),
-                Err(_) => unreachable!(),
+            match turn_at(bank, line, &mut op) {
+                Turn::Done(Answer::Spent) => return Err(NodeRefusal::StampsSpent),
+                Turn::Done(answer) => {
+                    self.close(&request);
+                    return Ok(answer);
+                }
+                Turn::Moved => backoff.reset(),
+                Turn::Waiting => backoff.snooze(),
             }
         }
         unreachable!()

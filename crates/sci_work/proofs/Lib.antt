@@ -17,5 +17,6 @@ pub mod Rests
 pub mod Seated
 pub mod Sharing
 pub mod Showing
+pub mod Watched
 pub mod Words
 pub mod Worked

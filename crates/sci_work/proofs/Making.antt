@@ -8,7 +8,7 @@ use Rattle.sci_ops.specs.declared.answers.Answer.{Answer}
 use Rattle.sci_cache.specs.declared.refusals.NodeRefusal.{NodeRefusal}
 use Rattle.sci_cache.specs.declared.requests.Request.{Request}
 use Rattle.sci_cache.specs.Nodes.{NodeState, Waits, IsSameNode}
-use Rattle.sci_work.specs.Made.{IsBankOf, IsStillBankOf, Made, none, load, write, refused}
+use Rattle.sci_work.specs.Made.{IsBankOf, IsStillBankOf, Made, none, look, load, write, refused}
 
 pub on_err : {A E X : Type 0} → (r : Result A E) → X → OnErr r X
 on_err (Ok a) x = tt
@@ -42,6 +42,7 @@ module _ {U : Type 0} (gives : U → ℕ → Call → U → Type 0) (step : U �
   -- what was done, and then more
   pub made_all : {xs ws : List (ℕ × List ℕ)} {n k m : NodeState} {u w v : U} → Made gives step ws n u k w → Made gives step xs k w m v → Made gives step (xs ++ ws) n u m v
   made_all a none = a
+  made_all a (look line tag b h) = look line tag (made_all a b) h
   made_all a (load line result b h) = load line result (made_all a b) h
   made_all a (write line words answer b h) = write line words answer (made_all a b) h
   made_all a (refused line words refusal b h) = refused line words refusal (made_all a b) h

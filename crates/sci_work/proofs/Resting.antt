@@ -1,14 +1,17 @@
 -- Who has made calls that waited is Idle on every line again.
-use Rattle.std.proofs.Common.{◌≡◌, ◌≢◌, ℕ, None, List, []}
+use Rattle.std.proofs.Common.{◌≡◌, ◌≢◌, ℕ, inl, inr, Option, Some, None, List, [], ap, ◌∙◌}
+use Rattle.std.proofs.lemmas.Bool.{cases_eq}
+use Rattle.sci_words.specs.declared.tags.Tag.{Tag}
 use Rattle.sci_core.specs.declared.pending.Pending.{Pending}
 use Rattle.sci_port.specs.declared.calls.Call.{Call}
+use Rattle.sci_port.specs.declared.calls.Call.TheVariants.{Own}
 use Rattle.sci_port.specs.Banks.{BankWay}
-use Rattle.sci_port.specs.Owes.{Owes}
+use Rattle.sci_port.specs.Owes.{Owes, look_by}
 use Rattle.std.specs.Prelude.{Result, Ok, Err, OnOk, OnErr}
 use Rattle.sci_cache.specs.declared.requests.Request.{Request}
 use Rattle.sci_cache.specs.Nodes.{NodeState}
-use Rattle.sci_work.specs.Made.{IsStillBankOf, Made, none, load, write, refused}
-use Rattle.sci_work.specs.Workers.{HasWorked, IsReady, Led, stays}
+use Rattle.sci_work.specs.Made.{IsStillBankOf, Made, none, look, load, write, refused}
+use Rattle.sci_work.specs.Workers.{HasWorked, IsReady, Led, goes, stays}
 use Rattle.sci_work.proofs.Calling.{call_rests}
 use Rattle.sci_work.proofs.Rests.{led_then}
 
@@ -18,8 +21,21 @@ module _ {U : Type 0} (gives : U → ℕ → Call → U → Type 0) (step : U �
   abbrev pub IsIdle : U → Type 0
   IsIdle u = (m : ℕ) → step u m ≡ Pending.Idle
 
+  -- who is Idle on every line is so behind a look
+  idle_look : (p : Pending) (tag : Option Tag) → p ≡ Pending.Idle → look_by p tag ≡ Pending.Idle
+  idle_look p None is = is
+  idle_look p (Some t) is = ap (λ (x : Pending). look_by x (Some t)) is
+
+  looked : (w : U) (line : ℕ) (tag : Option Tag) (v : U) → gives w line (Own tag) v → IsIdle w → IsIdle v
+  looked w line tag v h idle m = elim (cases_eq m line) [
+    | inl e ↦ ap (step v) e ∙ (owes w line (Own tag) v h).0 ∙ idle_look (step w line) tag (idle line)
+    | inr ne ↦ others w line (Own tag) v h m ne ∙ idle m
+  ]
+
   made_rests : {ws : List (ℕ × List ℕ)} {n m : NodeState} {u v : U} → Made gives step ws n u m v → n.call ≡ None → IsIdle u → (m.call ≡ None) × IsIdle v × Led gives u v
   made_rests none free idle = (free, idle, stays)
+  made_rests {v = v} (look {w = w} line tag before h) free idle =
+      let b = made_rests before free idle in (b.0, looked w line tag v h b.1, led_then b.2 (goes line (Own tag) h stays))
   made_rests {m = m} {v = v} (load {k = k} {w = w} line result before h) free idle =
       let b = made_rests before free idle in
       let t = call_rests gives step nodes fits me owes others k (Request.Load line) w result v m h b.0 b.1 in (t.0, t.1, led_then b.2 t.2)

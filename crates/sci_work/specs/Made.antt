@@ -1,7 +1,9 @@
--- What a worker has done through its node and its bank: calls that waited for their end, one after another.
-use Rattle.std.specs.Prelude.{◌≡◌, ℕ, ◌≤◌, Result, Ok, Err, None, List, [], ◌∷◌}
+-- What a worker has done through its node and its bank: calls that waited for their end, and looks, one after another.
+use Rattle.std.specs.Prelude.{◌≡◌, ℕ, ◌≤◌, Option, Result, Ok, Err, None, List, [], ◌∷◌}
+use Rattle.sci_words.specs.declared.tags.Tag.{Tag}
 use Rattle.sci_core.specs.declared.pending.Pending.{Pending}
 use Rattle.sci_port.specs.declared.calls.Call.{Call}
+use Rattle.sci_port.specs.declared.calls.Call.TheVariants.{Own}
 use Rattle.sci_port.specs.Banks.{BankWay}
 use Rattle.sci_ops.specs.declared.answers.Answer.{Answer}
 use Rattle.sci_cache.specs.declared.refusals.NodeRefusal.{NodeRefusal}
@@ -41,9 +43,10 @@ ComesInWork WorkRefusal.NoThread = ⊥
 ComesInWork refusal = Unit {0}
 
 module _ {U : Type 0} (gives : U → ℕ → Call → U → Type 0) (step : U → ℕ → Pending) where
-  -- calls that waited, of which these were writes that ended, the last in front: the line, and its words
+  -- calls that waited, of which these were writes that ended, the last in front: the line, and its words; and looks at own tags
   pub data Made : List (ℕ × List ℕ) → NodeState → U → NodeState → U → Type 0 where
     none : {n : NodeState} {u : U} → Made [] n u n u
+    look : {ws : List (ℕ × List ℕ)} {n k : NodeState} {u w v : U} → (line : ℕ) → (tag : Option Tag) → Made ws n u k w → gives w line (Own tag) v → Made ws n u k v
     load : {ws : List (ℕ × List ℕ)} {n k m : NodeState} {u w v : U} → (line : ℕ) → (result : Result Answer NodeRefusal) → Made ws n u k w → Waits gives step k (Request.Load line) w result v m → Made ws n u m v
     write : {ws : List (ℕ × List ℕ)} {n k m : NodeState} {u w v : U} → (line : ℕ) → (words : List ℕ) → (answer : Answer) → Made ws n u k w → Waits gives step k (Request.WriteLine line words) w (Ok answer) v m → Made ((line, words) ∷ ws) n u m v
     refused : {ws : List (ℕ × List ℕ)} {n k m : NodeState} {u w v : U} → (line : ℕ) → (words : List ℕ) → (refusal : NodeRefusal) → Made ws n u k w → Waits gives step k (Request.WriteLine line words) w (Err refusal) v m → Made ws n u m v
@@ -53,3 +56,9 @@ module _ {U : Type 0} (gives : U → ℕ → Call → U → Type 0) (step : U �
     pub count : ℕ
     pub within : count ≤ most
     pub made : Made (writes count) n u m v
+
+-- from the bank u to v any node has only looked at own tags
+pub record HasWatched {U K : Type 0} (way : U → BankWay) (keep : U → K) (gives : U → ℕ → Call → U → Type 0) (step : U → ℕ → Pending) (u v : U) : Type 0 where
+  pub made : (n : NodeState) → Made gives step [] n u n v
+  pub same_way : way v ≡ way u
+  pub same_fact : keep v ≡ keep u

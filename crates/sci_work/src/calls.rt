@@ -4,7 +4,7 @@ ghost use Rattle.sci_ops.specs.declared.goals.Goal as goal;
 ghost use Rattle.sci_ops.specs.declared.goals.Write as write;
 ghost use Rattle.sci_ops.specs.Change.{StoresFitting};
 ghost use Rattle.sci_cache.specs.declared.refusals.NodeRefusal as refusals;
-ghost use Rattle.sci_work.specs.Made.{ComesInCall, IsBankOf, IsLineRefusal, IsStillBankOf, Made};
+ghost use Rattle.sci_work.specs.Made.{ComesInCall, HasWatched, IsBankOf, IsLineRefusal, IsStillBankOf, Made};
 ghost use Rattle.sci_work.specs.Workers.{HasWorked, IsReady};
 
 use crate::doors::Door;
@@ -14,7 +14,7 @@ use crossbeam_utils::Backoff;
 use sci_cache::{Node, NodeRefusal};
 use sci_ops::Answer;
 use sci_port::Bank;
-use sci_words::LineNo;
+use sci_words::{Kind, LineNo, Tag};
 use std::sync::Wait;
 
 // The refusals that a call has on a line that there is, where none is open.
@@ -62,6 +62,41 @@ pub(crate) fn loaded<R: Wait, G: Gate, B: Bank>(
     }
 }
 
+// How often a node looks at its own tag, at most, before it loads the line again.
+const LOOKS: u32 = 64;
+
+/// Waits while the node's own tag stays as it is: no other node writes to the line before it has changed that. Refusal 25.
+fn watched<G: Gate, B: Bank>(
+    door: &Door<'_, G>,
+    bank: &mut B,
+    line: LineNo,
+) -> Result<(), WorkRefusal>
+    requires line { line < (B.way bank.old).lines }
+    ensures err { IfErr result (λ e. e ≡ WorkRefusal.Stopped) }
+    ensures watched { HasWatched B.way B.keep B.gives B.at_step bank.old bank.new }
+{
+    let seen = bank.own(line);
+    if let Some(
+        Tag {
+            kind: Kind::Invalid,
+            ..
+        },
+    ) = seen
+    {
+        return Ok(());
+    }
+    let backoff = Backoff::new();
+    for _ in 0..LOOKS {
+        door.unstopped()?;
+        backoff.snooze();
+        let found = bank.own(line);
+        if found != seen {
+            return Ok(());
+        }
+    }
+    Ok(())
+}
+
 /// The words of a line, once its word 0 is at least this number.
 #[inline(always)]
 pub(crate) fn reached<R: Wait, G: Gate, B: Bank>(
@@ -80,13 +115,12 @@ pub(crate) fn reached<R: Wait, G: Gate, B: Bank>(
     ensures made { Made B.gives B.at_step [] node.old bank.old node.new bank.new }
     ensures still { IsStillBankOf B.way B.keep bank.old node.new bank.new }
 {
-    let backoff = Backoff::new();
     for _ in rt.forever() {
         let words = loaded(rt, door, node, bank, line)?;
         if words[0] >= number {
             return Ok(words);
         }
-        backoff.snooze();
+        watched(door, bank, line)?;
     }
     unreachable!()
 }

@@ -46,9 +46,9 @@ impl<'w, G: Gate> Door<'w, G> {
         Err(WorkRefusal::Stalled)
     }
 
-    // Refusal 25 where the stop mark is raised.
+    /// Refusal 25 where the stop mark is raised.
     #[inline(always)]
-    fn unstopped(&self) -> Result<(), WorkRefusal>
+    pub(crate) fn unstopped(&self) -> Result<(), WorkRefusal>
         ensures { IfErr result (λ e. e ≡ WorkRefusal.Stopped) }
     {
         if self.stop.load(Ordering::SeqCst) {

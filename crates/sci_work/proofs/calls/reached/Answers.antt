@@ -1,8 +1,9 @@
 use Rattle.std.proofs.Common.{◌<◌, sym, subst}
 use Rattle.std.proofs.lemmas.Result.{IfOk-from_err}
-use Rattle.sci_work.specs.Made.{none}
+use Rattle.sci_work.specs.Made.{ComesInCall, none}
 use Rattle.sci_work.proofs.Making.{made_all}
 use Rattle.sci_work.proofs.Residual.{passed_on}
+use Rattle.sci_work.proofs.Watched.{still_watched}
 use Rattle.sci_work.proofs.Worked.{still_not, still_then}
 use Rattle.sci_work.proofs.calls.reached.Goals as goal
 
@@ -30,13 +31,29 @@ returns-then-words-number g c =
       still = still_then c.loop.invariant.still c.loaded.ensures.still;
     }
 
+pub returns-in_err-watched : goal.returns-in_err-watched
+returns-in_err-watched g c =
+    let r = c.from_residual-in_err-watched in
+    let seen = still_then c.loop.invariant.still c.loaded.ensures.still in
+    record {
+      fits = IfOk-from_err r.result _ r.ensures.0;
+      number = IfOk-from_err r.result _ r.ensures.0;
+      err = passed_on r.result _ _ r.ensures.1 (subst ComesInCall (sym c.in_err-watched.ensures.err) tt);
+      made = made_all g.B.Bank.gives g.B.Bank.at_step (made_all g.B.Bank.gives g.B.Bank.at_step c.loop.invariant.made c.loaded.ensures.made) (c.watched.ensures.watched.made c.loaded.new.node);
+      still = still_then seen (still_watched seen.ready c.watched.ensures.watched);
+    }
+
+pub watched-requires-clause-line : goal.watched-requires-clause-line
+watched-requires-clause-line g c κs within = subst (λ w. c.args.line < w.lines) (sym (still_then c.loop.invariant.still c.loaded.ensures.still).same_way) c.requires.line
+
 pub loop-preserved : goal.loop-preserved
 loop-preserved g c =
+    let seen = still_then c.loop.invariant.still c.loaded.ensures.still in
     record {
       can = tt;
       finite = tt;
-      still = still_then c.loop.invariant.still c.loaded.ensures.still;
-      made = made_all g.B.Bank.gives g.B.Bank.at_step c.loop.invariant.made c.loaded.ensures.made;
+      still = still_then seen (still_watched seen.ready c.watched.ensures.watched);
+      made = made_all g.B.Bank.gives g.B.Bank.at_step (made_all g.B.Bank.gives g.B.Bank.at_step c.loop.invariant.made c.loaded.ensures.made) (c.watched.ensures.watched.made c.loaded.new.node);
     }
 
 pub loaded-requires-clause-ready : goal.loaded-requires-clause-ready

@@ -1,0 +1,72 @@
+use Rattle.std.proofs.Common.{◌<◌, refl, sym, ap, subst, ◌∙◌}
+use Rattle.sci_port.specs.Banks.{BankWay}
+use Rattle.sci_ops.specs.Change.{StoresFitting}
+use Rattle.sci_ops.specs.Operation.{Operation}
+use Rattle.sci_ops.specs.declared.answers.Turn.{Turn}
+use Rattle.sci_cache.proofs.Unopened.{has_left, idle_all, leaves_none, leaves_on}
+use Rattle.sci_cache.proofs.waiting.leave.Goals as goal
+
+pub loop-init : goal.loop-init
+loop-init g c = record {
+  can = tt;
+  finite = tt;
+  op = c.evict-op.ensures;
+  runs = leaves_none g.B.Bank.gives g.B.Bank.at_step (g.B.Bank.way c.args.bank.now).node c.args.victim c.args.bank.now;
+  others = λ m other. refl;
+  way = refl;
+  nodes = λ m. refl;
+  fact = refl;
+}
+
+pub turn_at-requires : goal.turn_at-requires
+turn_at-requires g c =
+    let i = c.loop.invariant in
+    record {
+      line = subst (λ (w : BankWay). c.args.victim < w.lines) (sym i.way) c.requires.line;
+      fits = subst (λ (o : Operation). StoresFitting (g.B.Keep.Keeps.fits (g.B.Bank.keep c.loop.bank) c.args.victim) o.goal) (sym i.op) tt;
+    }
+
+pub loop-preserved-in-Moved : goal.loop-preserved-in-Moved
+loop-preserved-in-Moved g c =
+    let i = c.loop.invariant in
+    let e = c.in-Moved.ensures in
+    record {
+      can = tt;
+      finite = tt;
+      op = e.op ∙ i.op;
+      runs = leaves_on g.B.Bank.gives g.B.Bank.at_step c.args.victim (g.B.Bank.way c.args.bank.now).node (g.B.Bank.way c.loop.bank).node (ap (λ (w : BankWay). w.node) i.way) c.loop.op i.op c.args.bank.now c.loop.bank c.turn_at.new.bank Turn.Moved tt (e.calls, e.answers, e.loads) i.runs;
+      others = λ m other. e.others m other ∙ i.others m other;
+      way = e.same_way ∙ i.way;
+      nodes = λ m. e.same_nodes m ∙ i.nodes m;
+      fact = e.same_fact ∙ i.fact;
+    }
+
+pub loop-preserved : goal.loop-preserved
+loop-preserved g c =
+    let i = c.loop.invariant in
+    let e = c.in-Waiting.ensures in
+    record {
+      can = tt;
+      finite = tt;
+      op = e.op ∙ i.op;
+      runs = leaves_on g.B.Bank.gives g.B.Bank.at_step c.args.victim (g.B.Bank.way c.args.bank.now).node (g.B.Bank.way c.loop.bank).node (ap (λ (w : BankWay). w.node) i.way) c.loop.op i.op c.args.bank.now c.loop.bank c.turn_at.new.bank Turn.Waiting tt (e.calls, e.answers, e.loads) i.runs;
+      others = λ m other. e.others m other ∙ i.others m other;
+      way = e.same_way ∙ i.way;
+      nodes = λ m. e.same_nodes m ∙ i.nodes m;
+      fact = e.same_fact ∙ i.fact;
+    }
+
+pub unreachable-requires : goal.unreachable-requires
+unreachable-requires g c = let h = c.in-None.ensures.steps in cc
+
+pub returns-in-Done : goal.returns-in-Done
+returns-in-Done g c =
+    let i = c.loop.invariant in
+    let e = c.in-Done.ensures in
+    record {
+      runs = has_left g.B.Bank.gives g.B.Bank.at_step c.args.victim (g.B.Bank.way c.args.bank.now).node (g.B.Bank.way c.loop.bank).node (ap (λ (w : BankWay). w.node) i.way) c.loop.op i.op c.args.bank.now c.loop.bank c.turn_at.new.bank c.in-Done.field-0 (e.calls, e.answers, e.loads) i.runs;
+      rest = λ idle. idle_all c.args.victim (g.B.Bank.at_step c.loop.bank) (g.B.Bank.at_step c.turn_at.new.bank) e.others (e.idle (ap (λ (o : Operation). o.answer) i.op)) (λ m other. i.others m other ∙ idle m);
+      same_way = e.same_way ∙ i.way;
+      same_nodes = λ m. e.same_nodes m ∙ i.nodes m;
+      same_fact = e.same_fact ∙ i.fact;
+    }
