@@ -1,9 +1,10 @@
 pub mod Places
 pub mod Ordering
-pub mod Rooms
+pub mod Counts
 pub mod Noting
 pub mod Agreement
 pub mod Legality
 pub mod Looping
 pub mod TextLoops
 pub mod HistoryTexts
+pub mod HistoriesBack

@@ -20,7 +20,7 @@ pub record HistoryLines : Type 0 where
   pub lines : List LineReceipts
 
 -- 1 to 1,024 nodes, 1 to 1,024 lines, and each line has a list of each node
-pub record IsHistory (h : HistoryLines) : Type 0 where
+pub record HasSizes (h : HistoryLines) : Type 0 where
   pub nodes : (1 ≤ h.nodes) × (h.nodes ≤ MOST_NODES)
   pub lines : (1 ≤ length h.lines) × (length h.lines ≤ 1024)
   pub each : All (λ l. length l.lists ≡ h.nodes) h.lines

@@ -94,11 +94,11 @@ pub struct History {
 }
 
 impl Model for History {
-    ghost use Rattle.sci_histories.specs.Histories.{HistoryLines, IsHistory};
+    ghost use Rattle.sci_histories.specs.Histories.{HistoryLines, HasSizes};
 
     ghost Value = { HistoryLines };
 
     ghost view = { λ h. record { nodes = h.nodes; lines = h.lines.items } };
 
-    ghost invariant = { λ h. IsHistory record { nodes = h.nodes; lines = h.lines.items } };
+    ghost invariant = { λ h. HasSizes record { nodes = h.nodes; lines = h.lines.items } };
 }

@@ -3,7 +3,6 @@
 #![tactic(auto)]
 
 mod checking;
-mod fields;
 mod histories;
 mod ranges;
 mod reader;

@@ -1,16 +1,18 @@
 //! The reader of a whole history.
 
-ghost use Rattle.std.specs.Prelude.{◌≡◌, ◌≤◌, ℕ, length, All, IfOk};
+ghost use Rattle.std.specs.Prelude.{◌≡◌, ◌≤◌, ℕ, List, Ok, length, All, IfOk};
 ghost use Rattle.sci_core.specs.declared.whole.TheConstants.{MOST_NODES};
 ghost use Rattle.sci_dump.specs.Reading.{Gives};
+ghost use Rattle.sci_histories.specs.Histories.{LineReceipts};
+ghost use Rattle.sci_histories.specs.ReadBack.{CanBeWritten};
 ghost use Rattle.sci_histories.specs.Reading.{next, receipts_at, lists_at, line_at, lines_at, end_at, history_of};
 ghost use Rattle.sci_histories.specs.Text.{history_text};
 
-use crate::fields::behind;
 use crate::histories::{History, LineHistory, NodeReceipts};
 use crate::rows::{begins, head, receipt, row};
 use sci_core::Receipt;
 use sci_dump::DumpRefusal;
+use sci_dump::fields::behind;
 use std::alloc::Global;
 
 /// The number of the next line of text.
@@ -192,6 +194,9 @@ pub fn read_history(alloc: Global, text: &[u8]) -> Result<History, DumpRefusal>
     ensures exact { Gives (λ h. h) result (history_of text.now) }
     // What was read is written as the text that was read.
     ensures written { IfOk result (λ h. text.now ≡ history_text h.nodes h.lines) }
+    // Lines whose text this is are read back.
+    ensures read_back { (nodes : ℕ) (lines : List LineReceipts) → CanBeWritten nodes lines → text.now ≡ history_text nodes lines
+        → Gives (λ h. h) result (Ok (record { nodes = nodes; lines = lines })) }
 {
     parse(alloc, text)
 }

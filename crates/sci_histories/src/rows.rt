@@ -5,8 +5,8 @@ ghost use Rattle.sci_core.specs.declared.whole.TheConstants.{MOST_NODES};
 ghost use Rattle.sci_dump.specs.Reading.{Reads, counted_at};
 ghost use Rattle.sci_histories.specs.Reading.{named_at, row_at, read_at, passed_at, wrote_at, begins_at, receipt_at, head_at};
 
-use crate::fields::{behind, content, count, numbered, value, values};
 use sci_core::{Line, MOST_NODES, Receipt};
+use sci_dump::fields::{behind, content, count, numbered, value, values};
 
 /// What stands behind a label and this number.
 #[tactic(auto, unfolding(crate::specs::Reading::named_at))]

@@ -3,7 +3,7 @@
 ghost use Rattle.std.specs.Prelude.{◌≡◌, ◌<◌, ◌≤◌, ◌+◌, ◌-◌, ◌||◌, ℕ, Some, None, true, replicate, length, is_some, IfOk, MatchOption};
 ghost use Rattle.sci_dump.specs.Rules.{Decides};
 ghost use Rattle.sci_histories.specs.Each.{Each};
-ghost use Rattle.sci_histories.specs.Rooms.{room};
+ghost use Rattle.sci_histories.specs.Counts.{count_of};
 ghost use Rattle.sci_histories.specs.Rules.{IsWithin, KeepsWithin, KeepsWritten, KeepsOnce, KeepsAgreed, BreaksFirst, IsLegalLine};
 ghost use Rattle.sci_histories.specs.Table.{IsTable, IsNoted, found, AgreesIn, AllAgree, BreaksOf};
 
@@ -22,7 +22,7 @@ struct Table {
 
 /// How many stamps are left where each receipt has one of its own.
 fn left(stamps: u64, lists: &[NodeReceipts]) -> u64
-    ensures { result ≡ stamps - room lists.now }
+    ensures { result ≡ stamps - count_of lists.now }
 {
     let mut left = stamps;
     for node in 0..lists.len() {
@@ -42,7 +42,7 @@ fn stamps_of(line: &LineHistory) -> u64
 
 /// Whether there are as many receipts as stamps above the opening one. Where there aren't, rule H3 is broken.
 pub fn has_room(line: &LineHistory) -> bool
-    ensures { Decides result (line.now.closing.stamp - line.now.opening.stamp ≤ room line.now.lists) }
+    ensures { Decides result (line.now.closing.stamp - line.now.opening.stamp ≤ count_of line.now.lists) }
 {
     left(stamps_of(line), lists_of(line)) == 0
 }

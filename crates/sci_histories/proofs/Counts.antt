@@ -9,7 +9,7 @@ use Rattle.sci_histories.specs.Rules.{KeepsWritten}
 use Rattle.std.proofs.Common.{length-append}
 use Rattle.std.proofs.lemmas.List.{length-map, take_all}
 use Rattle.std.proofs.Common.{map, take}
-use Rattle.sci_histories.specs.Rooms.{room}
+use Rattle.sci_histories.specs.Counts.{count_of}
 
 -- the list without one place
 abbrev without : List ℕ → ℕ → List ℕ
@@ -55,7 +55,7 @@ abbrev stamps : List (List Receipt) → List ℕ
 stamps [] = []
 stamps (l ∷ ls) = map stamp_of l ++ stamps ls
 
-stamps_length : (ls : List (List Receipt)) → length (stamps ls) ≡ room ls
+stamps_length : (ls : List (List Receipt)) → length (stamps ls) ≡ count_of ls
 stamps_length [] = refl
 stamps_length (l ∷ ls) =
     let a = length-append (map stamp_of l) (stamps ls) in
@@ -74,8 +74,8 @@ in_stamps (l ∷ ls) zero p r e = has_left (map stamp_of l) (stamps ls) (stamp_o
 in_stamps (l ∷ ls) (suc j) p r e = has_right (map stamp_of l) (stamps ls) (stamp_of r) (in_stamps ls j p r e)
 
 -- where each stamp is that of a write, there are receipts enough
-pub written_room : (h : LineReceipts) → KeepsWritten h → h.closing.stamp - h.opening.stamp ≤ room h.lists
-written_room h keeps =
+pub written_count : (h : LineReceipts) → KeepsWritten h → h.closing.stamp - h.opening.stamp ≤ count_of h.lists
+written_count h keeps =
     let has = has_length (h.closing.stamp - h.opening.stamp) h.opening.stamp (stamps h.lists)
     (λ k lt.
     let w = keeps (h.opening.stamp + k) (omega arith) (omega arith) in
@@ -85,15 +85,15 @@ written_room h keeps =
     let long = stamps_length h.lists in
     omega arith
 
-pub room_more : (ls : List (List Receipt)) (i : ℕ) (d : List Receipt) → i < length ls → room (take (i + 1) ls) ≡ room (take i ls) + length (get_or ls i d)
-room_more [] i d lt = absurd (omega arith)
-room_more (l ∷ ls) zero d lt = omega arith
-room_more (l ∷ ls) (suc i) d lt =
-    let h = room_more ls i d (omega arith) in
+pub count_more : (ls : List (List Receipt)) (i : ℕ) (d : List Receipt) → i < length ls → count_of (take (i + 1) ls) ≡ count_of (take i ls) + length (get_or ls i d)
+count_more [] i d lt = absurd (omega arith)
+count_more (l ∷ ls) zero d lt = omega arith
+count_more (l ∷ ls) (suc i) d lt =
+    let h = count_more ls i d (omega arith) in
     let e : suc i + 1 ≡ suc (i + 1) = omega arith in
-    let one : room (take (suc i + 1) (l ∷ ls)) ≡ length l + room (take (i + 1) ls) = ap (λ (n : ℕ). room (take n (l ∷ ls))) e in
-    let two : length l + room (take (i + 1) ls) ≡ length l + room (take i ls) + length (get_or ls i d) = omega (arith, h) in
+    let one : count_of (take (suc i + 1) (l ∷ ls)) ≡ length l + count_of (take (i + 1) ls) = ap (λ (n : ℕ). count_of (take n (l ∷ ls))) e in
+    let two : length l + count_of (take (i + 1) ls) ≡ length l + count_of (take i ls) + length (get_or ls i d) = omega (arith, h) in
     one ∙ two
 
-pub room_all : (ls : List (List Receipt)) (i : ℕ) → length ls ≤ i → room (take i ls) ≡ room ls
-room_all ls i far = ap room (take_all i ls far)
+pub count_all : (ls : List (List Receipt)) (i : ℕ) → length ls ≤ i → count_of (take i ls) ≡ count_of ls
+count_all ls i far = ap count_of (take_all i ls far)

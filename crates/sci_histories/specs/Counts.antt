@@ -2,6 +2,6 @@
 use Rattle.std.specs.Prelude.{ℕ, ◌+◌, List, [], ◌∷◌, length}
 use Rattle.sci_core.specs.declared.receipts.Receipt.{Receipt}
 
-abbrev pub room : List (List Receipt) → ℕ
-room [] = 0
-room (l ∷ ls) = length l + room ls
+abbrev pub count_of : List (List Receipt) → ℕ
+count_of [] = 0
+count_of (l ∷ ls) = length l + count_of ls
