@@ -3,7 +3,7 @@
     python3 tools/pictures [--check] [PROGRAM]
 
 - docs/pictures/NAME-N.svg: the picture of turn N of examples/NAME.txt, where a document shows it;
-- docs/pages/NAME.html: the page of examples/NAME.txt, with the script in it, where docs/pages/README.md links it;
+- docs/pages/NAME.html: the page of examples/NAME.txt, where docs/pages/README.md links it;
 - tools/pictures/trial.txt: what Debian's chromium finds in the page of each example, with the page's checksum: its grid, its keys, its
   console, its width on a screen and on a telephone, and its print.
 

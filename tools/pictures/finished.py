@@ -1,8 +1,8 @@
-"""The finished pages of docs/pages/: those of the examples that docs/pages/README.md links, each with its script in it."""
+"""The finished pages of docs/pages/: those of the examples that docs/pages/README.md links."""
 
 import re
 
-from pages import ROOT, page_of, with_script
+from pages import ROOT, page_of
 
 PAGES = ROOT / "docs" / "pages"
 LINKED = re.compile(r"\]\((\w+)\.html\)")
@@ -14,7 +14,7 @@ def run(program, browser, room, is_check):
     there = {it.stem for it in PAGES.glob("*.html")}
     faults = []
     for name in wanted:
-        file, text = PAGES / f"{name}.html", with_script(page_of(program, name), name)
+        file, text = PAGES / f"{name}.html", page_of(program, name)
         if not is_check:
             file.write_text(text, encoding="utf-8")
         elif name in there and file.read_text(encoding="utf-8") != text:

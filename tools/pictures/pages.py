@@ -1,12 +1,10 @@
 """The pages that the program draws, and the browser that opens them."""
 
-import html
 import pathlib
 import subprocess
 
 ROOT = pathlib.Path(__file__).resolve().parents[2]
 EXAMPLES = ROOT / "examples"
-TRACE = '<pre id="trace">\n'
 
 
 def page_of(program, name):
@@ -18,12 +16,6 @@ def page_of(program, name):
 def page_of_text(program, text):
     """Returns the page of a script."""
     return subprocess.run([program, "draw"], check=True, input=text.encode(), stdout=subprocess.PIPE).stdout.decode()
-
-
-def with_script(page, name):
-    """Returns a page with the example's script in it, which the page shows beside its turns."""
-    script = (EXAMPLES / f"{name}.txt").read_text(encoding="utf-8")
-    return page.replace(TRACE, f'<pre id="script">\n{html.escape(script)}</pre>\n{TRACE}', 1)
 
 
 def browse(browser, room, words):

@@ -38,6 +38,14 @@ function look(turn) {
   expect((drawn === null) === isMany, `turn ${turn} has ${isMany ? "a" : "no"} picture`);
   if (row) inSight(row, turn);
   if (drawn) measure(drawn, turn);
+  if (drawn) arrows(row, drawn, turn);
+}
+
+// An arrow for each node that waits for another; one more stands in the key.
+function arrows(row, drawn, turn) {
+  const waits = row === null ? [] : [...row.querySelectorAll(".below .wait")].filter(it => /\d/.test(it.textContent));
+  const drawnWaits = drawn.querySelectorAll("path.waits").length - 1;
+  expect(drawnWaits === waits.length, `turn ${turn} has ${drawnWaits} arrows for ${waits.length} that wait`);
 }
 
 function inSight(row, turn) {
@@ -81,29 +89,25 @@ async function keys() {
   }
 }
 
-// Chooses a script in the page, and tells what the page says of it.
-async function choose(text) {
-  const files = new DataTransfer(), file = new File([text], "script.txt");
-  files.items.add(file);
-  one("#chosen").textContent = "not read";
-  one("#file").files = files.files;
-  one("#file").dispatchEvent(new Event("change"));
-  await file.text(); // behind the page, which began to read it before
-  await new Promise(done => setTimeout(done, 20));
-  return one("#chosen").textContent;
-}
-
-// Beside the turns stand the script's commands, in their order, and its first comment is the title. Another script is refused.
-async function scripts() {
-  const other = await choose("turn 63\n" + trialScript);
-  expect(other.startsWith("This isn't"), `of another script it says ${other}`);
-  expect(one("h1").textContent === "A script's run, turn by turn", "another script gives the title");
-  const said = await choose(trialScript);
-  expect(said === "", `of its script it says ${said}`);
-  expect(one("h1").textContent === trialScript.split("\n")[0].slice(2), `its title is ${one("h1").textContent}`);
+// Beside the turns stand the script's commands, in their order, and its first comment is the title.
+function scripts() {
+  const comment = /^# .*?(\n# .*?)*?\.$/m.exec(trialScript)[0].replace(/\n?# /g, " ").trim();
+  expect(one("h1").textContent === comment, `its title is ${one("h1").textContent}`);
   const beside = all("#grid .command").map(it => it.textContent).filter(it => it).join("; ").split("; ");
   const acts = trialScript.split("\n").filter(it => /^(load|store|add|evict|turn|done) /.test(it));
   expect(acts.length === 0 || beside.join() === acts.join(), `beside its turns stands ${beside.slice(0, 3)}`);
+}
+
+// A key shows the grid alone; from there a turn on, and the picture again.
+async function alone() {
+  const turn = Math.min(2, trialTurns);
+  await press("Home");
+  await press("g");
+  expect(getComputedStyle(one("#picture")).display === "none", "the grid isn't alone");
+  for (let i = 0; i < turn; i += 1) await press("PageDown");
+  expect(location.hash === "#grid=" + turn && (one("#grid tr.on") || { dataset: {} }).dataset.at === String(turn), `alone it marks ${location.hash}`);
+  await press("g");
+  look(turn);
 }
 
 async function trial() {
@@ -112,7 +116,8 @@ async function trial() {
   const cells = all("#grid tbody tr").map(it => it.cells.length), columns = all("#grid th").length;
   expect(cells.length === trialTurns && cells.every(it => it === columns), `its grid has ${cells.length} rows and ${columns} columns`);
   await keys();
-  if (trialTurns > 0) await scripts();
+  if (trialTurns > 0) scripts();
+  if (trialTurns > 0) await alone();
   expect(document.documentElement.scrollWidth <= innerWidth, `it is ${document.documentElement.scrollWidth} wide`);
   expect(!isWide || smallest >= 20, `its picture has text of ${smallest} px`);
   const text = smallest === Infinity ? 0 : Math.floor(smallest);

@@ -6,7 +6,7 @@ import json
 import pathlib
 import re
 
-from pages import EXAMPLES, browse, page_of, page_of_text, with_script
+from pages import EXAMPLES, browse, page_of, page_of_text
 
 HERE = pathlib.Path(__file__).resolve().parent
 RESULTS = HERE / "trial.txt"
@@ -96,7 +96,7 @@ def results_of(browser, room, pages):
         wide, narrow = told[2 * i : 2 * i + 2]
         faults += [f"the page of {name}: {it}" for it in wide["faults"] + narrow["faults"]]
         results[name] = f"{wide['turns']} turns, {wide['columns']} columns, text of {wide['text']} px"
-    sheets = sheets_of(browser, room, with_script(pages[PRINTED], PRINTED))
+    sheets = sheets_of(browser, room, pages[PRINTED])
     if sheets != 1:
         faults.append(f"the grid of {PRINTED} takes {sheets} sheets of paper")
     return results, faults

@@ -124,6 +124,11 @@ def drawn(page):
     return html.unescape(text)
 
 
+def script_in(page):
+    """The script that a page shows."""
+    return html.unescape(page.partition('<pre id="script">\n')[2].partition("</pre>\n</details>\n")[0])
+
+
 def is_wanted(said, wanted, room):
     match wanted:
         case WholePage():
@@ -169,6 +174,8 @@ def differs(script, room):
     page = None if status and not traced[1][0] and not paged[1][0] else drawn(paged[1][0])
     if (paged[0], page or "", paged[1][1]) != (status, traced[1][0], error):
         wrong.append("draw does what trace doesn't do")
+    if page is not None and script_in(paged[1][0]) != script:
+        wrong.append("draw shows another script")
     return wrong
 
 

@@ -80,33 +80,33 @@ log_front size openings steps s WriteFailed written t n less (log, (m, short, is
     let (inside, again) = front_again n m log written less is in
     (log, (n, inside, again), run)
 
-front_of_left : (form : Form) (size : Size) (capacity : ℕ) (openings : List Opening) (steps : List Step) (e : ScriptRefusal) (written : List ℕ) (n : ℕ) → n < length written
-    → IsLeft form size capacity openings steps e written → IsLeft form size capacity openings steps WriteFailed (take n written)
-front_of_left Form.Script size capacity openings steps e written n less (s, t, opens, left) =
+front_of_left : (form : Form) (input : List ℕ) (size : Size) (capacity : ℕ) (openings : List Opening) (steps : List Step) (e : ScriptRefusal) (written : List ℕ) (n : ℕ) → n < length written
+    → IsLeft form input size capacity openings steps e written → IsLeft form input size capacity openings steps WriteFailed (take n written)
+front_of_left Form.Script input size capacity openings steps e written n less (s, t, opens, left) =
     let (u, front) = script_front shared_is_open shared_does size.nodes s steps e written t n less left in
     (s, u, opens, front)
-front_of_left Form.Trace size capacity openings steps e written n less (s, t, opens, left) = (s, t, opens, trace_front size.nodes steps s e written t n less left)
-front_of_left Form.Draw size capacity openings steps e written n less (s, t, opens, left) = (s, t, opens, form_front page_of size.nodes steps s e written t n less left)
-front_of_left Form.Log size capacity openings steps e written n less (s, t, opens, left) = (s, t, opens, log_front size openings steps s e written t n less left)
+front_of_left Form.Trace input size capacity openings steps e written n less (s, t, opens, left) = (s, t, opens, trace_front size.nodes steps s e written t n less left)
+front_of_left Form.Draw input size capacity openings steps e written n less (s, t, opens, left) = (s, t, opens, form_front (page_of input) size.nodes steps s e written t n less left)
+front_of_left Form.Log input size capacity openings steps e written n less (s, t, opens, left) = (s, t, opens, log_front size openings steps s e written t n less left)
 
-front_of_written : (form : Form) (size : Size) (capacity : ℕ) (openings : List Opening) (steps : List Step) (text : List ℕ) (n : ℕ) → n < length text
-    → IsWritten form size capacity openings steps text → IsLeft form size capacity openings steps WriteFailed (take n text)
-front_of_written Form.Script size capacity openings steps text n less (s, t, opens, printed) =
+front_of_written : (form : Form) (input : List ℕ) (size : Size) (capacity : ℕ) (openings : List Opening) (steps : List Step) (text : List ℕ) (n : ℕ) → n < length text
+    → IsWritten form input size capacity openings steps text → IsLeft form input size capacity openings steps WriteFailed (take n text)
+front_of_written Form.Script input size capacity openings steps text n less (s, t, opens, printed) =
     (s, t, opens, (length steps, text, n, subst (λ (l : List Step). PrintsAll shared_is_open shared_does no_words s l text t) (sym (take_all (length steps) steps (omega arith))) printed, less, refl))
-front_of_written Form.Trace size capacity openings steps traced n less (s, t, opens, all, told) =
+front_of_written Form.Trace input size capacity openings steps traced n less (s, t, opens, all, told) =
     (s, t, opens, (length steps, t, traced, n, subst (λ (l : List Step). Traces l s traced t) (sym (take_all (length steps) steps (omega arith))) all, less, refl))
-front_of_written Form.Draw size capacity openings steps text n less (s, t, traced, opens, all, told, is) =
+front_of_written Form.Draw input size capacity openings steps text n less (s, t, traced, opens, all, told, is) =
     let so_far = subst (λ (l : List Step). Traces l s traced t) (sym (take_all (length steps) steps (omega arith))) all in
     (s, t, opens, (traced, (length steps, t, so_far), (n, subst (λ (x : List ℕ). n < length x) is less, ap (take n) is)))
-front_of_written Form.Log size capacity openings steps text n less (s, t, opens, logged) = (s, t, opens, (text, (n, less, refl), inl logged))
+front_of_written Form.Log input size capacity openings steps text n less (s, t, opens, logged) = (s, t, opens, (text, (n, less, refl), inl logged))
 
 front_of_run : (form : Form) (e : ScriptRefusal) (input written : List ℕ) (n : ℕ) → n < length written → StopsRunning form e input written → StopsRunning form WriteFailed input (take n written)
 front_of_run form e input written n less (short, size, capacity, openings, steps, is, left) =
-    (short, size, capacity, openings, steps, is, front_of_left form size capacity openings steps e written n less left)
+    (short, size, capacity, openings, steps, is, front_of_left form input size capacity openings steps e written n less left)
 
 pub front_of_text : (form : Form) (input text : List ℕ) (n : ℕ) → n < length text → Serves form input text → StopsRunning form WriteFailed input (take n text)
 front_of_text form input text n less (short, size, capacity, openings, steps, is, written) =
-    (short, size, capacity, openings, steps, is, front_of_written form size capacity openings steps text n less written)
+    (short, size, capacity, openings, steps, is, front_of_written form input size capacity openings steps text n less written)
 
 -- wherever the command stops, a front of what it wrote is what it leaves where the writer fails
 pub front_of_stop : (form : Form) (e : SimFault) (input written : List ℕ) (n : ℕ) → n < length written → Stops form e input written → Stops form CannotWrite input (take n written)

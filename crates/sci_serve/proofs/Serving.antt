@@ -28,7 +28,7 @@ stops_running form (NotDone n) input written h = inr h
 stops_running form WriteFailed input written h = h
 
 pub stops_failing : (form : Form) (e : ScriptRefusal) (input written : List ℕ) (size : Size) (capacity : ℕ) (openings : List Opening) (steps : List Step) → length input ≤ 1048576
-    → script_of input ≡ Ok (size, capacity, openings, steps) → FailsWith form size capacity openings steps e written → Stops form (fault_of e) input written
+    → script_of input ≡ Ok (size, capacity, openings, steps) → FailsWith form input size capacity openings steps e written → Stops form (fault_of e) input written
 stops_failing form e input written size capacity openings steps short is (inl (memory, none)) =
     subst (λ (r : ScriptRefusal). Stops form (fault_of r) input written) (sym memory) (inl (tt, none))
 stops_failing form e input written size capacity openings steps short is (inr left) = stops_running form e input written (short, size, capacity, openings, steps, is, left)

@@ -18,37 +18,37 @@ use Rattle.sci_trace.specs.Pages.{page_of}
 use Rattle.sci_trace.specs.Telling.{TellsAll}
 use Rattle.sci_trace.specs.Traces.{Traces, TraceLeaves, FormLeaves}
 
--- what is written of a run: the script's text; that text with the lines of its turns between, one by one; the page of that; or the
--- log of its events
-abbrev pub IsWritten : Form → Size → ℕ → List Opening → List Step → List ℕ → Type 0
-IsWritten Form.Script size capacity openings steps text = IsTextOf size capacity openings steps text
-IsWritten Form.Trace size capacity openings steps text = (s t : Shared) × Opens size capacity openings s × Traces steps s text t × TellsAll no_words s steps text t
-IsWritten Form.Draw size capacity openings steps text =
-    (s t : Shared) × (traced : List ℕ) × Opens size capacity openings s × Traces steps s traced t × TellsAll no_words s steps traced t × (text ≡ page_of traced)
-IsWritten Form.Log size capacity openings steps text = (s t : Shared) × Opens size capacity openings s × Logs size openings steps s text t
+-- what is written of the run of an input: the script's text; that text with the lines of its turns between, one by one; the page of the
+-- input and that; or the log of its events
+abbrev pub IsWritten : Form → List ℕ → Size → ℕ → List Opening → List Step → List ℕ → Type 0
+IsWritten Form.Script input size capacity openings steps text = IsTextOf size capacity openings steps text
+IsWritten Form.Trace input size capacity openings steps text = (s t : Shared) × Opens size capacity openings s × Traces steps s text t × TellsAll no_words s steps text t
+IsWritten Form.Draw input size capacity openings steps text =
+    (s t : Shared) × (traced : List ℕ) × Opens size capacity openings s × Traces steps s traced t × TellsAll no_words s steps traced t × (text ≡ page_of input traced)
+IsWritten Form.Log input size capacity openings steps text = (s t : Shared) × Opens size capacity openings s × Logs size openings steps s text t
 
 -- what is written of a run that fails
-abbrev pub IsLeft : Form → Size → ℕ → List Opening → List Step → ScriptRefusal → List ℕ → Type 0
-IsLeft Form.Script size capacity openings steps e written = IsLeftOf size capacity openings steps e written
-IsLeft Form.Trace size capacity openings steps e written = (s t : Shared) × Opens size capacity openings s × TraceLeaves size.nodes steps s e written t
-IsLeft Form.Draw size capacity openings steps e written = (s t : Shared) × Opens size capacity openings s × FormLeaves page_of size.nodes steps s e written t
-IsLeft Form.Log size capacity openings steps e written = (s t : Shared) × Opens size capacity openings s × LogLeaves size openings steps s e written t
+abbrev pub IsLeft : Form → List ℕ → Size → ℕ → List Opening → List Step → ScriptRefusal → List ℕ → Type 0
+IsLeft Form.Script input size capacity openings steps e written = IsLeftOf size capacity openings steps e written
+IsLeft Form.Trace input size capacity openings steps e written = (s t : Shared) × Opens size capacity openings s × TraceLeaves size.nodes steps s e written t
+IsLeft Form.Draw input size capacity openings steps e written = (s t : Shared) × Opens size capacity openings s × FormLeaves (page_of input) size.nodes steps s e written t
+IsLeft Form.Log input size capacity openings steps e written = (s t : Shared) × Opens size capacity openings s × LogLeaves size openings steps s e written t
 
 -- where memory runs out before the run, nothing is written
-abbrev pub FailsWith : Form → Size → ℕ → List Opening → List Step → ScriptRefusal → List ℕ → Type 0
-FailsWith form size capacity openings steps e written = ((e ≡ OutOfMemory) × (written ≡ [])) ⊎ IsLeft form size capacity openings steps e written
+abbrev pub FailsWith : Form → List ℕ → Size → ℕ → List Opening → List Step → ScriptRefusal → List ℕ → Type 0
+FailsWith form input size capacity openings steps e written = ((e ≡ OutOfMemory) × (written ≡ [])) ⊎ IsLeft form input size capacity openings steps e written
 
 -- the input is a script, and this is written of its run
 abbrev pub Serves : Form → List ℕ → List ℕ → Type 0
 Serves form input text =
     (length input ≤ 1048576) × (size : Size) × (capacity : ℕ) × (openings : List Opening) × (steps : List Step) × (script_of input ≡ Ok (size, capacity, openings, steps))
-    × IsWritten form size capacity openings steps text
+    × IsWritten form input size capacity openings steps text
 
 -- the input is a script, whose run fails and leaves this
 abbrev pub StopsRunning : Form → ScriptRefusal → List ℕ → List ℕ → Type 0
 StopsRunning form e input written =
     (length input ≤ 1048576) × (size : Size) × (capacity : ℕ) × (openings : List Opening) × (steps : List Step) × (script_of input ≡ Ok (size, capacity, openings, steps))
-    × IsLeft form size capacity openings steps e written
+    × IsLeft form input size capacity openings steps e written
 
 -- the reader of scripts refuses the input, or memory ran out before the run
 abbrev pub IsRefused : ScriptRefusal → List ℕ → Type 0

@@ -1,6 +1,6 @@
 //! The commands `script`, `trace` and `draw`, from the bytes of a script to what is written of its run.
 
-ghost use Rattle.std.specs.Prelude.{◌≡◌, ◌≤◌, ℕ, List, length, OnOk, IfErr, IfSome};
+ghost use Rattle.std.specs.Prelude.{◌≡◌, ◌≤◌, ℕ, List, [], length, OnOk, IfErr, IfSome};
 ghost use Rattle.std.specs.Io.Buffered.{writer_contents};
 ghost use Rattle.std.specs.Io.KnownBytes.{Appends, IsAtEnd};
 ghost use Rattle.sci_serve.specs.declared.scripts.Form.TheVariants as forms;
@@ -22,7 +22,7 @@ pub enum Form {
     Script,
     /// That text with a line for each turn.
     Trace,
-    /// A page of HTML that shows the trace.
+    /// A page of HTML that shows the script and the trace.
     Draw,
     /// The log of the run: its memory, what its lines open with, and its events.
     Log,
@@ -30,9 +30,9 @@ pub enum Form {
 
 /// Runs a script, and writes its text.
 fn run_script<W: Write>(alloc: Global, script: &Script, writer: &mut W) -> Result<(), ScriptRefusal>
-    ensures ok { OnOk result ((text : List ℕ) × IsWritten forms.Script script.now.size script.now.capacity script.now.openings.items script.now.steps.items text
+    ensures ok { OnOk result ((text : List ℕ) × IsWritten forms.Script [] script.now.size script.now.capacity script.now.openings.items script.now.steps.items text
         × Appends (W.contents writer.old) (W.contents writer.new) text) }
-    ensures err { IfErr result (λ e. (written : List ℕ) × FailsWith forms.Script script.now.size script.now.capacity script.now.openings.items script.now.steps.items e written
+    ensures err { IfErr result (λ e. (written : List ℕ) × FailsWith forms.Script [] script.now.size script.now.capacity script.now.openings.items script.now.steps.items e written
         × Appends (W.contents writer.old) (W.contents writer.new) written) }
 {
     let mut desk = WholeDesk::open(alloc, script)?;
@@ -41,53 +41,59 @@ fn run_script<W: Write>(alloc: Global, script: &Script, writer: &mut W) -> Resul
 
 /// Runs a script, and writes its text with a line for each turn.
 fn run_trace<W: Write>(alloc: Global, script: &Script, writer: &mut W) -> Result<(), ScriptRefusal>
-    ensures ok { OnOk result ((text : List ℕ) × IsWritten forms.Trace script.now.size script.now.capacity script.now.openings.items script.now.steps.items text
+    ensures ok { OnOk result ((text : List ℕ) × IsWritten forms.Trace [] script.now.size script.now.capacity script.now.openings.items script.now.steps.items text
         × Appends (W.contents writer.old) (W.contents writer.new) text) }
-    ensures err { IfErr result (λ e. (written : List ℕ) × FailsWith forms.Trace script.now.size script.now.capacity script.now.openings.items script.now.steps.items e written
+    ensures err { IfErr result (λ e. (written : List ℕ) × FailsWith forms.Trace [] script.now.size script.now.capacity script.now.openings.items script.now.steps.items e written
         × Appends (W.contents writer.old) (W.contents writer.new) written) }
 {
     let mut desk = TraceDesk::open(alloc, script)?;
     trace(alloc, script, &mut desk, writer)
 }
 
-/// Runs a script, and writes the page of its trace.
-fn run_draw<W: Write>(alloc: Global, script: &Script, writer: &mut W) -> Result<(), ScriptRefusal>
-    ensures ok { OnOk result ((text : List ℕ) × IsWritten forms.Draw script.now.size script.now.capacity script.now.openings.items script.now.steps.items text
+/// Runs the script that an input is, and writes the page of that and its trace.
+fn run_draw<W: Write>(
+    alloc: Global,
+    input: &[u8],
+    script: &Script,
+    writer: &mut W,
+) -> Result<(), ScriptRefusal>
+    ensures ok { OnOk result ((text : List ℕ) × IsWritten forms.Draw input.now script.now.size script.now.capacity script.now.openings.items script.now.steps.items text
         × Appends (W.contents writer.old) (W.contents writer.new) text) }
-    ensures err { IfErr result (λ e. (written : List ℕ) × FailsWith forms.Draw script.now.size script.now.capacity script.now.openings.items script.now.steps.items e written
+    ensures err { IfErr result (λ e. (written : List ℕ) × FailsWith forms.Draw input.now script.now.size script.now.capacity script.now.openings.items script.now.steps.items e written
         × Appends (W.contents writer.old) (W.contents writer.new) written) }
 {
     let mut desk = TraceDesk::open(alloc, script)?;
-    draw(alloc, script, &mut desk, writer)
+    draw(alloc, script, input, &mut desk, writer)
 }
 
 /// Runs a script, and writes its log.
 fn run_log<W: Write>(alloc: Global, script: &Script, writer: &mut W) -> Result<(), ScriptRefusal>
-    ensures ok { OnOk result ((text : List ℕ) × IsWritten forms.Log script.now.size script.now.capacity script.now.openings.items script.now.steps.items text
+    ensures ok { OnOk result ((text : List ℕ) × IsWritten forms.Log [] script.now.size script.now.capacity script.now.openings.items script.now.steps.items text
         × Appends (W.contents writer.old) (W.contents writer.new) text) }
-    ensures err { IfErr result (λ e. (written : List ℕ) × FailsWith forms.Log script.now.size script.now.capacity script.now.openings.items script.now.steps.items e written
+    ensures err { IfErr result (λ e. (written : List ℕ) × FailsWith forms.Log [] script.now.size script.now.capacity script.now.openings.items script.now.steps.items e written
         × Appends (W.contents writer.old) (W.contents writer.new) written) }
 {
     let mut desk = LogDesk::open(alloc, script)?;
     log(alloc, script, &mut desk, writer)
 }
 
-/// Runs a script, and writes its run in this form.
+/// Runs the script that an input is, and writes its run in this form.
 fn run<W: Write>(
     alloc: Global,
     form: Form,
+    input: &[u8],
     script: &Script,
     writer: &mut W,
 ) -> Result<(), ScriptRefusal>
-    ensures ok { OnOk result ((text : List ℕ) × IsWritten form script.now.size script.now.capacity script.now.openings.items script.now.steps.items text
+    ensures ok { OnOk result ((text : List ℕ) × IsWritten form input.now script.now.size script.now.capacity script.now.openings.items script.now.steps.items text
         × Appends (W.contents writer.old) (W.contents writer.new) text) }
-    ensures err { IfErr result (λ e. (written : List ℕ) × FailsWith form script.now.size script.now.capacity script.now.openings.items script.now.steps.items e written
+    ensures err { IfErr result (λ e. (written : List ℕ) × FailsWith form input.now script.now.size script.now.capacity script.now.openings.items script.now.steps.items e written
         × Appends (W.contents writer.old) (W.contents writer.new) written) }
 {
     match form {
         Form::Script => run_script(alloc, script, writer),
         Form::Trace => run_trace(alloc, script, writer),
-        Form::Draw => run_draw(alloc, script, writer),
+        Form::Draw => run_draw(alloc, input, script, writer),
         Form::Log => run_log(alloc, script, writer),
     }
 }
@@ -105,7 +111,7 @@ fn serve_input<W: Write>(
         × Appends (W.contents writer.old) (W.contents writer.new) written) }
 {
     let script = read_script(alloc, input)?;
-    run(alloc, form, &script, writer)
+    run(alloc, form, input, &script, writer)
 }
 
 /// Reads a script to its end, runs it, and writes its run in this form.
@@ -159,7 +165,7 @@ pub fn serve_trace<R: Read, W: Write>(
     serve(alloc, Form::Trace, reader, writer)
 }
 
-/// Reads a script to its end, runs it, and writes a page of HTML that shows its trace.
+/// Reads a script to its end, runs it, and writes a page of HTML that shows it and its trace.
 pub fn serve_draw<R: Read, W: Write>(
     alloc: Global,
     reader: &mut R,

@@ -108,15 +108,15 @@ the trace as text. The page is one file, needs no network, and shows nothing wit
 lists the commands of scripts, and the refusals.
 
 In a browser: the arrow keys, PageDown and PageUp go to the next turn and back, Home and End to the first and the last; so does a click
-on a row, or on a line of the trace. #step=7 behind the page's address opens the seventh turn, and #all shows the pictures of all
-turns, up to 200. Printed, a page is its grid.
+on a row, or on a line of the trace. G shows the grid alone, and the picture again. #step=7 behind the page's address opens the
+seventh turn, #grid=7 the same without its picture, and #all shows the pictures of all turns, up to 200. Printed, a page is its grid.
 
 The grid has a row for each turn, and a column for memory and for each node: its tag, its pending step or whom it waits for, its
 links, and its bytes. A picture has the same of memory, of the list, and of the nodes that are out of it with something still to do.
 Who acts is marked, what changed is framed, stale bytes are struck out. With more than 16 nodes there is the grid alone.
 
-A trace has neither the script's commands and comments nor the words that a line is opened with. The page shows them, the commands
-beside their turns, where the reader chooses the script in it.
+The page has the script too: its commands stand beside their turns, its first comment is the page's title, and what it opens a line
+with is what the line's copies have.
 
 Where a script is faulty, nothing is written. Where a command of its run is refused, the page has the turns before, and is whole.
 

@@ -43,6 +43,10 @@ pub on_err : {X E : Type 0} (r : Result X E) (P : Type 0) → P → OnErr r P
 on_err (Ok x) P h = tt
 on_err (Err e) P h = h
 
+pub fails_then : {X E : Type 0} (r : Result X E) (P Q : Type 0) → OnErr r P → (P → Q) → OnErr r Q
+fails_then (Ok x) P Q h f = tt
+fails_then (Err e) P Q h f = f h
+
 pub coded_nil : (coding : Coding) (a : Option (List ℕ)) → Appends a a (coded coding [])
 coded_nil Coding.Plain a = Appends-nil a
 coded_nil Coding.Escaped a = Appends-nil a

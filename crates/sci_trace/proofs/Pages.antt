@@ -13,12 +13,29 @@ use Rattle.sci_trace.specs.Traces.{Traces, FormLeaves}
 use Rattle.sci_trace.proofs.Coded.{front_behind, front_before}
 use Rattle.sci_trace.proofs.Tracing.{traces_none}
 
--- a front of the page's front
+-- a front of the page's front, of its text, and of its end is a front of the page
+pub front_in_front : (front end text : List ℕ) (n : ℕ) → n < length front → IsFront (page_in front end text) (take n front)
+front_in_front front end text n less =
+    let (m, short, is) = front_before front (escaped text) n less in
+    let (k, shorter, also) = front_before (front ++ escaped text) end m short in
+    (k, shorter, is ∙ also)
+
+pub front_in_text : (front end text : List ℕ) (n : ℕ) → n < length (escaped text) → IsFront (page_in front end text) (front ++ take n (escaped text))
+front_in_text front end text n less =
+    let (m, short, is) = front_behind front (escaped text) n less in
+    let (k, shorter, also) = front_before (front ++ escaped text) end m short in
+    (k, shorter, is ∙ also)
+
+pub front_in_end : (front end text : List ℕ) (n : ℕ) → n < length end → IsFront (page_in front end text) ((front ++ escaped text) ++ take n end)
+front_in_end front end text n less = front_behind (front ++ escaped text) end n less
+
+-- a front of a text was written
+pub front_written : (a b : Option (List ℕ)) (text written : List ℕ) → IsFront text written → Appends a b written → (n : ℕ) × (n < length text) × Appends a b (take n text)
+front_written a b text written (n, less, is) appended = (n, less, subst (λ (x : List ℕ). Appends a b x) is appended)
+
+-- so where the run has not begun
 pub cut_in_front : (front end : List ℕ) (n : ℕ) (nodes : ℕ) (steps : List Step) (s t : Shared) → n < length front → FormLeaves (page_in front end) nodes steps s WriteFailed (take n front) t
-cut_in_front front end n nodes steps s t less =
-    let (m, short, is) = front_before front (escaped []) n less in
-    let (k, shorter, also) = front_before (front ++ escaped []) end m short in
-    ([], (0, s, traces_none s), (k, shorter, is ∙ also))
+cut_in_front front end n nodes steps s t less = ([], (0, s, traces_none s), front_in_front front end [] n less)
 
 -- a front of the page, which ends in the text
 pub cut_in_text : (front end written : List ℕ) (nodes : ℕ) (steps : List Step) (s t : Shared) → FormLeaves escaped nodes steps s WriteFailed written t
@@ -31,7 +48,7 @@ cut_in_text front end written nodes steps s t (traced, so_far, (n, less, is)) =
 -- a front of the page, which ends in its end
 pub cut_in_end : (front end traced : List ℕ) (n : ℕ) (nodes : ℕ) (steps : List Step) (s t : Shared) → ((k : ℕ) × (mid : Shared) × Traces (take k steps) s traced mid) → n < length end
     → FormLeaves (page_in front end) nodes steps s WriteFailed ((front ++ escaped traced) ++ take n end) t
-cut_in_end front end traced n nodes steps s t so_far less = (traced, so_far, front_behind (front ++ escaped traced) end n less)
+cut_in_end front end traced n nodes steps s t so_far less = (traced, so_far, front_in_end front end traced n less)
 
 pub cut_then : (r : Result (Unit {0}) ScriptRefusal) (P : ScriptRefusal → Type 0) → is_cut r ≡ true → IfErr r P → P WriteFailed
 cut_then (Ok done) P is h = absurd (let q : false ≡ true = is in cc)

@@ -1,14 +1,19 @@
--- A page that shows a trace. This project's profile.
+-- A page that shows a script and its trace. This project's profile.
 use Rattle.std.specs.Prelude.{ℕ, List, ◌++◌, Bool, true, false, Result, Ok, Err}
 use Rattle.sci_script.specs.declared.refusals.ScriptRefusal.{ScriptRefusal}
 use Rattle.sci_script.specs.declared.refusals.ScriptRefusal.TheVariants.{OutOfMemory, BadCommand, BadNumber, NotDone, WriteFailed}
 use Rattle.sci_trace.specs.declared.page.front.TheConstants.{FRONT}
+use Rattle.sci_trace.specs.declared.page.seam.TheConstants.{SEAM}
 use Rattle.sci_trace.specs.declared.page.end.TheConstants.{END}
+use Rattle.sci_trace.specs.declared.drawing.Frame.{Frame}
 use Rattle.sci_trace.specs.Coding.{escaped}
 
 -- the texts of src/page; they are long, and no proof looks into them
 unfoldable pub page_front : List ℕ
 page_front = FRONT.now
+
+unfoldable pub page_seam : List ℕ
+page_seam = SEAM.now
 
 unfoldable pub page_end : List ℕ
 page_end = END.now
@@ -17,8 +22,13 @@ page_end = END.now
 abbrev pub page_in : List ℕ → List ℕ → List ℕ → List ℕ
 page_in front end text = front ++ escaped text ++ end
 
-abbrev pub page_of : List ℕ → List ℕ
-page_of text = page_in page_front page_end text
+-- what stands in front of the trace: a script, escaped, between the front and the seam
+abbrev pub head_of : Frame → List ℕ
+head_of frame = page_in frame.front.now frame.seam.now frame.source.now
+
+-- the page of a script and its trace
+abbrev pub page_of : List ℕ → List ℕ → List ℕ
+page_of source traced = page_in (page_in page_front page_seam source) page_end traced
 
 -- the writer failed
 abbrev pub is_cut : Result (Unit {0}) ScriptRefusal → Bool

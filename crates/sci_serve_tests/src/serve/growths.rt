@@ -304,7 +304,7 @@ fn draws_a_script(rt: &impl Abort, alloc: Global, script: &Script) -> Result<(),
         return Err(Fail::new("open answered 7"));
     };
     let mut out = NO_PAGE;
-    let end = draw(alloc, script, &mut desk, &mut out);
+    let end = draw(alloc, script, SCRIPT.as_bytes(), &mut desk, &mut out);
     assert!(rt; out.is_whole());
     if end.is_ok() {
         return Ok(());
