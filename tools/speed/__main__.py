@@ -1,6 +1,6 @@
 """How fast it is, beside what plain Rust makes of the same: turns of scripts, dumps, and operations of threads.
 
-    python3 tools/speed [--runs N] [--check] [--only scripts|traces|dumps|works|threads] [--keep FOLDER]
+    python3 tools/speed [--runs N] [--check] [--only scripts|traces|races|dumps|works|threads] [--keep FOLDER]
 
 The peers stand in tools/peers, and are built here by rustc; without it the project's programs are measured alone. All programs of
 a table run in turn, so that whatever else the machine does meets all of them; ratios hold from run to run, rates don't.
@@ -15,6 +15,9 @@ Then the same calls by the program alone, with each capacity of the nodes' cache
 
 Behind it, how many turns a second `scisim trace` makes beside `scisim script` on the same script, by its processor time to
 /dev/null, where `done` takes the turns and where each is a command of its own; what it prints must have a line for each turn.
+
+Then, how long `scisim outcomes` takes over each race of examples/, beside a search in plain Rust that finds and prints the same; and how
+many instructions, where valgrind is installed.
 
 Next, how long a processor takes to read and check a dump of 1,024 lines that 64 nodes share, by `read_dump` and `check`, beside a
 plain Rust program that reads it, looks at the same rules and makes the lists; the best of N runs counts, in turn.
@@ -43,6 +46,7 @@ import subprocess
 import tempfile
 
 import dumps
+import races
 import scripts
 import threads
 import works
@@ -67,14 +71,14 @@ def main():
     parser = argparse.ArgumentParser(prog="speed")
     parser.add_argument("--runs", type=int, default=5)
     parser.add_argument("--check", action="store_true")
-    parser.add_argument("--only", choices=["scripts", "traces", "dumps", "works", "threads"])
+    parser.add_argument("--only", choices=["scripts", "traces", "races", "dumps", "works", "threads"])
     parser.add_argument("--keep", type=pathlib.Path)
     chosen = parser.parse_args()
     with tempfile.TemporaryDirectory() as name:
         folder = pathlib.Path(name)
         peers = build_peers(folder)
         program = ROOT / "crates/sci_sim/out/sci_sim"
-        if chosen.only in (None, "scripts", "traces", "works"):
+        if chosen.only in (None, "scripts", "traces", "races", "works"):
             # the script scisim starts the program that this builds
             subprocess.run([ROOT / "scisim", "--help"], stdout=subprocess.DEVNULL, check=True)
         if chosen.only in (None, "scripts"):
@@ -82,6 +86,8 @@ def main():
             scripts.measure_all(programs, chosen.runs, chosen.check)
         if chosen.only in (None, "traces") and not chosen.check:
             scripts.measure_traces(program, chosen.runs)
+        if chosen.only in (None, "races") and not chosen.check:
+            races.measure_all(program, peers.get("sim"), chosen.runs)
         if chosen.only in (None, "works") and not chosen.check:
             works.measure_all(folder, program, peers.get("works"), chosen.runs)
         if chosen.only in (None, "dumps") and not chosen.check:

@@ -26,6 +26,7 @@ import cuts
 import dumps
 import histories
 import logs
+import outcomes
 import runs
 import scripts
 import settings
@@ -37,9 +38,9 @@ from kinds import CLOSED, FOLDER, FULL, UNREAD
 from kinds import Begins, Broken, Crowded, Drawn, Filled, Lawful, Little, Page, Traced, WholePage
 
 PROGRAM = os.path.realpath(sys.argv[1] if sys.argv[1:] else HOME / "crates/sci_sim/out/sci_sim")
-TABLES = [scripts, caches, sizes, cuts, shortages, traces, dumps, histories, logs, runs, settings]
+TABLES = [scripts, caches, sizes, cuts, shortages, traces, dumps, histories, logs, outcomes, runs, settings]
 # The files that lie where the program runs; `folder` is a folder.
-FILES = scripts.FILES | dumps.FILES | histories.FILES | runs.FILES
+FILES = scripts.FILES | dumps.FILES | histories.FILES | outcomes.FILES | runs.FILES
 # How long a file may be that an output fills.
 FILE = 4096
 # How much stack a thread has, where there is room for few of them.

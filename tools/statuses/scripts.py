@@ -58,18 +58,19 @@ texts of your own.
 Usage: scisim <COMMAND>
 
 Scripts:
-  script  Runs a script and prints its text
-  trace   Runs a script, and says of each turn what it did
-  draw    Runs a script, and writes a page that shows each turn
-  talk    Answers a script's commands one by one
+  script    Runs a script and prints its text
+  trace     Runs a script, and says of each turn what it did
+  draw      Runs a script, and writes a page that shows each turn
+  outcomes  Lists every outcome of the calls that a script leaves open
+  talk      Answers a script's commands one by one
 
 Workloads:
-  run     Runs a workload, each node in a thread of its own, and prints its result
+  run       Runs a workload, each node in a thread of its own, and prints its result
 
 Checks of your own texts:
-  check   Checks that each line of a dump is an exact sharing list
-  legal   Checks that what the nodes read and wrote on each line is one history of it
-  follow  Checks that a log of a simulator's own run is one of the table of exchanges
+  check     Checks that each line of a dump is an exact sharing list
+  legal     Checks that what the nodes read and wrote on each line is one history of it
+  follow    Checks that a log of a simulator's own run is one of the table of exchanges
 """
 
 # The whole program's, and those of `script`.

@@ -2,6 +2,7 @@
 
 from dumps import ITS_LISTS, LARGE_DUMP
 from kinds import LIMIT, Crowded, Little, refused
+from outcomes import STORE_AND_LOADS
 from runs import COUNT
 from scripts import ROW
 
@@ -29,6 +30,7 @@ SERVED = [
     ("draw", GROWING, None, True),
     ("run", ONE.ljust(LIMIT, "\n"), "count 1000\n", False),
     ("check", LARGE_DUMP, ITS_LISTS, False),
+    ("outcomes", STORE_AND_LOADS, None, False),
 ]
 
 # 64 nodes want more stack than there is; one has room for its thread. The largest memory fits in 150,000,000 bytes.

@@ -5,3 +5,5 @@
 mod races;
 #[cfg(test)]
 mod search;
+#[cfg(test)]
+mod serve;

@@ -2,7 +2,7 @@
 mod growths;
 
 use sci_endings::search_outcomes;
-use sci_outcomes::SearchRefusal;
+use sci_outcomes::{SearchRefusal, Unwatched};
 use sci_races::{Report, outcomes_text, race_after};
 use sci_script::read_script;
 use std::alloc::Global;
@@ -30,7 +30,7 @@ const COUNTED: [(&str, usize, usize); 4] = [
 ];
 
 // One node loads a line that nobody has: Queue, PrependValid, ReturnMemory, Settle.
-const LOADED: &str =
+pub(crate) const LOADED: &str =
     "states 5\noutcomes 1\n\nnode 0 read 0 stamp 0\nline 0 FRESH 0: 0 ONLY_FRESH\nturn 0\nturn 0\nturn 0\nturn 0\n";
 
 fn report(alloc: Global, text: &str, most: usize) -> Result<Report, SearchRefusal> {
@@ -40,7 +40,7 @@ fn report(alloc: Global, text: &str, most: usize) -> Result<Report, SearchRefusa
     let Ok(race) = race_after(alloc, &script) else {
         return Err(SearchRefusal::OutOfMemory);
     };
-    search_outcomes(alloc, race, most)
+    search_outcomes(alloc, &Unwatched, race, most)
 }
 
 #[test]

@@ -5,7 +5,7 @@ mod growths;
 mod ring;
 
 use ring::Ring;
-use sci_outcomes::{SearchRefusal, search};
+use sci_outcomes::{SearchRefusal, Unwatched, search};
 use std::alloc::Global;
 use std::process::Abort;
 use std::test::Fail;
@@ -23,7 +23,7 @@ const FOUND: [(u32, &[u32]); 7] = [
 
 // Whether the search answers that.
 pub(crate) fn finds(rt: &impl Abort, alloc: Global, most: usize) -> Result<(), SearchRefusal> {
-    let found = search(alloc, &Ring { last: 6 }, 5, most)?;
+    let found = search(alloc, &Ring { last: 6 }, &Unwatched, 5, most)?;
     assert_eq!(rt; found.len(), FOUND.len());
     for (place, (state, turns)) in FOUND.iter().enumerate() {
         if let Some(one) = found.get(place) {

@@ -11,3 +11,4 @@ pub mod SettingsLimits
 pub mod Declining
 pub mod Heard
 pub mod Departing
+pub mod RaceStops

@@ -8,3 +8,4 @@ pub mod Verdicts
 pub mod Followed
 pub mod Works
 pub mod Talked
+pub mod Races

@@ -1,9 +1,9 @@
 //! What each command of `scisim` does, over any reader and writer.
 //!
-//! [`serve_script`], [`serve_trace`] and [`serve_draw`] run a script and write its run, [`serve_talk`] answers a script's commands one
-//! by one, [`serve_run`] and [`serve_run_by`] run the workload that settings ask for, [`serve_check`] checks a dump, and
-//! [`serve_legal`] a history. Each answers Ok or a [`SimFault`], which has the program's status. [`read_settings`] reads the settings
-//! of a workload.
+//! [`serve_script`], [`serve_trace`] and [`serve_draw`] run a script and write its run, [`serve_outcomes`] lists what the calls that it
+//! leaves open come to, [`serve_talk`] answers a script's commands one by one, [`serve_run`] and [`serve_run_by`] run the workload that
+//! settings ask for, [`serve_check`] checks a dump, and [`serve_legal`] a history. Each answers Ok or a [`SimFault`], which has the
+//! program's status; [`serve_outcomes`] a [`RaceFault`]. [`read_settings`] reads the settings of a workload.
 #![tactic(auto)]
 
 mod checking;
@@ -12,6 +12,7 @@ mod following;
 mod input;
 mod legality;
 mod progress;
+mod racing;
 mod running;
 mod scripts;
 mod settings;
@@ -24,7 +25,8 @@ pub use checking::serve_check;
 pub use faults::SimFault;
 pub use following::serve_follow;
 pub use legality::serve_legal;
-pub use progress::Progress;
+pub use progress::{Progress, Visits};
+pub use racing::{RaceFault, serve_outcomes};
 pub use running::{serve_run, serve_run_by};
 pub use scripts::{Form, serve, serve_buffered, serve_draw, serve_script, serve_trace};
 pub use settings::{Numbers, Settings, SettingsRefusal, read_settings};

@@ -1,6 +1,7 @@
-//! What a run says of itself while it goes on.
+//! What a run, and a search, say of themselves while they go on.
 ghost use Rattle.std.specs.Prelude.{◌≡◌, IsTrue};
 
+use sci_outcomes::Watch;
 use sci_work::{Gate, OpenGate};
 use std::sync::atomic::{AtomicU64, Ordering};
 
@@ -44,5 +45,30 @@ impl<C: Eprint + Sync> Gate for Progress<'_, C> {
         ensures { result ≡ 1 }
     {
         OpenGate.limit()
+    }
+}
+
+/// So many states are visited between two lines.
+const STATES: usize = 20_000;
+
+/// Each time that 20,000 more states are visited, a line of the console says how many there were.
+#[derive(Drop)]
+pub struct Visits<'c, C> {
+    console: &'c C,
+}
+
+impl<'c, C> Visits<'c, C> {
+    /// A search is told to this console.
+    pub fn new(console: &'c C) -> Visits<'c, C> {
+        Visits { console }
+    }
+}
+
+impl<C: Eprint> Watch for Visits<'_, C> {
+    fn visited(&self, states: usize) {
+        if states % STATES == 0 {
+            // a line that isn't written changes nothing of the search
+            let _ = eprintln!(self.console; "scisim: outcomes: {states} states");
+        }
     }
 }

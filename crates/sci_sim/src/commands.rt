@@ -1,6 +1,7 @@
 //! The program's command line, and its help.
 
 use crate::histories::HISTORIES;
+use crate::races::OUTCOMES;
 use clap::{Arg, ArgAction, Command};
 use std::alloc::AllocError;
 
@@ -11,32 +12,34 @@ texts of your own.
 Usage: scisim <COMMAND>
 
 Scripts:
-  script  Runs a script and prints its text
-  trace   Runs a script, and says of each turn what it did
-  draw    Runs a script, and writes a page that shows each turn
-  talk    Answers a script's commands one by one
+  script    Runs a script and prints its text
+  trace     Runs a script, and says of each turn what it did
+  draw      Runs a script, and writes a page that shows each turn
+  outcomes  Lists every outcome of the calls that a script leaves open
+  talk      Answers a script's commands one by one
 
 Workloads:
-  run     Runs a workload, each node in a thread of its own, and prints its result
+  run       Runs a workload, each node in a thread of its own, and prints its result
 
 Checks of your own texts:
-  check   Checks that each line of a dump is an exact sharing list
-  legal   Checks that what the nodes read and wrote on each line is one history of it
-  follow  Checks that a log of a simulator's own run is one of the table of exchanges
+  check     Checks that each line of a dump is an exact sharing list
+  legal     Checks that what the nodes read and wrote on each line is one history of it
+  follow    Checks that a log of a simulator's own run is one of the table of exchanges
 
 Options:
   -h, --help     Print help
   -V, --version  Print version
 
-Statuses: 0 all went well; 1 a refusal, `scisim: refused R` or `scisim: refused R at line N`, or a fault of reading or writing; \
-2 a fault of usage; 3 a check that says no.
+Statuses: 0 all went well; 1 a refusal, `scisim: refused R` or `scisim: refused R at line N`, `scisim: too many states`, or a fault of \
+reading or writing; 2 a fault of usage; 3 a check that says no.
 
 Example:
   printf 'memory 2 1\\nstore 0 0 0 5\\ndone 0\\nload 1 0 0\\ndone 1\\nlist 0\\n' | scisim script
 
 `scisim script --help` lists the commands of scripts, `scisim trace --help` has the lines of turns, `scisim draw --help` the keys of
-pages, `scisim talk --help` the answers, `scisim run --help` the keys of settings, `scisim check --help` the format of dumps,
-`scisim legal --help` that of histories, and `scisim follow --help` that of logs; they say what each refusal means.
+pages, `scisim outcomes --help` what is listed, `scisim talk --help` the answers, `scisim run --help` the keys of settings,
+`scisim check --help` the format of dumps, `scisim legal --help` that of histories, and `scisim follow --help` that of logs; they say
+what each refusal means.
 ";
 
 const SCRIPTS: &str = "\
@@ -260,6 +263,15 @@ fn log<'a>(rt: &impl AllocGlobal) -> Arg<'a> {
         .help("writes the log of the script in place of its trace")
 }
 
+fn most<'a>(rt: &impl AllocGlobal) -> Arg<'a> {
+    Arg::new(rt.alloc(), "most")
+        .long("most")
+        .value_name("N")
+        .value_parser(clap::value_parser!(u32))
+        .default_value("100000")
+        .help("visits at most N states")
+}
+
 /// A command that reads a file. It says nothing of its texts, so that no proof of the commands above it carries them.
 fn reader_of<'a>(
     rt: &impl AllocGlobal,
@@ -287,6 +299,11 @@ fn trace<'a>(rt: &impl AllocGlobal) -> Result<Command<'a>, AllocError> {
 fn draw<'a>(rt: &impl AllocGlobal) -> Result<Command<'a>, AllocError> {
     let about = "Runs a script, and writes a page that shows each turn";
     reader_of(rt, "draw", about, PAGES, SCRIPT_FILE)
+}
+
+fn outcomes<'a>(rt: &impl AllocGlobal) -> Result<Command<'a>, AllocError> {
+    let about = "Lists every outcome of the calls that a script leaves open";
+    reader_of(rt, "outcomes", about, OUTCOMES, SCRIPT_FILE)?.arg(most(rt))
 }
 
 fn talk<'a>(rt: &impl AllocGlobal) -> Result<Command<'a>, AllocError> {
@@ -346,6 +363,7 @@ pub fn commands<'a>(rt: &impl AllocGlobal) -> Result<Command<'a>, AllocError> {
     let program = with(program(rt), script(rt));
     let program = with(program, trace(rt));
     let program = with(program, draw(rt));
+    let program = with(program, outcomes(rt));
     let program = with(program, talk(rt));
     let program = with(program, run(rt));
     let program = with(program, check(rt));

@@ -1,16 +1,18 @@
 //! `scisim script [FILE]` runs a script; `scisim trace [FILE]` says of each turn what it did, and `scisim draw [FILE]` shows it on a
-//! page; `scisim talk` answers a script's commands one by one; `scisim run [FILE]` runs a workload; `scisim check [FILE]` checks a dump,
-//! `scisim legal [FILE]` a history, and `scisim follow [FILE]` a log.
+//! page; `scisim outcomes [FILE]` lists the outcomes of the calls that it leaves open; `scisim talk` answers a script's commands one by
+//! one; `scisim run [FILE]` runs a workload; `scisim check [FILE]` checks a dump, `scisim legal [FILE]` a history, and `scisim follow
+//! [FILE]` a log.
 #![tactic(auto)]
 
 mod commands;
 mod histories;
+mod races;
 
 use clap::{ArgMatches, Error, error};
 use commands::commands;
 use sci_serve::{
-    Form, Progress, SimFault, serve_buffered, serve_check, serve_follow, serve_legal, serve_run,
-    serve_run_by, serve_talk,
+    Form, Progress, RaceFault, SimFault, Visits, serve_buffered, serve_check, serve_follow,
+    serve_legal, serve_outcomes, serve_run, serve_run_by, serve_talk,
 };
 use std::alloc::{AllocError, Global};
 use std::fs::File;
@@ -44,6 +46,26 @@ fn talk(rt: &HostRuntime) -> Result<(), SimFault> {
         |_| SimFault::from(AllocError),
     )?;
     serve_talk(rt.alloc(), &mut rt.reader(), &mut output)
+}
+
+/// Lists the outcomes of the calls that a script leaves open, and says on standard error where they have too many states.
+fn outcomes(rt: &HostRuntime, most: u32, path: Option<&str>) -> Result<ExitCode, SimFault> {
+    let mut output = io::writer(rt);
+    let alloc = rt.alloc();
+    let visits = Visits::new(rt);
+    let most = most as usize;
+    let listed = match path {
+        Some(path) => serve_outcomes(alloc, &visits, most, &mut open(rt, path)?, &mut output),
+        None => serve_outcomes(alloc, &visits, most, &mut rt.reader(), &mut output),
+    };
+    match listed {
+        Ok(()) => Ok(ExitCode::SUCCESS),
+        Err(RaceFault::Fault(fault)) => Err(fault),
+        Err(many @ RaceFault::TooManyStates) => {
+            let _ = eprintln!(rt; "scisim: {many}");
+            Ok(ExitCode::from(1))
+        }
+    }
 }
 
 /// Runs the settings of a reader, and says meanwhile on standard error how many calls have ended, where that is wanted.
@@ -132,6 +154,7 @@ fn served<T: Threads + Wait + Eprint + Sync>(
         "check" => check(rt, path)?,
         "legal" => legal(rt, path)?,
         "follow" => follow(rt, path)?,
+        "outcomes" => return outcomes(rt, options.get_one("most").unwrap_or(0), path),
         _ => return Ok(ExitCode::from(2)),
     }
     Ok(ExitCode::SUCCESS)

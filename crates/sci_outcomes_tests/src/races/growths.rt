@@ -3,7 +3,7 @@
 //! answered it.
 use super::LOADED;
 use sci_endings::search_outcomes;
-use sci_outcomes::SearchRefusal;
+use sci_outcomes::{SearchRefusal, Unwatched};
 use sci_races::{outcomes_text, race_after};
 use sci_script::{ScriptRefusal, read_script};
 use std::alloc::Global;
@@ -21,7 +21,7 @@ fn refuses(rt: &impl Abort, alloc: Global) -> Result<(), Fail> {
             return Err(Fail::new("race_after answered 7"));
         }
     };
-    let found = match search_outcomes(alloc, race, 100) {
+    let found = match search_outcomes(alloc, &Unwatched, race, 100) {
         Ok(found) => found,
         Err(refusal) => {
             assert_eq!(rt; refusal, SearchRefusal::OutOfMemory);

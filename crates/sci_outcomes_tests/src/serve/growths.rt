@@ -1,0 +1,31 @@
+//! Each growth of the command may be refused: it then answers 7, writes nothing, and a second try has the memory. With ample memory
+//! this test passes; tools/allocations runs it once for each growth.
+use super::LOAD;
+use sci_outcomes::Unwatched;
+use sci_script::ScriptRefusal;
+use sci_serve::{RaceFault, SimFault, serve_outcomes};
+use std::alloc::Global;
+use std::io::sink;
+use std::process::Abort;
+use std::test::Fail;
+
+fn serves(alloc: Global) -> Result<(), RaceFault> {
+    let mut input = LOAD.as_bytes();
+    serve_outcomes(alloc, &Unwatched, 5, &mut input, &mut sink())
+}
+
+fn refuses(rt: &impl Abort, alloc: Global) -> Result<(), Fail> {
+    let Err(fault) = serves(alloc) else {
+        return Ok(());
+    };
+    let short = RaceFault::Fault(SimFault::Refused(ScriptRefusal::OutOfMemory));
+    assert_eq!(rt; fault, short);
+    assert_eq!(rt; serves(alloc), Ok(()));
+    Err(Fail::new("serve_outcomes answered 7"))
+}
+
+/// Growths: 1 of serve_outcomes, 3 made up for, 99 of serve_outcomes.
+#[test]
+fn refused_growths(rt: HostRuntime) -> Result<(), Fail> {
+    refuses(&rt, rt.alloc())
+}

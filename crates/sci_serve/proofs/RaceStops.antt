@@ -1,0 +1,55 @@
+-- The faults of the command `outcomes`.
+use Rattle.std.proofs.Common.{◌≡◌, ◌≤◌, ℕ, Option, List, [], length, Ok, inl, inr, refl}
+use Rattle.std.specs.Io.KnownBytes.{IsAtEnd}
+use Rattle.sci_script.specs.declared.commands.Size.{Size}
+use Rattle.sci_script.specs.declared.commands.Opening.{Opening}
+use Rattle.sci_script.specs.declared.commands.Step.{Step}
+use Rattle.sci_script.specs.declared.refusals.ScriptRefusal.{ScriptRefusal}
+use Rattle.sci_script.specs.declared.refusals.ScriptRefusal.TheVariants.{OutOfMemory, BadCommand, BadNumber, NotDone, WriteFailed}
+use Rattle.sci_script.specs.Format.{Fails, script_of}
+use Rattle.sci_outcomes.specs.declared.refusals.SearchRefusal.{SearchRefusal}
+use Rattle.sci_outcomes.specs.declared.refusals.SearchRefusal.TheVariants as search
+use Rattle.sci_outcomes.specs.Search.{IsRefused}
+use Rattle.sci_races.specs.Race.{RaceState, leads_in}
+use Rattle.sci_races.specs.Start.{LeavesNone}
+use Rattle.sci_serve.specs.declared.faults.SimFault.{SimFault}
+use Rattle.sci_serve.specs.declared.faults.SimFault.TheVariants.{CannotRead, CannotWrite, InputTooLong, Refused, NoDump, Unlawful, NoRun}
+use Rattle.sci_serve.specs.declared.racing.RaceFault.{RaceFault}
+use Rattle.sci_serve.specs.declared.racing.RaceFault.TheVariants.{Fault, TooManyStates}
+use Rattle.sci_serve.specs.Fault.{fault_of}
+use Rattle.sci_serve.specs.Input.{IsReadFault}
+use Rattle.sci_serve.specs.Races.{race_fault_of, IsRaceIn, IsRaceToldInTime, StopsRacing}
+use Rattle.sci_serve.proofs.ReadFaults.{of_read_fault}
+
+pub stops_read : (most : ℕ) (e : ScriptRefusal) (input : List ℕ) → length input ≤ 1048576 → Fails e (script_of input) → StopsRacing most (Fault (fault_of e)) input []
+stops_read most OutOfMemory input short h = (inl tt, refl)
+stops_read most (BadCommand n) input short h = (inl (short, h), refl)
+stops_read most (BadNumber n) input short h = (inl (short, h), refl)
+stops_read most (NotDone n) input short h = absurd h
+stops_read most WriteFailed input short h = absurd h
+
+pub stops_run : (most : ℕ) (e : ScriptRefusal) (input : List ℕ) (size : Size) (capacity : ℕ) (openings : List Opening) (steps : List Step) → script_of input ≡ Ok (size, capacity, openings, steps)
+    → LeavesNone size capacity openings steps e → StopsRacing most (Fault (fault_of e)) input []
+stops_run most OutOfMemory input size capacity openings steps is h = (inl tt, refl)
+stops_run most (BadCommand n) input size capacity openings steps is h = (inr (size, capacity, openings, steps, is, h), refl)
+stops_run most (BadNumber n) input size capacity openings steps is h = (inr (size, capacity, openings, steps, is, h), refl)
+stops_run most (NotDone n) input size capacity openings steps is h = (inr (size, capacity, openings, steps, is, h), refl)
+stops_run most WriteFailed input size capacity openings steps is h = absurd h
+
+pub stops_search : (most : ℕ) (e : SearchRefusal) (input : List ℕ) (race : RaceState) → IsRaceIn input race → IsRefused (leads_in (length race.nodes)) race most e → StopsRacing most (race_fault_of e) input []
+stops_search most search.OutOfMemory input race is h = (inl tt, refl)
+stops_search most search.TooManyStates input race is h = (race, is, h, refl)
+
+pub stops_input : (most : ℕ) (e : SimFault) (input : List ℕ) → IsReadFault e input → StopsRacing most (Fault e) input []
+stops_input most e input h = of_read_fault (λ f. StopsRacing most (Fault f) input []) input refl (λ long. (long, refl)) (inl tt, refl) e h
+
+-- where nothing is left of the input, each fault is told in time
+pub told_at_end : (e : RaceFault) (left : Option (List ℕ)) → IsAtEnd left → IsRaceToldInTime e left
+told_at_end (Fault CannotRead) left h = tt
+told_at_end (Fault CannotWrite) left h = tt
+told_at_end (Fault InputTooLong) left h = h
+told_at_end (Fault (Refused e)) left h = tt
+told_at_end (Fault (NoDump n)) left h = tt
+told_at_end (Fault Unlawful) left h = tt
+told_at_end (Fault (NoRun e)) left h = tt
+told_at_end TooManyStates left h = tt

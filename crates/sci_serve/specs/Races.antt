@@ -1,0 +1,64 @@
+-- What the command `outcomes` writes. This project's profile.
+use Rattle.std.specs.Prelude.{◌≡◌, ◌⊎◌, ℕ, ◌<◌, ◌≤◌, Option, List, [], length, take, Ok}
+use Rattle.sci_script.specs.declared.commands.Size.{Size}
+use Rattle.sci_script.specs.declared.commands.Opening.{Opening}
+use Rattle.sci_script.specs.declared.commands.Step.{Step}
+use Rattle.sci_script.specs.declared.refusals.ScriptRefusal.{ScriptRefusal}
+use Rattle.sci_script.specs.declared.refusals.ScriptRefusal.TheVariants.{OutOfMemory}
+use Rattle.sci_script.specs.Format.{script_of}
+use Rattle.sci_outcomes.specs.declared.refusals.SearchRefusal.{SearchRefusal}
+use Rattle.sci_outcomes.specs.declared.refusals.SearchRefusal.TheVariants as search
+use Rattle.sci_outcomes.specs.declared.searching.Found.{Found}
+use Rattle.sci_outcomes.specs.Search.{AreReached, AreMore}
+use Rattle.sci_races.specs.declared.outcomes.Outcome.{Outcome}
+use Rattle.sci_races.specs.Outcomes.{AreOutcomes}
+use Rattle.sci_races.specs.Race.{RaceState, leads_in}
+use Rattle.sci_races.specs.Report.{report_text}
+use Rattle.sci_races.specs.Start.{LeavesOpen, LeavesNone}
+use Rattle.sci_serve.specs.declared.faults.SimFault.TheVariants.{CannotRead, CannotWrite, InputTooLong, Refused, NoDump, Unlawful, NoRun}
+use Rattle.sci_serve.specs.declared.racing.RaceFault.{RaceFault}
+use Rattle.sci_serve.specs.declared.racing.RaceFault.TheVariants.{Fault, TooManyStates}
+use Rattle.sci_serve.specs.Input.{IsToldInTime}
+use Rattle.sci_serve.specs.Serve.{IsRefused}
+
+abbrev pub race_fault_of : SearchRefusal → RaceFault
+race_fault_of search.OutOfMemory = Fault (Refused OutOfMemory)
+race_fault_of search.TooManyStates = TooManyStates
+
+-- the input is a script, and this is the race of the calls that its run leaves open
+abbrev pub IsRaceIn : List ℕ → RaceState → Type 0
+IsRaceIn input race =
+    (length input ≤ 1048576) × (size : Size) × (capacity : ℕ) × (openings : List Opening) × (steps : List Step) × (script_of input ≡ Ok (size, capacity, openings, steps))
+    × LeavesOpen size capacity openings steps race
+
+-- exactly the outcomes of a race, and how many states its turns lead to, which are few enough
+pub record IsReport (most : ℕ) (race : RaceState) (states : ℕ) (outcomes : List Outcome) : Type 0 where
+  pub listed : AreOutcomes (length race.nodes) race outcomes
+  pub found : List (Found RaceState)
+  pub reached : AreReached (leads_in (length race.nodes)) race found
+  pub counted : states ≡ length found
+  pub few : states ≤ most
+
+-- this is the text of the outcomes of that race
+abbrev pub Races : ℕ → List ℕ → List ℕ → Type 0
+Races most input text = (race : RaceState) × IsRaceIn input race × (states : ℕ) × (outcomes : List Outcome) × IsReport most race states outcomes × (text ≡ report_text states outcomes)
+
+-- the input is a script whose run is refused with this, or memory ran out
+abbrev pub IsUnrun : List ℕ → ScriptRefusal → Type 0
+IsUnrun input e = (size : Size) × (capacity : ℕ) × (openings : List Opening) × (steps : List Step) × (script_of input ≡ Ok (size, capacity, openings, steps)) × LeavesNone size capacity openings steps e
+
+-- what is written where the command fails: a front of the text where the writer failed, and else nothing
+abbrev pub StopsRacing : ℕ → RaceFault → List ℕ → List ℕ → Type 0
+StopsRacing most (Fault CannotRead) input written = written ≡ []
+StopsRacing most (Fault CannotWrite) input written = (text : List ℕ) × (n : ℕ) × Races most input text × (n < length text) × (written ≡ take n text)
+StopsRacing most (Fault InputTooLong) input written = (1048576 < length input) × (written ≡ [])
+StopsRacing most (Fault (Refused e)) input written = (IsRefused e input ⊎ IsUnrun input e) × (written ≡ [])
+StopsRacing most (Fault (NoDump n)) input written = ⊥
+StopsRacing most (Fault Unlawful) input written = ⊥
+StopsRacing most (Fault (NoRun e)) input written = ⊥
+StopsRacing most TooManyStates input written = (race : RaceState) × IsRaceIn input race × AreMore (leads_in (length race.nodes)) race most × (written ≡ [])
+
+-- that an input is too long is told at its end
+abbrev pub IsRaceToldInTime : RaceFault → Option (List ℕ) → Type 0
+IsRaceToldInTime (Fault e) left = IsToldInTime e left
+IsRaceToldInTime TooManyStates left = Unit {0}

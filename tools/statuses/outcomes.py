@@ -1,0 +1,58 @@
+"""What `outcomes` lists of the calls that a script leaves open."""
+
+from kinds import AT_LIMIT, CLOSED, FOLDER, FULL, READ, UNREAD, USAGE, WRITE
+from kinds import Begins, Broken, Filled, Little, refused
+
+LOAD = "memory 1 1\nload 0 0 0\n"
+LOADED = "states 5\noutcomes 1\n\nnode 0 read 0 stamp 0\nline 0 FRESH 0: 0 ONLY_FRESH\n" + "turn 0\n" * 4
+MANY = "scisim: too many states\n"
+# A node names one line: before it loads the other, it is to leave the first.
+VICTIM = "memory 1 2\ncapacity 1\nload 0 0 0\ndone 0\nload 0 1 3\n"
+STORE_AND_LOADS = "memory 3 1\nstore 0 0 0 5\nload 1 0 0\nload 2 0 0\n"
+SHARERS = "memory 3 1\n" + "".join(f"load {node} 0 0\ndone {node}\n" for node in range(3))
+
+FILES = {"race": LOAD, "-race": LOAD}
+
+CASES = [
+    (["outcomes"], LOAD, 0, LOADED, ""),
+    (["outcomes", "race"], "", 0, LOADED, ""),
+    (["outcomes", "--", "-race"], "", 0, LOADED, ""),
+    (["outcomes", "--most", "5"], LOAD, 0, LOADED, ""),
+    (["outcomes", "--most=5", "race"], "", 0, LOADED, ""),
+    (["outcomes", "--most", "4"], LOAD, 1, "", MANY),
+    (["outcomes", "--most", "0"], LOAD, 1, "", MANY),
+    (["outcomes", "--most", "4294967295"], LOAD, 0, LOADED, ""),
+    (["outcomes", "--most", "4294967296"], LOAD, 2, "", USAGE),
+    (["outcomes", "--most", "x"], LOAD, 2, "", USAGE),
+    (["outcomes", "--most"], LOAD, 2, "", USAGE),
+    (["outcomes"], "memory 1 1\n", 0, "states 1\noutcomes 1\n\nline 0 HOME\n", ""),
+    (["outcomes"], "memory 1 1\nload 0 0 0\ndone 0\nlist 0\n", 0, "states 1\noutcomes 1\n\nline 0 FRESH 0: 0 ONLY_FRESH\n", ""),
+    (
+        ["outcomes"],
+        VICTIM,
+        0,
+        "states 8\noutcomes 1\n\nnode 0 read 0 stamp 0\nline 0 HOME\nline 1 FRESH 0: 0 ONLY_FRESH\n" + "turn 0\n" * 7,
+        "",
+    ),
+    (["outcomes"], STORE_AND_LOADS, 0, Begins("states 639\noutcomes 5\n\n"), ""),
+    (["outcomes"], SHARERS + "store 0 0 0 5\nstore 1 0 0 6\nstore 2 0 0 7\n", 0, Begins("states 3597\noutcomes 6\n\n"), ""),
+    (["outcomes"], SHARERS + "store 0 0 0 5\nevict 1 0\nevict 2 0\n", 0, Begins("states 627\noutcomes 1\n\n"), ""),
+    (["outcomes", "--most", "638"], STORE_AND_LOADS, 1, "", MANY),
+    (["outcomes"], "", 1, "", refused("16 at line 1")),
+    (["outcomes"], "memory 1 1\nload 0 0 0\nload 0 0 0\n", 1, "", refused("16 at line 3")),
+    (["outcomes"], "memory 2 1\nload 0 0 0\nturn 0\nturn 0\nload 1 0 0\ndone 1\n", 1, "", refused("18 at line 6")),
+    (["outcomes"], AT_LIMIT + " ", 1, "", refused("23")),
+    (["outcomes"], Little(SHARERS + "store 0 0 0 5\nstore 1 0 0 6\nstore 2 0 0 7\n"), 1, "", refused("7")),
+    (["outcomes", "missing"], LOAD, 1, "", READ),
+    (["outcomes"], Broken(LOAD), 1, "", READ),
+    (["outcomes"], CLOSED, 1, "", READ),
+    (["outcomes"], FOLDER, 1, "", READ),
+    (["outcomes"], LOAD, 1, CLOSED, WRITE),
+    (["outcomes"], LOAD, 1, FULL, WRITE),
+    (["outcomes"], LOAD, 1, UNREAD, WRITE),
+    (["outcomes"], LOAD, 0, Filled(LOADED), ""),
+    (["outcomes"], LOAD, 1, Filled(LOADED[:-1]), WRITE),
+    (["outcomes", "--most", "4"], LOAD, 1, "", CLOSED),
+    (["outcomes", "race", "race"], LOAD, 2, "", USAGE),
+    (["outcomes", "--help"], "", 0, Begins("Lists every outcome of the calls that a script leaves open\n\nUsage: scisim outcomes [OPTIONS] [FILE]\n"), ""),
+]
