@@ -1,6 +1,7 @@
 pub mod Answering
 pub mod Carried
 pub mod Took
+pub mod Noted
 pub mod Short
 pub mod Staged
 pub mod Storing

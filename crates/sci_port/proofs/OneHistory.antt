@@ -1,5 +1,5 @@
 -- The receipts of a run from the line as it was opened are one history, whole.
-use Rattle.std.proofs.Common.{◌≡◌, ℕ, ◌+◌, ◌<◌, ◌≤◌, List, [], ◌∷◌, All, refl, ◌∙◌, arith}
+use Rattle.std.proofs.Common.{◌≡◌, ℕ, ◌+◌, ◌<◌, ◌≤◌, List, [], ◌∷◌, All, refl, ◌∙◌, subst, arith}
 use Rattle.std.proofs.lemmas.List.Elements.{All-head, All-tail}
 use Rattle.sci_core.specs.declared.lines.Line.{Line}
 use Rattle.sci_core.specs.declared.pending.Pending.{Pending}
@@ -11,12 +11,13 @@ use Rattle.sci_port.specs.declared.calls.Call.{Call}
 use Rattle.sci_port.specs.History.{value_of}
 use Rattle.sci_port.specs.Laws.{ShowsOneHistory, KeepsOneHistory, BeginsReceipts}
 use Rattle.sci_port.specs.Runs.{done_from, done_by}
-use Rattle.sci_port.specs.Shown.{shown_in}
+use Rattle.sci_port.specs.KeepsTo.{KeepsTo}
+use Rattle.sci_port.specs.Shown.{shown_in, told_in}
 use Rattle.sci_port.proofs.Counted.{shown_whole, whole_thinned}
 use Rattle.sci_port.proofs.Histories.{history}
 use Rattle.sci_port.proofs.Receiving.{receipts_none}
 use Rattle.sci_port.proofs.Running.{else_from}
-use Rattle.sci_port.proofs.Tested.{keeps_of}
+use Rattle.sci_port.proofs.Told.{loosened, told_of, told_shown}
 
 opened_has : (n : ℕ) (fits : List ℕ → Type 0) (line : Line) → fits line.words → HasValue n fits (opened n line) line
 opened_has n fits line h = ruled_value n fits (opened n line) record { witness = opened_witness line; law = opened_is_lawful n line; links = opened_links n line; words = record { memory = refl; tags = λ i. refl }; fit = h }
@@ -36,7 +37,7 @@ module _ {K : Type 0} (fits : K → ℕ → List ℕ → Type 0) where
 
   pub keeps_one_history : KeepsOneHistory fits
   keeps_one_history keep number n o run s receipts r are =
-      whole_thinned n o (value_of o run) (λ j. (receipts j).list) (λ j. shown_in blank (done_by j run)) (shows_one_history keep number n o run s r).1 (λ j. keeps_of (receipts j).list (shown_in blank (done_by j run)) (are j).keeps)
+      whole_thinned n o (value_of o run) (λ j. (receipts j).list) (λ j. shown_in blank (done_by j run)) (shows_one_history keep number n o run s r).1 (λ j. subst (KeepsTo (receipts j).list) (told_shown blank (done_by j run)) (loosened (receipts j).list (told_in blank (done_by j run)) (told_of (receipts j).list (told_in blank (done_by j run)) (are j).keeps)))
 
 pub begins_receipts : BeginsReceipts
 begins_receipts s none = receipts_none Pending.Idle s none refl

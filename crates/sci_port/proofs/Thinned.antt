@@ -1,4 +1,4 @@
--- Lists that keep to what was shown: one more receipt, the last of them, a Passed, replaced; and they are still one history.
+-- Lists that keep to what was shown are still one history.
 use Rattle.std.proofs.Common.{◌≡◌, ℕ, zero, suc, ◌+◌, ◌<◌, ◌≤◌, true, false, List, [], ◌∷◌, ◌++◌, cond, refl, sym, ap, ◌∙◌, subst, inl, inr, ⊎_elim, arith}
 use mathlib.Core.Logic.{dite}
 use mathlib.Core.Option.{some, some-injective, some-ne-none}
@@ -8,16 +8,9 @@ use Rattle.sci_core.specs.declared.lines.Line.{Line}
 use Rattle.sci_core.specs.declared.receipts.Receipt.{Receipt}
 use Rattle.sci_core.specs.declared.receipts.Receipt.TheVariants.{Read, Passed, Wrote}
 use Rattle.sci_core.specs.Legal.{stamp_of, is_write, IsShown, IsLegal}
-use Rattle.sci_port.specs.KeepsTo.{as_read, is_passed, KeepsTo}
+use Rattle.sci_port.specs.KeepsTo.{as_read, KeepsTo}
 use Rattle.sci_port.specs.Receipts.{writes_of}
 use Rattle.sci_port.proofs.Elements.{clash}
-
--- one more, which was shown
-pub keeps_more : (rs ns : List Receipt) (r n : Receipt) → KeepsTo rs ns → as_read r ≡ n → KeepsTo (rs ++ r ∷ []) (ns ++ n ∷ [])
-keeps_more [] [] r n k is = inl (is, tt)
-keeps_more [] (m ∷ ns) r n k is = absurd k
-keeps_more (x ∷ rs) [] r n k is = absurd k
-keeps_more (x ∷ rs) (m ∷ ns) r n k is = ⊎_elim (λ h. inl (h.0, keeps_more rs ns r n h.1 is)) (λ h. inr (h.0, h.1, keeps_more (x ∷ rs) ns r n h.2 is)) k
 
 as_write : (r : Receipt) → is_write (as_read r) ≡ is_write r
 as_write (Read words stamp) = refl
@@ -33,25 +26,6 @@ as_shown : (h : ℕ → List ℕ) (first last : ℕ) (r : Receipt) → IsShown h
 as_shown h first last (Read words stamp) k = k
 as_shown h first last (Passed words stamp) k = k
 as_shown h first last (Wrote before words stamp) k = k
-
-passed_no_write : (r : Receipt) → is_passed r ≡ true → is_write r ≡ false
-passed_no_write (Passed words stamp) h = refl
-passed_no_write (Read words stamp) h = refl
-passed_no_write (Wrote before words stamp) h = absurd (cc)
-
--- the last, a Passed, gives way to one that was passed later
-pub keeps_later : (rs ns : List Receipt) (l r n : Receipt) → is_passed l ≡ true → is_passed r ≡ true → KeepsTo (rs ++ l ∷ []) ns → as_read r ≡ n → KeepsTo (rs ++ r ∷ []) (ns ++ n ∷ [])
-keeps_later [] [] l r n was passed k is = absurd k
-keeps_later [] (m ∷ []) l r n was passed k is = ⊎_elim
-    (λ h. inr (passed, sym (ap is_write h.0) ∙ (as_write l ∙ passed_no_write l was), inl (is, tt)))
-    (λ h. absurd h.2) k
-keeps_later [] (m ∷ o ∷ ns) l r n was passed k is = ⊎_elim
-    (λ h. absurd h.1)
-    (λ h. inr (passed, h.1, keeps_later [] (o ∷ ns) l r n was passed h.2 is)) k
-keeps_later (x ∷ rs) [] l r n was passed k is = absurd k
-keeps_later (x ∷ rs) (m ∷ ns) l r n was passed k is = ⊎_elim
-    (λ h. inl (h.0, keeps_later rs ns l r n was passed h.1 is))
-    (λ h. inr (h.0, h.1, keeps_later (x ∷ rs) ns l r n was passed h.2 is)) k
 
 no_write : (n : Receipt) (m : ℕ) → is_write n ≡ false → cond (is_write n) 1 0 + m ≡ m
 no_write n m e = ap (λ b. cond b 1 0 + m) e ∙ (let z : 0 + m ≡ m = omega arith in z)

@@ -27,7 +27,18 @@ KeepsTo (r ∷ rs) (n ∷ ns) = ((as_read r ≡ n) × KeepsTo rs ns) ⊎ ((is_pa
 abbrev pub KeepToLogs : (ℕ → List Receipt) → (ℕ → List (ℕ × Call)) → Type 0
 KeepToLogs lists logs = (j : ℕ) → KeepsTo (lists j) (shown_in blank (logs j))
 
--- the same as `KeepsTo`, as a test
+-- a receipt is of what was told: as it was told, or, of what was only passed, as read
+abbrev pub IsKeptAs : Receipt → Receipt → Type 0
+IsKeptAs r n = (r ≡ n) ⊎ (r ≡ as_read n)
+
+-- the receipts are what was told, in order, but that of settles with nothing else between those before a Passed may be left out
+abbrev pub KeepsTold : List Receipt → List Receipt → Type 0
+KeepsTold [] [] = Unit {0}
+KeepsTold [] (n ∷ ns) = ⊥
+KeepsTold (r ∷ rs) [] = ⊥
+KeepsTold (r ∷ rs) (n ∷ ns) = (IsKeptAs r n × KeepsTold rs ns) ⊎ ((is_passed r ≡ true) × (is_passed n ≡ true) × KeepsTold (r ∷ rs) ns)
+
+-- the same, as a test
 abbrev pub same_words : List ℕ → List ℕ → Bool
 same_words [] [] = true
 same_words [] (y ∷ ys) = false
@@ -40,8 +51,14 @@ is_same (Passed words stamp) (Passed others other) = same_words words others && 
 is_same (Wrote before words stamp) (Wrote old others other) = same_words before old && (same_words words others && eqb stamp other)
 is_same r s = false
 
-abbrev pub keeps_to : List Receipt → List Receipt → Bool
-keeps_to [] [] = true
-keeps_to [] (n ∷ ns) = false
-keeps_to (r ∷ rs) [] = false
-keeps_to (r ∷ rs) (n ∷ ns) = (is_same (as_read r) n && keeps_to rs ns) || (is_passed r && (not (is_write n) && keeps_to (r ∷ rs) ns))
+abbrev pub keeps_told : List Receipt → List Receipt → Bool
+keeps_told [] [] = true
+keeps_told [] (n ∷ ns) = false
+keeps_told (r ∷ rs) [] = false
+keeps_told (r ∷ rs) (n ∷ ns) = ((is_same r n || is_same r (as_read n)) && keeps_told rs ns) || (is_passed r && (is_passed n && keeps_told (r ∷ rs) ns))
+
+-- no two Passed stand together
+abbrev pub apart : List Receipt → Bool
+apart [] = true
+apart (r ∷ []) = true
+apart (r ∷ s ∷ rs) = not (is_passed r && is_passed s) && apart (s ∷ rs)

@@ -9,8 +9,8 @@ use Rattle.sci_core.specs.declared.receipts.Receipt.TheVariants.{Read, Passed, W
 use Rattle.sci_core.specs.State.{blank}
 use Rattle.sci_port.specs.declared.calls.Call.{Call}
 use Rattle.sci_port.specs.declared.calls.Call.TheVariants.{Stepped}
-use Rattle.sci_port.specs.KeepsTo.{is_passed, keeps_to}
-use Rattle.sci_port.specs.Shown.{shown_in, kept_in, HasKept}
+use Rattle.sci_port.specs.KeepsTo.{apart, is_passed, keeps_told}
+use Rattle.sci_port.specs.Shown.{told_in, kept_in, HasKept}
 
 -- the receipts, the mark (whether the next settle is only passed), and for how many more receipts there is room
 pub record ReceiptList : Type 0 where
@@ -103,5 +103,6 @@ keeps e s = false
 
 -- these are the receipts of a node in this step, all of whose calls are these
 pub record AreReceiptsOf (log : List (ℕ × Call)) (p : Pending) (s : ReceiptList) : Type 0 where
-  pub keeps : keeps_to s.list (shown_in blank log) ≡ true
+  pub keeps : keeps_told s.list (told_in blank log) ≡ true
+  pub lone : apart s.list ≡ true
   pub kept : HasKept p (kept_in blank log)

@@ -5,7 +5,7 @@ use Rattle.sci_core.specs.declared.pending.Pending.{Pending}
 use Rattle.sci_core.specs.declared.events.Event.{Event}
 use Rattle.sci_core.specs.declared.outcomes.Outcome.{Outcome}
 use Rattle.sci_core.specs.declared.receipts.Receipt.{Receipt}
-use Rattle.sci_core.specs.declared.receipts.Receipt.TheVariants.{Read, Wrote}
+use Rattle.sci_core.specs.declared.receipts.Receipt.TheVariants.{Read, Passed, Wrote}
 use Rattle.sci_port.specs.declared.calls.Call.{Call}
 use Rattle.sci_port.specs.declared.calls.Call.TheVariants.{Stepped}
 
@@ -26,6 +26,15 @@ shown_by k call = []
 abbrev pub shown_in : Line → List (ℕ × Call) → List Receipt
 shown_in k [] = []
 shown_in k (c ∷ cs) = shown_by k c.1 ++ shown_in (kept_after k c.1) cs
+
+-- the same, but that what a settle answers is only passed: as that it may be kept
+abbrev pub told_by : Line → Call → List Receipt
+told_by k (Stepped Event.Settle (Outcome.Done (Some line))) = Passed line.words line.stamp ∷ []
+told_by k call = shown_by k call
+
+abbrev pub told_in : Line → List (ℕ × Call) → List Receipt
+told_in k [] = []
+told_in k (c ∷ cs) = told_by k c.1 ++ told_in (kept_after k c.1) cs
 
 -- the line that was answered last in it
 abbrev pub kept_in : Line → List (ℕ × Call) → Line

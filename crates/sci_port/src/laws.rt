@@ -7,7 +7,7 @@ use sci_core::Keeps;
 /// contract is the law. What the rows of the calls show is one history, whole: the writes of all nodes have the stamps behind the
 /// opening line's up to the last, each once; whatever shows the words of one stamp shows the same words, and at the last stamp the
 /// line's value; in each node's order stamps never fall, and a write's is above all earlier ones. So are the nodes' `Receipts`,
-/// which leave out reads right before a Passed at most, never a write nor the last, and which each call keeps so. Where all writes
+/// which leave out settles at most, those right before a Passed, and in which no two Passed stand together; each call keeps them so. Where all writes
 /// are alike, the words at the end are what so many of them make of the opening words. Sources: coherence as in Culler and Singh, the
 /// rows of this project's profile.
 pub fn receipts_are_one_history<K: Keeps>()

@@ -8,7 +8,7 @@ use sci_coarse::CoarseLine;
 use sci_core::{AnyWords, Line, Receipt, Whole};
 use sci_fine::FineLine;
 use sci_ops::{Op, Turn};
-use sci_port::{Port, Receipted, Receipts, Solo};
+use sci_port::{Port, Receipts, Solo};
 use sci_words::NodeId;
 use std::alloc::Global;
 use std::process::Abort;
@@ -18,9 +18,9 @@ const ZEROS: [u64; 8] = [0; 8];
 
 const SEVEN: [u64; 8] = [7, 0, 0, 0, 0, 0, 0, 0];
 
-// One turn over the port, with its receipts. Whether the operation has ended.
-fn ends<P: Port<Keep = AnyWords>>(port: &mut P, op: &mut Op) -> bool {
-    matches!(op.turn(port), Turn::Done(_))
+// One turn over the port. Whether the operation has ended.
+fn ends<P: Port<Keep = AnyWords>>(port: &mut P, receipts: &mut Receipts, op: &mut Op) -> bool {
+    matches!(op.turn_kept(port, receipts), Turn::Done(_))
 }
 
 /// Turns to the operation's end. None: it has not ended after 100.
@@ -30,7 +30,7 @@ pub(crate) fn carry_out<P: Port<Keep = AnyWords>>(
     op: &mut Op,
 ) -> Option<()> {
     for _ in 0..100 {
-        if ends(&mut Receipted::new(port, receipts), op) {
+        if ends(port, receipts, op) {
             return Some(());
         }
     }
@@ -46,11 +46,10 @@ pub(crate) fn begins(is_first: bool) -> Option<Op> {
     }
 }
 
-// Node 0 stores, and only passes on its way; another node loads.
+// Node 0 stores; another node loads.
 fn store_or_load<P: Port<Keep = AnyWords>>(port: &mut P, receipts: &mut Receipts) -> Option<()> {
     let is_first = port.node().get() == 0;
     let mut op = begins(is_first)?;
-    receipts.aim(is_first);
     carry_out(port, receipts, &mut op)
 }
 
