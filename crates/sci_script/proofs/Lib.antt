@@ -8,6 +8,10 @@ pub mod Followed
 pub mod Seated
 pub mod Kept
 pub mod Desks
+pub mod RestedLines
+pub mod Lent
+pub mod AloneCalls
+pub mod Ended
 pub mod PassedLines
 pub mod Through
 pub mod Extended

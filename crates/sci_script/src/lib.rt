@@ -11,6 +11,7 @@ mod nodes;
 mod numbers;
 mod reader;
 mod refusals;
+mod resting;
 mod running;
 mod talk;
 mod texts;
