@@ -15,3 +15,4 @@ pub mod BankDesks
 pub mod Unheard
 pub mod Dealt
 pub mod Arguments
+pub mod Stuck

@@ -14,6 +14,7 @@ mod refusals;
 mod running;
 mod talk;
 mod texts;
+mod waiting;
 mod watching;
 mod wholes;
 mod writing;
