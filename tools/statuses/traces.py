@@ -42,7 +42,7 @@ WALKS = [
             "# node 0 line 0 load: Queue(none) Done; Queueing(none); HOME\n"
             "# node 1 line 0 load: Queue(none) Done; Queueing(none); HOME\n"
             "# node 0 line 0 load: PrependValid Done; Fetching(none); FRESH lent 0: 0 QUEUED\n"
-            "# node 1 line 0 load: waits: memory is lent; Queueing(none); FRESH lent 0: 0 QUEUED\n"
+            "# node 1 line 0 load: waits: memory is lent; Queueing(none); FRESH lent 0: 0 QUEUED; for node 0\n"
             "node 1 waits\n"
             "# node 0 line 0 load: ReturnMemory Done; InQueue(none); FRESH 0: 0 QUEUED\n"
             "# node 1 line 0 load: Requeue(0) Done; Queueing(0); FRESH 0: 0 QUEUED\n"
@@ -64,7 +64,7 @@ WALKS = [
             "# node 0 line 0 load: Hold(ONLY_DIRTY) Done; Holding; GONE 0: 0 ONLY_DIRTY held\n"
             "# node 1 line 0 load: Queue(0) Done; Queueing(0); GONE 0: 0 ONLY_DIRTY held\n"
             "# node 1 line 0 load: PrependGone Done; InQueue(0) dirty; GONE 1: 1 QUEUED, 0 ONLY_DIRTY held\n"
-            "# node 1 line 0 load: waits: node 0 is ONLY_DIRTY forw none back none held; InQueue(0) dirty; GONE 1: 1 QUEUED, 0 ONLY_DIRTY held\n"
+            "# node 1 line 0 load: waits: node 0 is ONLY_DIRTY forw none back none held; InQueue(0) dirty; GONE 1: 1 QUEUED, 0 ONLY_DIRTY held; for node 0\n"
             "node 1 waits\n"
             "tag 0 0 ONLY_DIRTY forw - back - held\n"
             "# node 0 line 0 load: Unhold Done; Idle; GONE 1: 1 QUEUED, 0 ONLY_DIRTY\n"
@@ -122,7 +122,7 @@ WALKS = [
             "node 1 read 0 stamp 0\n"
             "# node 0 line 0 evict: Roll(TAIL_VALID) Done; Rolling; FRESH 1: 1 HEAD_FRESH, 0 ROLL\n"
             "# node 1 line 0 evict: Leave(HEAD_FRESH) Done; Leaving; FRESH 1: 1 LEAVING, 0 ROLL\n"
-            "# node 1 line 0 evict: waits: node 0 is ROLL forw none back 1; Leaving; FRESH 1: 1 LEAVING, 0 ROLL\n"
+            "# node 1 line 0 evict: waits: node 0 is ROLL forw none back 1; Leaving; FRESH 1: 1 LEAVING, 0 ROLL; for node 0\n"
             "node 1 waits\n"
             "# node 0 line 0 evict: TellPredecessor(1 LEAVING) Done; Unlinked(none); FRESH 1: 1 LEAVING\n"
             "# node 0 line 0 evict: Rolled Done; Idle; FRESH 1: 1 LEAVING\n"
@@ -232,22 +232,36 @@ EACH_NODE = (
     "",
 )
 
-# A `done` that is refused has a line for each of its turns; they are more than what waits.
+# A `done` that is refused has one line for all turns that wait.
 UNENDED = "memory 2 1\nload 0 0 0\nturn 0\nturn 0\nload 1 0 0\nturn 1\ndone 1\n"
 ITS_TRACE = (
     "# node 0 line 0 load: Queue(none) Done; Queueing(none); HOME\n"
     "# node 0 line 0 load: PrependValid Done; Fetching(none); FRESH lent 0: 0 QUEUED\n"
     "# node 1 line 0 load: Queue(0) Done; Queueing(0); FRESH lent 0: 0 QUEUED\n"
-    + 100_000 * "# node 1 line 0 load: waits: memory is lent; Queueing(0); FRESH lent 0: 0 QUEUED\n"
+    "# node 1 line 0 load: waits 100000 times: memory is lent; Queueing(0); FRESH lent 0: 0 QUEUED; for node 0\n"
 )
 
-TRACED = [*WALKS, EACH_NODE, (UNENDED, 1, ITS_TRACE, refused("18 at line 7"))]
+# An exit that waits behind turns that don't.
+LEAVING = "memory 2 1\nload 0 0 0\ndone 0\nload 1 0 0\ndone 1\nevict 0 0\nturn 0\nevict 1 0\ndone 1\n"
+ITS_EXIT = (
+    "".join(f"{line}\n" for line in WALKS[4][2].splitlines()[:13])
+    + "# node 1 line 0 evict: waits 99999 times: node 0 is ROLL forw none back 1; Leaving; FRESH 1: 1 LEAVING, 0 ROLL; for node 0\n"
+)
 
-# They are written as they come: this memory hasn't room for them.
+# A load that waits once by a command of its own, and then in a `done`.
+TWICE = UNENDED.replace("done 1", "turn 1\ndone 1")
+ITS_TURNS = ITS_TRACE.replace("# node 1 line 0 load: waits", "# node 1 line 0 load: waits: memory is lent; Queueing(0); FRESH lent 0: 0 QUEUED; for node 0\nnode 1 waits\n# node 1 line 0 load: waits")
+
+TRACED = [
+    *WALKS, EACH_NODE, (UNENDED, 1, ITS_TRACE, refused("18 at line 7")), (LEAVING, 1, ITS_EXIT, refused("18 at line 9")),
+    (TWICE, 1, ITS_TURNS, refused("18 at line 8")),
+]
+
+# So it takes little memory, of 1,024 nodes too.
 LITTLE = Little(UNENDED, 6_000_000)
-assert len(ITS_TRACE) > LITTLE.memory
 
 TURN = re.compile(r"# node (\d+) line (\d+) [a-z ]+: ([^;]*); (\w+)")
+TIMES = re.compile(r"waits (\d+) times: ")
 
 # In these steps a turn begins with a look at the own tag.
 LOOKING = ("Idle", "Purging", "Leaving", "Rolling")
@@ -261,7 +275,8 @@ def logged(script, trace):
         if found := TURN.match(row):
             node, line, what, step = found.groups()
             if steps.get((node, line), "Idle") in LOOKING:
-                log.append(f"node {node} line {line} Look Done")
+                times = TIMES.match(what)
+                log.extend([f"node {node} line {line} Look Done"] * (int(times[1]) if times else 1))
             if what.endswith(" Done"):
                 log.append(f"node {node} line {line} {what}")
             steps[node, line] = step

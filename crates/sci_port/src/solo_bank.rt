@@ -1,5 +1,6 @@
 //! The bank of a node over lines that it has alone.
-ghost use Rattle.std.specs.Prelude.{◌≡◌, ◌<◌};
+ghost use Rattle.std.specs.Prelude.{◌≡◌, ◌<◌, length, slice_index_or};
+ghost use Rattle.sci_core.specs.Whole.{WholeLine};
 ghost use Rattle.sci_port.specs.Banks.{AreLinesOf, GivesAt, lent_lines, lent_way, nodes_at, step_at};
 
 use crate::bank::Bank;
@@ -37,6 +38,15 @@ impl<K: Keeps> SoloBank<K> {
         ensures node { self.new.node ≡ node }
     {
         self.node = node;
+    }
+
+    /// The line with this number, as it stands.
+    pub fn whole(&self, line: LineNo) -> &Whole<K>
+        requires { line < length self.now.wholes.items }
+        ensures { (d : WholeLine K) → result.now ≡ slice_index_or self.now.wholes.items line d }
+    {
+        let wholes = &self.wholes;
+        &wholes[usize::from(line)]
     }
 
     /// The lines as they stand.

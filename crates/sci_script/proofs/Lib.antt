@@ -19,3 +19,4 @@ pub mod BankDesks
 pub mod Unheard
 pub mod Dealt
 pub mod Arguments
+pub mod Stuck

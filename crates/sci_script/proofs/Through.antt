@@ -15,7 +15,7 @@ module _ {S T : Type 0} (f : S → T) (is_open : T → ℕ → Bool) (does_seen 
   abbrev open_seen : S → ℕ → Bool
   open_seen s node = is_open (f s) node
 
-  unended : (node n : ℕ) (s t : S) → Unended does_seen node n s t → Unended does node n (f s) (f t)
+  pub unended : (node n : ℕ) (s t : S) → Unended does_seen node n s t → Unended does node n (f s) (f t)
   unfolding Unended
   unended node zero s t h = ap f h
   unended node (suc n) s t h = (f h.0, h.1, unended node n s h.0 h.2, h.3, seen h.0 (Turned node h.1) t h.4)

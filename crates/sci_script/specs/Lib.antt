@@ -19,3 +19,4 @@ pub mod Refusals
 pub mod Dealt
 pub mod Talks
 pub mod Talkers
+pub mod Waiting

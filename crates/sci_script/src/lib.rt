@@ -15,6 +15,7 @@ mod resting;
 mod running;
 mod talk;
 mod texts;
+mod waiting;
 mod watching;
 mod wholes;
 mod writing;

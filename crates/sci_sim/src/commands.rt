@@ -90,9 +90,10 @@ OPERATION is load, store, add or evict; on a line other than the call's own it i
   EVENT Done                the turn's exchange, with its arguments: a link, the words written, or the tag that was found, with
                             its node where that is another one
   waits: WHY                memory is lent, memory names a node that isn't this one, or a tag that must change first
+  waits K times: WHY        the same of a `done` that is refused 18, for all of its turns that wait
   only looked               the call, or the victim's exit, ended without an exchange
 STEP is the node's pending step after the turn, with the node that it keeps. LIST is the list after it, as `list` has it, with
-` lent` behind memory's state and ` held` behind an entry's name.
+` lent` behind memory's state and ` held` behind an entry's name. `; for node N` stands behind that where the turn waits for a node.
 
 With --log it writes the log of the script in place of all that: `memory NODES LINES`, the script's `open` lines, and then each event
 in order, looks at the own tag among them, which a trace leaves out:

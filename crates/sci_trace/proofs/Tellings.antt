@@ -9,17 +9,19 @@ use Rattle.sci_ops.specs.declared.answers.Turn.{Turn}
 use Rattle.sci_cache.specs.declared.requests.Request.{Request}
 use Rattle.sci_script.specs.declared.commands.Step.{Step}
 use Rattle.sci_script.specs.declared.commands.Command.{Command}
+use Rattle.sci_script.specs.declared.refusals.ScriptRefusal.{ScriptRefusal}
 use Rattle.sci_script.specs.declared.watching.Passed.{Passed}
-use Rattle.sci_script.specs.Event.{Event, Began, Turned, SawMem, SawTag, SawResidents, IsNoEnd}
+use Rattle.sci_script.specs.Event.{Event, Began, Turned, SawMem, SawTag, SawResidents, IsEnd, IsNoEnd}
 use Rattle.sci_script.specs.Passed.{shared_passes}
 use Rattle.sci_script.specs.Request.{words_after}
-use Rattle.sci_script.specs.Run.{Unended, Prints}
+use Rattle.sci_script.specs.Run.{Unended, Prints, StopsAt}
 use Rattle.sci_script.specs.Shared.{Shared, shared_does}
 use Rattle.sci_script.proofs.Runs.{unended_none, unended_more, words_behind}
 use Rattle.sci_trace.specs.Lists.{walked}
 use Rattle.sci_trace.specs.Notes.{Told, line_of_turn}
-use Rattle.sci_trace.specs.Texts.{is_waiting, note_line}
-use Rattle.sci_trace.specs.Telling.{Telling, telling, nothing, AddsLine, telling_is_open, tells, TellsAll}
+use Rattle.sci_trace.specs.declared.texts.Wait.{Wait}
+use Rattle.sci_trace.specs.Texts.{note_line}
+use Rattle.sci_trace.specs.Telling.{Telling, telling, nothing, is_wait, IsWait, AddsLine, telling_is_open, tells, TellsAll}
 
 -- what a run does that tells of its turns, the lines and nodes do
 pub told_does : (s : Telling) (event : Event) (t : Telling) → tells s event t → shared_does s.shared event t.shared
@@ -30,35 +32,55 @@ told_does s (SawTag line node tag) t h = h.0
 told_does s (SawResidents node lines) t h = h.0
 
 -- a line that was added tells of this
-pub told_line : (node : ℕ) (asked : Option Request) (passed : Passed) (stage : Stage) (turn : Turn) (mem : Mem) (entries : List (ℕ × Tag)) (before after : List ℕ) (cut still : Bool) (step : Stage) (word : Mem) (tags : ℕ → Tag) (width : ℕ)
-    → stage ≡ step → mem ≡ word → entries ≡ walked tags width mem.forw
-    → (still ≡ true) ⊎ ((still ≡ cut) × (after ≡ before ++ note_line node asked passed stage (is_waiting turn) mem entries))
-    → (still ≡ true) ⊎ ((still ≡ cut) × (told : Told) × (told.node ≡ node) × (told.turn ≡ turn) × (told.passed ≡ passed) × (told.stage ≡ step) × (told.mem ≡ word) × (told.entries ≡ walked tags width told.mem.forw) × (after ≡ before ++ line_of_turn told))
-told_line node asked passed stage turn mem entries before after cut still step word tags width stands is along (inl h) = inl h
-told_line node asked passed stage turn mem entries before after cut still step word tags width stands is along (inr (kept, added)) =
-    let told : Told = record { node = node; asked = asked; passed = passed; stage = stage; turn = turn; mem = mem; entries = entries } in
-    inr (kept, told, refl, refl, refl, stands, is, along, added)
+pub told_line : (node : ℕ) (asked : Option Request) (passed : Passed) (stage : Stage) (wait : Option Wait) (mem : Mem) (entries : List (ℕ × Tag)) (before after : List ℕ) (cut still : Bool) (W : Option Wait → Type 0) (step : Stage) (word : Mem) (tags : ℕ → Tag) (width : ℕ)
+    → W wait → stage ≡ step → mem ≡ word → entries ≡ walked tags width mem.forw
+    → (still ≡ true) ⊎ ((still ≡ cut) × (after ≡ before ++ note_line node asked passed stage wait mem entries))
+    → (still ≡ true) ⊎ ((still ≡ cut) × (told : Told) × (told.node ≡ node) × (told.passed ≡ passed) × W told.wait × (told.stage ≡ step) × (told.mem ≡ word) × (told.entries ≡ walked tags width told.mem.forw) × (after ≡ before ++ line_of_turn told))
+told_line node asked passed stage wait mem entries before after cut still W step word tags width waits stands is along (inl h) = inl h
+told_line node asked passed stage wait mem entries before after cut still W step word tags width waits stands is along (inr (kept, added)) =
+    let told : Told = record { node = node; asked = asked; passed = passed; wait = wait; stage = stage; mem = mem; entries = entries } in
+    inr (kept, told, refl, refl, waits, stands, is, along, added)
 
 -- a turn's line is added: the desk stands as the turn left it, and the line tells what passed
-pub adds_line : (s mid t : Shared) (node : ℕ) (turn : Turn) (q : Passed) (before after : List ℕ) (cut still : Bool) → t ≡ mid → shared_passes s node mid nothing q
-    → (still ≡ true) ⊎ ((still ≡ cut) × (told : Told) × (told.node ≡ node) × (told.turn ≡ turn) × (told.passed ≡ q) × (told.stage ≡ stage_of ((mid.lines q.line).steps node)) × (told.mem ≡ (mid.lines q.line).memory) × (told.entries ≡ walked (mid.lines q.line).tags mid.width told.mem.forw) × (after ≡ before ++ line_of_turn told))
-    → AddsLine (record { shared = s; notes = before; is_cut = cut }) node turn (record { shared = t; notes = after; is_cut = still })
-adds_line s mid t node turn q before after cut still same passes (inl h) = inl h
-adds_line s mid t node turn q before after cut still same passes (inr (kept, told, of, is, passed, step, mem, along, added)) =
-    subst (λ (x : Shared). AddsLine (record { shared = s; notes = before; is_cut = cut }) node turn (record { shared = x; notes = after; is_cut = still })) (sym same)
+pub adds_line : (s mid t : Shared) (node : ℕ) (turn : Turn) (times : ℕ) (q : Passed) (before after : List ℕ) (cut still : Bool) → t ≡ mid → shared_passes s node mid nothing q
+    → (still ≡ true) ⊎ ((still ≡ cut) × (told : Told) × (told.node ≡ node) × (told.passed ≡ q) × IsWait turn mid q.line node times told.wait × (told.stage ≡ stage_of ((mid.lines q.line).steps node)) × (told.mem ≡ (mid.lines q.line).memory) × (told.entries ≡ walked (mid.lines q.line).tags mid.width told.mem.forw) × (after ≡ before ++ line_of_turn told))
+    → AddsLine (record { shared = s; notes = before; is_cut = cut }) node turn times (record { shared = t; notes = after; is_cut = still })
+adds_line s mid t node turn times q before after cut still same passes (inl h) = inl h
+adds_line s mid t node turn times q before after cut still same passes (inr (kept, told, of, passed, waits, step, mem, along, added)) =
+    subst (λ (x : Shared). AddsLine (record { shared = s; notes = before; is_cut = cut }) node turn times (record { shared = x; notes = after; is_cut = still })) (sym same)
     (inr (
       kept,
       told,
       (
         of,
-        is,
         subst (λ (p : Passed). shared_passes s node mid nothing p) (sym passed) passes,
+        subst (λ (p : Passed). IsWait turn mid p.line node times told.wait) (sym passed) waits,
         subst (λ (p : Passed). told.stage ≡ stage_of ((mid.lines p.line).steps node)) (sym passed) step,
         subst (λ (p : Passed). told.mem ≡ (mid.lines p.line).memory) (sym passed) mem,
         subst (λ (p : Passed). told.entries ≡ walked (mid.lines p.line).tags mid.width told.mem.forw) (sym passed) along,
       ),
       added,
     ))
+
+-- what doesn't wait stands for itself
+once : (s : Telling) (node : ℕ) (turn : Turn) (times : ℕ) (t : Telling) → is_wait turn ≡ false → AddsLine s node turn times t → AddsLine s node turn 1 t
+once s node Turn.Moved times t no-wait h = h
+once s node (Turn.Done answer) times t no-wait h = h
+once s node Turn.Waiting times t no-wait h = absurd (cc)
+
+pub tells_once : (s : Telling) (node : ℕ) (turn : Turn) (times : ℕ) (t : Telling) → is_wait turn ≡ false → shared_does s.shared (Turned node turn) t.shared → AddsLine s node turn times t → tells s (Turned node turn) t
+tells_once s node turn times t no-wait does added = (does, once s node turn times t no-wait added)
+
+-- the end of a call is no wait
+pub end_no_wait : (turn : Turn) → IsEnd turn → is_wait turn ≡ false
+end_no_wait Turn.Moved end = absurd end
+end_no_wait Turn.Waiting end = absurd end
+end_no_wait (Turn.Done answer) end = refl
+
+pub wait_is : (turn : Turn) → is_wait turn ≡ true → turn ≡ Turn.Waiting
+wait_is Turn.Moved waits = absurd (cc)
+wait_is Turn.Waiting waits = refl
+wait_is (Turn.Done answer) waits = absurd (cc)
 
 -- from no line and none refused, to none refused
 pub told_so : (words : List ℕ) (command : Command) (text : List ℕ) (s t : Shared) (before after : List ℕ) (cut still : Bool) → before ≡ [] → cut ≡ false → still ≡ false
@@ -68,6 +90,15 @@ told_so words command text s t before after cut still none whole kept h =
     subst (λ (b : Bool). Prints telling_is_open tells words (telling s []) command text (record { shared = t; notes = after; is_cut = b })) kept
     (subst (λ (b : Bool). Prints telling_is_open tells words (record { shared = s; notes = []; is_cut = b }) command text (record { shared = t; notes = after; is_cut = still })) whole
     (subst (λ (l : List ℕ). Prints telling_is_open tells words (record { shared = s; notes = l; is_cut = cut }) command text (record { shared = t; notes = after; is_cut = still })) none h))
+
+-- the same of a command that fails
+pub told_stops : (nodes : ℕ) (step : Step) (e : ScriptRefusal) (s t : Shared) (before after : List ℕ) (cut still : Bool) → before ≡ [] → cut ≡ false → still ≡ false
+    → StopsAt telling_is_open tells nodes (record { shared = s; notes = before; is_cut = cut }) step e (record { shared = t; notes = after; is_cut = still })
+    → StopsAt telling_is_open tells nodes (telling s []) step e (telling t after)
+told_stops nodes step e s t before after cut still none whole kept h =
+    subst (λ (b : Bool). StopsAt telling_is_open tells nodes (telling s []) step e (record { shared = t; notes = after; is_cut = b })) kept
+    (subst (λ (b : Bool). StopsAt telling_is_open tells nodes (record { shared = s; notes = []; is_cut = b }) step e (record { shared = t; notes = after; is_cut = still })) whole
+    (subst (λ (l : List ℕ). StopsAt telling_is_open tells nodes (record { shared = s; notes = l; is_cut = cut }) step e (record { shared = t; notes = after; is_cut = still })) none h))
 
 abbrev pub telling_in : Shared → List ℕ → Bool → Telling
 telling_in s notes cut = record { shared = s; notes = notes; is_cut = cut }
@@ -81,12 +112,12 @@ same_telling s t before after cut still same is kept =
     ap (λ (x : Shared). telling_in x before cut) same ∙ ap (λ (x : List ℕ). telling_in t x cut) is ∙ ap (λ (x : Bool). telling_in t after x) kept
 
 -- a turn's line is added behind these too
+adds_front : (put : List ℕ) (node : ℕ) (turn : Turn) (times : ℕ) (s t : Telling) → AddsLine s node turn times t → AddsLine (with_front put s) node turn times (with_front put t)
+adds_front put node turn times s t (inl h) = inl h
+adds_front put node turn times s t (inr (kept, told, is, added)) = inr (kept, told, is, ap (λ (x : List ℕ). put ++ x) added ∙ sym (append_assoc put s.notes (line_of_turn told)))
+
 adds_behind : (put : List ℕ) (node : ℕ) (turn : Turn) (s t : Telling) → tells s (Turned node turn) t → tells (with_front put s) (Turned node turn) (with_front put t)
-adds_behind put node turn s t (does, inl h) = (does, inl h)
-adds_behind put node turn s t (does, inr (kept, told, is, added)) = (
-  does,
-  inr (kept, told, is, ap (λ (x : List ℕ). put ++ x) added ∙ sym (append_assoc put s.notes (line_of_turn told))),
-)
+adds_behind put node turn s t (does, added) = (does, adds_front put node turn 1 s t added)
 
 -- no turn was taken, and no line told
 pub unended_first : (node : ℕ) (s : Shared) (notes : List ℕ) (cut : Bool) → notes ≡ [] → cut ≡ false → Unended tells node 0 (telling s []) (with_front [] (telling_in s notes cut))
@@ -107,6 +138,14 @@ pub ends_behind : (put : List ℕ) (node : ℕ) (turn : Turn) (s mid : Telling) 
 ends_behind put node turn s mid t turned whole same =
     subst (λ (x : Telling). tells (with_front put s) (Turned node turn) x)
     (same_telling mid.shared t (put ++ mid.notes) (put ++ mid.notes) mid.is_cut false (sym same) refl whole) (adds_behind put node turn s mid turned)
+
+-- a turn that waits, whose line is written with those before
+pub waits_behind : (put : List ℕ) (node times : ℕ) (turn : Turn) (s mid : Telling) (t : Shared) → AddsLine s node turn times mid → turn ≡ Turn.Waiting → mid.is_cut ≡ false → t ≡ mid.shared
+    → AddsLine (with_front put s) node Turn.Waiting times (telling t (put ++ mid.notes))
+waits_behind put node times turn s mid t added is whole same =
+    subst (λ (x : Telling). AddsLine (with_front put s) node Turn.Waiting times x)
+    (same_telling mid.shared t (put ++ mid.notes) (put ++ mid.notes) mid.is_cut false (sym same) refl whole)
+    (subst (λ (o : Turn). AddsLine (with_front put s) node o times (with_front put mid)) is (adds_front put node turn times s mid added))
 
 -- the lines of turns of which none is the last are written
 pub unended_behind : (node n : ℕ) (first s : Telling) (t : Shared) (put : List ℕ) → Unended tells node n first (with_front put s) → s.is_cut ≡ false → t ≡ s.shared → Unended tells node n first (telling t (put ++ s.notes))

@@ -1,22 +1,29 @@
 -- One more command of a traced run, and where it stops.
-use Rattle.std.proofs.Common.{◌≡◌, ◌∙◌, ◌<◌, ◌+◌, ℕ, List, [], ◌++◌, Some, Result, IfErr, length, get_or, take, refl, sym, ap, subst, append-nil, append_assoc}
+use Rattle.std.proofs.Common.{◌≡◌, ◌∙◌, ◌<◌, ◌+◌, ℕ, zero, suc, true, List, [], ◌++◌, inl, inr, arith, Some, Result, IfErr, length, get_or, take, refl, sym, ap, subst, append-nil, append_assoc}
 use Rattle.std.proofs.lemmas.List.Sums.{AllPass-from_list_all}
 use Rattle.std.specs.Prelude.{slice_get}
 use Rattle.sci_script.specs.declared.commands.Size.{Size}
+use Rattle.sci_ops.specs.declared.answers.Turn.{Turn}
 use Rattle.sci_script.specs.declared.commands.Command.{Command}
+use Rattle.sci_script.specs.declared.commands.Command.TheVariants.{Begin, Turn as TurnOnce, Done, List as ListLine, Tag as ShowTag, Residents}
 use Rattle.sci_script.specs.declared.commands.Step.{Step}
 use Rattle.sci_script.specs.declared.refusals.ScriptRefusal.{ScriptRefusal}
 use Rattle.sci_script.specs.declared.refusals.ScriptRefusal.TheVariants.{OutOfMemory, BadCommand, BadNumber, NotDone, WriteFailed}
 use Rattle.sci_script.specs.Request.{no_words}
-use Rattle.sci_script.specs.Run.{Prints, StopsAt}
+use Rattle.sci_script.specs.Event.{Turned}
+use Rattle.sci_script.specs.Run.{Prints, StopsAt, IsUnended, Unended}
 use Rattle.sci_script.specs.Shared.{Shared, shared_is_open, shared_does}
 use Rattle.sci_script.specs.Size.{is_in, IsIn, AreIn}
-use Rattle.sci_script.proofs.Runs.{prints_none, run_step, words_behind}
+use Rattle.sci_script.proofs.Runs.{prints_none, run_step, unended_more, words_behind}
+use Rattle.sci_script.proofs.Stuck.{unended_on, waits_again}
+use Rattle.sci_script.proofs.Through.{stops_at, unended}
 use Rattle.sci_trace.specs.Notes.{AreNotes, IsWoven}
 use Rattle.sci_trace.specs.declared.coding.Coding.{Coding}
 use Rattle.sci_trace.specs.Coding.{coded, IsFront}
-use Rattle.sci_trace.specs.Traces.{Traces, TraceStops, NotesLeft, StepLeaves, TraceLeaves, FormLeaves}
+use Rattle.sci_trace.specs.Traces.{Traces, TraceStops, TraceHangs, NotesLeft, StepLeaves, TraceLeaves, FormLeaves}
+use Rattle.sci_trace.specs.Telling.{Telling, telling, telling_is_open, tells, AddsLine, TellsNoEnd}
 use Rattle.sci_trace.proofs.Coded.{coded_append, coded_front}
+use Rattle.sci_trace.proofs.Tellings.{told_does}
 use Rattle.sci_trace.proofs.Weaving.{notes_append, woven_none, woven_more, woven_notes}
 
 pub traces_none : (s : Shared) → Traces [] s [] s
@@ -47,14 +54,43 @@ pub trace_cut : (coding : Coding) (nodes : ℕ) (steps : List Step) (k : ℕ) (t
     → IsFront (coded coding more) front → FormLeaves (coded coding) nodes steps s WriteFailed (coded coding traced ++ front) t
 trace_cut coding nodes steps k traced more front s mid t all cut = (traced ++ more, (k, mid, all), coded_front coding traced more front cut)
 
+-- what a command that doesn't end tells of its turns
+no_end_told : (nodes : ℕ) (command : Command) (s : Shared) (notes : List ℕ) (t : Shared) → IsUnended telling_is_open tells nodes (telling s []) command (telling t notes) → TellsNoEnd command s notes t
+no_end_told nodes (Begin node line request) s notes t h = tt
+no_end_told nodes (TurnOnce node) s notes t h = tt
+no_end_told nodes (Done node) s notes t h = inl h.1
+no_end_told nodes (ListLine line) s notes t h = tt
+no_end_told nodes (ShowTag line node) s notes t h = tt
+no_end_told nodes (Residents node) s notes t h = tt
+
+-- a command that tells of its turns fails as it does without
+stops_so : (nodes : ℕ) (s : Shared) (step : Step) (notes : List ℕ) (e : ScriptRefusal) (t : Shared) → StopsAt telling_is_open tells nodes (telling s []) step e (telling t notes) → StopsAt shared_is_open shared_does nodes s step e t
+stops_so nodes s step notes e t stop = stops_at (λ (x : Telling). x.shared) shared_is_open tells shared_does told_does nodes (telling s []) step e (telling t notes) stop
+
 -- a command failed, whose turns' lines are written
-pub step_left : (coding : Coding) (nodes : ℕ) (s : Shared) (step : Step) (notes : List ℕ) (e : ScriptRefusal) (t : Shared) → AreNotes notes → StopsAt shared_is_open shared_does nodes s step e t
+pub step_left : (coding : Coding) (nodes : ℕ) (s : Shared) (step : Step) (notes : List ℕ) (e : ScriptRefusal) (t : Shared) → AreNotes notes → StopsAt telling_is_open tells nodes (telling s []) step e (telling t notes)
     → StepLeaves coding nodes s step e (coded coding notes) t
 step_left coding nodes s step notes OutOfMemory t are stop = (notes, are, tt, refl)
-step_left coding nodes s step notes (BadCommand n) t are stop = (notes, are, stop, refl)
+step_left coding nodes s step notes (BadCommand n) t are stop = (notes, are, stops_so nodes s step notes (BadCommand n) t stop, refl)
 step_left coding nodes s step notes (BadNumber n) t are stop = absurd stop
-step_left coding nodes s step notes (NotDone n) t are stop = (notes, are, stop, refl)
+step_left coding nodes s step notes (NotDone n) t are stop = (notes, are, (stops_so nodes s step notes (NotDone n) t stop, no_end_told nodes step.command s notes t stop.1), refl)
 step_left coding nodes s step notes WriteFailed t are stop = absurd stop
+
+-- a turn waits behind so many, and each further turn up to the last waits too
+hung : (node n times : ℕ) (s mid t : Shared) → n + times ≡ 100000 → 0 < times → Unended shared_does node n s mid → shared_does mid (Turned node Turn.Waiting) t → Unended shared_does node 100000 s t
+hung node n zero s mid t sum some before now = absurd (omega (arith, some))
+hung node n (suc k) s mid t sum some before now =
+    let e : (n + 1) + k ≡ 100000 = omega (arith, sum) in
+    subst (λ (m : ℕ). Unended shared_does node m s t) e
+    (unended_on shared_does node (n + 1) k s t (unended_more shared_does node n s mid t Turn.Waiting before tt now) (waits_again mid t node now))
+
+-- a call that waits doesn't end, and the line of its wait stands for the turns that it has left
+pub hang_left : (coding : Coding) (nodes node number n times : ℕ) (s : Shared) (mid : Telling) (notes : List ℕ) (t : Shared) → AreNotes notes → shared_is_open s node ≡ true → n + times ≡ 100000 → 0 < times
+    → Unended tells node n (telling s []) mid → AddsLine mid node Turn.Waiting times (telling t notes) → shared_does mid.shared (Turned node Turn.Waiting) t
+    → StepLeaves coding nodes s (record { number = number; command = Done node }) (NotDone number) (coded coding notes) t
+hang_left coding nodes node number n times s mid notes t are open sum some before added now =
+    let all : Unended shared_does node 100000 s t = hung node n times s mid.shared t sum some (unended (λ (x : Telling). x.shared) shared_is_open tells shared_does told_does node n (telling s []) mid before) now in
+    (notes, are, ((refl, (open, all)), inr (n, times, mid, some, sum, before, added, waits_again mid.shared t node now)), refl)
 
 -- behind lines that were written, others weren't all written
 pub notes_left : (coding : Coding) (nodes : ℕ) (s : Shared) (step : Step) (put notes written : List ℕ) (e : ScriptRefusal) (t : Shared) → AreNotes put → AreNotes notes → NotesLeft coding e notes written
@@ -79,7 +115,7 @@ trace_leaves coding nodes steps k step traced written (BadCommand n) s mid t so_
     (traced ++ notes, (k, mid, step, traces_notes (take k steps) traced notes s mid so_far are, at, stop), ap (λ (x : List ℕ). coded coding traced ++ x) is ∙ sym (coded_append coding traced notes))
 trace_leaves coding nodes steps k step traced written (BadNumber n) s mid t so_far at (notes, are, stop, is) = absurd stop
 trace_leaves coding nodes steps k step traced written (NotDone n) s mid t so_far at (notes, are, stop, is) =
-    (traced ++ notes, (k, mid, step, traces_notes (take k steps) traced notes s mid so_far are, at, stop), ap (λ (x : List ℕ). coded coding traced ++ x) is ∙ sym (coded_append coding traced notes))
+    (traced ++ notes, (k, mid, step, traces_notes (take k steps) traced notes s mid so_far are, at, stop.0, traced, notes, so_far, stop.1, refl), ap (λ (x : List ℕ). coded coding traced ++ x) is ∙ sym (coded_append coding traced notes))
 trace_leaves coding nodes steps k step traced written WriteFailed s mid t so_far at (notes, are, stop, cut) =
     trace_cut coding nodes steps k traced notes written s mid t (traces_notes (take k steps) traced notes s mid so_far are) cut
 
@@ -89,5 +125,5 @@ pub plain_leaves : (nodes : ℕ) (steps : List Step) (s : Shared) (e : ScriptRef
 plain_leaves nodes steps s OutOfMemory written t (traced, (k, mid, so_far), is) = (k, mid, subst (λ (x : List ℕ). Traces (take k steps) s x mid) (sym is) so_far)
 plain_leaves nodes steps s (BadCommand n) written t (traced, stops, is) = subst (λ (x : List ℕ). TraceStops nodes steps s (BadCommand n) x t) (sym is) stops
 plain_leaves nodes steps s (BadNumber n) written t (traced, stops, is) = absurd stops
-plain_leaves nodes steps s (NotDone n) written t (traced, stops, is) = subst (λ (x : List ℕ). TraceStops nodes steps s (NotDone n) x t) (sym is) stops
+plain_leaves nodes steps s (NotDone n) written t (traced, stops, is) = subst (λ (x : List ℕ). TraceHangs nodes steps s n x t) (sym is) stops
 plain_leaves nodes steps s WriteFailed written t (traced, (k, mid, so_far), (n, less, is)) = (k, mid, traced, n, so_far, less, is)

@@ -1,18 +1,21 @@
 -- A run that tells of its turns, one after the other. This project's profile.
-use Rattle.std.specs.Prelude.{◌≡◌, ◌⊎◌, ℕ, Bool, true, false, List, [], ◌∷◌, ◌++◌, None}
+use Rattle.std.specs.Prelude.{◌≡◌, ◌⊎◌, ℕ, ◌<◌, ◌+◌, Bool, true, false, List, [], ◌∷◌, ◌++◌, Option, Some, None}
 use Rattle.sci_core.specs.Stage.{stage_of}
 use Rattle.sci_ops.specs.declared.answers.Turn.{Turn}
+use Rattle.sci_script.specs.declared.commands.Command.{Command}
 use Rattle.sci_script.specs.declared.commands.Step.{Step}
 use Rattle.sci_script.specs.declared.watching.Passed.{Passed}
 use Rattle.sci_script.specs.Event.{Event, Began, Turned, SawMem, SawTag, SawResidents}
 use Rattle.sci_script.specs.Passed.{shared_passes}
 use Rattle.sci_script.specs.Request.{words_after}
-use Rattle.sci_script.specs.Run.{Prints}
+use Rattle.sci_script.specs.Run.{Prints, Unended}
 use Rattle.sci_script.specs.Shared.{Shared, shared_is_open, shared_does}
+use Rattle.sci_script.specs.Waiting.{IsAwaited}
 use Rattle.sci_script.specs.Wholes.{shared_of}
 use Rattle.sci_trace.specs.Lists.{walked}
 use Rattle.sci_trace.specs.NoteText.{note_bytes}
 use Rattle.sci_trace.specs.declared.desk.TraceDesk.{TraceDesk}
+use Rattle.sci_trace.specs.declared.texts.Wait.{Wait}
 use Rattle.sci_trace.specs.Notes.{Told, line_of_turn}
 
 -- the lines and nodes, the lines of the turns so far, and whether memory was refused for one of those
@@ -31,15 +34,25 @@ telling s notes = record { shared = s; notes = notes; is_cut = false }
 abbrev pub nothing : Passed
 nothing = record { line = 0; looks = 0; load = None; step = None }
 
--- this is told of the turn that the node took from s to t: whose it was, what it came to, what passed in it, and the node's pending
--- step, memory's word and the list's entries after it
-abbrev pub IsTold : Shared → ℕ → Turn → Shared → Told → Type 0
-IsTold s node turn t told = (told.node ≡ node) × (told.turn ≡ turn) × shared_passes s node t nothing told.passed × (told.stage ≡ stage_of ((t.lines told.passed.line).steps node))
-    × (told.mem ≡ (t.lines told.passed.line).memory) × (told.entries ≡ walked (t.lines told.passed.line).tags t.width told.mem.forw)
+-- a turn that waits is told with whom its node waits for, by the words behind the turn, and how many turns the line stands for
+abbrev pub IsWait : Turn → Shared → ℕ → ℕ → ℕ → Option Wait → Type 0
+IsWait Turn.Waiting t line node times wait = (whom : Option ℕ) × IsAwaited t line node whom × (wait ≡ Some (record { times = times; whom = whom }))
+IsWait _ t line node times wait = wait ≡ None
+
+abbrev pub is_wait : Turn → Bool
+is_wait Turn.Waiting = true
+is_wait _ = false
+
+-- this is told of the turn that the node took from s to t: whose it was, what passed in it, its wait, and the node's pending step,
+-- memory's word and the list's entries after it
+abbrev pub IsTold : Shared → ℕ → Turn → ℕ → Shared → Told → Type 0
+IsTold s node turn times t told = (told.node ≡ node) × shared_passes s node t nothing told.passed × IsWait turn t told.passed.line node times told.wait
+    × (told.stage ≡ stage_of ((t.lines told.passed.line).steps node)) × (told.mem ≡ (t.lines told.passed.line).memory)
+    × (told.entries ≡ walked (t.lines told.passed.line).tags t.width told.mem.forw)
 
 -- the turn's line is added, unless memory is refused for it
-abbrev pub AddsLine : Telling → ℕ → Turn → Telling → Type 0
-AddsLine s node turn t = (t.is_cut ≡ true) ⊎ ((t.is_cut ≡ s.is_cut) × (told : Told) × IsTold s.shared node turn t.shared told × (t.notes ≡ s.notes ++ line_of_turn told))
+abbrev pub AddsLine : Telling → ℕ → Turn → ℕ → Telling → Type 0
+AddsLine s node turn times t = (t.is_cut ≡ true) ⊎ ((t.is_cut ≡ s.is_cut) × (told : Told) × IsTold s.shared node turn times t.shared told × (t.notes ≡ s.notes ++ line_of_turn told))
 
 abbrev pub AddsNone : Telling → Telling → Type 0
 AddsNone s t = (t.is_cut ≡ s.is_cut) × (t.notes ≡ s.notes)
@@ -47,7 +60,7 @@ AddsNone s t = (t.is_cut ≡ s.is_cut) × (t.notes ≡ s.notes)
 -- what lines and nodes do; each turn adds its line, and nothing else adds one
 abbrev pub tells : Telling → Event → Telling → Type 0
 tells s (Began node request) t = shared_does s.shared (Began node request) t.shared × AddsNone s t
-tells s (Turned node turn) t = shared_does s.shared (Turned node turn) t.shared × AddsLine s node turn t
+tells s (Turned node turn) t = shared_does s.shared (Turned node turn) t.shared × AddsLine s node turn 1 t
 tells s (SawMem line mem) t = shared_does s.shared (SawMem line mem) t.shared × AddsNone s t
 tells s (SawTag line node tag) t = shared_does s.shared (SawTag line node tag) t.shared × AddsNone s t
 tells s (SawResidents node lines) t = shared_does s.shared (SawResidents node lines) t.shared × AddsNone s t
@@ -60,3 +73,15 @@ abbrev pub TellsAll : List ℕ → Shared → List Step → List ℕ → Shared 
 TellsAll words s [] traced t = (traced ≡ []) × (t ≡ s)
 TellsAll words s (step ∷ steps) traced t = (notes text rest : List ℕ) × (mid : Shared) × Prints telling_is_open tells words (telling s []) step.command text (telling mid notes)
     × TellsAll (words_after words step.command) mid steps rest t × (traced ≡ (notes ++ text) ++ rest)
+
+-- the lines of a call that doesn't end, from s to t: one for each of its 100,000 turns; or one for each of n turns, and one that stands
+-- for the turn behind them and all that follow it, of which each waits and changes nothing
+abbrev pub TellsUnended : ℕ → Shared → List ℕ → Shared → Type 0
+TellsUnended node s notes t = Unended tells node 100000 (telling s []) (telling t notes)
+    ⊎ ((n times : ℕ) × (mid : Telling) × (0 < times) × (n + times ≡ 100000) × Unended tells node n (telling s []) mid × AddsLine mid node Turn.Waiting times (telling t notes)
+    × shared_does t (Turned node Turn.Waiting) t)
+
+-- the lines of a command that doesn't end
+abbrev pub TellsNoEnd : Command → Shared → List ℕ → Shared → Type 0
+TellsNoEnd (Command.Done node) s notes t = TellsUnended node s notes t
+TellsNoEnd _ s notes t = Unit {0}

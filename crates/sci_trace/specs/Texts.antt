@@ -1,14 +1,14 @@
 -- The line of one turn. This project's profile.
-use Rattle.std.specs.Prelude.{ℕ, Bool, true, false, List, ◌++◌, Option, Some, None, codes, ◌==◌, if◌then◌else◌}
+use Rattle.std.specs.Prelude.{ℕ, List, [], ◌++◌, Option, Some, None, codes, ◌==◌, if◌then◌else◌}
 use Rattle.std.specs.Fmt.{decimal}
 use Rattle.sci_words.specs.declared.memory.Mem.{Mem}
 use Rattle.sci_words.specs.declared.tags.Tag.{Tag}
 use Rattle.sci_core.specs.declared.stages.Stage.{Stage}
-use Rattle.sci_ops.specs.declared.answers.Turn.{Turn}
 use Rattle.sci_cache.specs.declared.requests.Request.{Request}
 use Rattle.sci_cache.specs.Requests.{line_of}
 use Rattle.sci_script.specs.declared.watching.Load.{Load}
 use Rattle.sci_script.specs.declared.watching.Passed.{Passed}
+use Rattle.sci_trace.specs.declared.texts.Wait.{Wait}
 use Rattle.sci_trace.specs.Words.{link_word, tag_text}
 use Rattle.sci_trace.specs.Events.{event_text}
 use Rattle.sci_trace.specs.Steps.{step_text}
@@ -39,20 +39,19 @@ wait_text node (Some (Load.Mem (Some mem))) stage = mem_wait stage mem
 wait_text node (Some (Load.Tag other (Some tag))) stage = tag_text other tag
 wait_text node _ stage = codes "the line is busy"
 
--- the turn waited
-abbrev pub is_waiting : Turn → Bool
-is_waiting Turn.Waiting = true
-is_waiting _ = false
+-- that it waited, and for how many turns the line stands
+abbrev pub times_text : ℕ → List ℕ
+times_text times = if times == 1 then codes "waits: " else codes "waits " ++ decimal times ++ codes " times: "
 
 -- a turn without an exchange: it waited, or it only looked
-abbrev pub look_text : ℕ → Option Load → Stage → Bool → List ℕ
-look_text node load stage true = codes "waits: " ++ wait_text node load stage ++ codes "; "
-look_text node load stage false = codes "only looked; "
+abbrev pub look_text : ℕ → Option Load → Stage → Option Wait → List ℕ
+look_text node load stage (Some wait) = times_text wait.times ++ wait_text node load stage ++ codes "; "
+look_text node load stage None = codes "only looked; "
 
 -- what a turn did: its event and how the exchange ended, or its wait, or that it only looked
-abbrev pub act_text : ℕ → Passed → Stage → Bool → List ℕ
-act_text node passed stage waits = elim passed.step [
-  | None ↦ look_text node passed.load stage waits
+abbrev pub act_text : ℕ → Passed → Stage → Option Wait → List ℕ
+act_text node passed stage wait = elim passed.step [
+  | None ↦ look_text node passed.load stage wait
   | Some step ↦ event_text passed.load step.0 step.1
 ]
 
@@ -60,7 +59,16 @@ act_text node passed stage waits = elim passed.step [
 abbrev pub place_text : ℕ → Option Request → ℕ → List ℕ
 place_text node asked line = codes "# node " ++ decimal node ++ codes " line " ++ decimal line ++ codes " " ++ operation_name asked line
 
--- `# node N line L OPERATION: WHAT; STEP; LIST`
-abbrev pub note_line : ℕ → Option Request → Passed → Stage → Bool → Mem → List (ℕ × Tag) → List ℕ
-note_line node asked passed stage waits mem entries =
-    place_text node asked passed.line ++ act_text node passed stage waits ++ step_text stage ++ list_text mem entries ++ codes "\n"
+-- `; for node N`, where the turn waited for a node
+abbrev pub whom_text : Option ℕ → List ℕ
+whom_text None = []
+whom_text (Some node) = codes "; for node " ++ decimal node
+
+abbrev pub for_text : Option Wait → List ℕ
+for_text None = []
+for_text (Some wait) = whom_text wait.whom
+
+-- `# node N line L OPERATION: WHAT; STEP; LIST`, and whom a turn waited for
+abbrev pub note_line : ℕ → Option Request → Passed → Stage → Option Wait → Mem → List (ℕ × Tag) → List ℕ
+note_line node asked passed stage wait mem entries =
+    place_text node asked passed.line ++ act_text node passed stage wait ++ step_text stage ++ list_text mem entries ++ for_text wait ++ codes "\n"

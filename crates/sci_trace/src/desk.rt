@@ -3,11 +3,15 @@
 ghost use Rattle.std.specs.Prelude.{◌≡◌, ◌<◌, ◌≤◌, ◌⊎◌, ◌++◌, true, IfOk, vec_len};
 ghost use Rattle.sci_trace.specs.NoteText.{note_bytes};
 ghost use Rattle.sci_core.specs.Stage.{stage_of};
+ghost use Rattle.sci_script.specs.Event.{Turned, IsNoEnd};
+ghost use Rattle.sci_script.specs.Shared.{shared_does};
 ghost use Rattle.sci_script.specs.Wholes.{shared_of};
 ghost use Rattle.sci_trace.specs.Lists.{walked};
 ghost use Rattle.sci_trace.specs.Notes.{Told, line_of_turn};
+ghost use Rattle.sci_trace.specs.Telling.{AddsLine, IsWait, telling_is_open, telling_of};
 
 use crate::notes::Notes;
+use crate::texts::Wait;
 use sci_cache::Request;
 use sci_ops::Turn;
 use sci_script::{Desk, Passed, Script, Size, WholeDesk};
@@ -48,19 +52,36 @@ impl TraceDesk {
         })
     }
 
-    /// Adds the line of a turn that was just taken.
+    /// The wait of a turn that was just taken, which stands for so many.
     #[inline(always)]
-    fn tell(&mut self, node: NodeId, passed: &Passed, turn: &Turn)
+    fn wait_of(&self, node: NodeId, line: LineNo, turn: &Turn, times: u32) -> Option<Wait>
+        requires node { node < self.now.size.nodes }
+        requires line { line < self.now.size.lines }
+        ensures { IsWait turn.now (shared_of self.now.desk) line node times result }
+    {
+        match turn {
+            Turn::Waiting => Some(Wait {
+                times,
+                whom: self.desk.waits_for(line, node),
+            }),
+            Turn::Moved | Turn::Done(_) => None,
+        }
+    }
+
+    /// Adds the line of a turn that was just taken. One that waits stands for so many.
+    #[inline(always)]
+    fn tell(&mut self, node: NodeId, passed: &Passed, turn: &Turn, times: u32)
         requires node { node < self.old.size.nodes }
         requires line { passed.now.line < self.old.size.lines }
         ensures same { shared_of self.new.desk ≡ shared_of self.old.desk }
-        ensures told { (self.new.notes.is_cut ≡ true) ⊎ ((self.new.notes.is_cut ≡ self.old.notes.is_cut) × (told : Told) × (told.node ≡ node) × (told.turn ≡ turn.now) × (told.passed ≡ passed.now)
+        ensures told { (self.new.notes.is_cut ≡ true) ⊎ ((self.new.notes.is_cut ≡ self.old.notes.is_cut) × (told : Told) × (told.node ≡ node) × (told.passed ≡ passed.now) × IsWait turn.now (shared_of self.old.desk) passed.now.line node times told.wait
             × (told.stage ≡ stage_of (((shared_of self.old.desk).lines passed.now.line).steps node)) × (told.mem ≡ ((shared_of self.old.desk).lines passed.now.line).memory)
             × (told.entries ≡ walked ((shared_of self.old.desk).lines passed.now.line).tags (shared_of self.old.desk).width told.mem.forw)
             × (note_bytes self.new.notes.text ≡ note_bytes self.old.notes.text ++ line_of_turn told)) }
         ensures size { self.new.size ≡ self.old.size }
     {
         let line = passed.line;
+        let wait = self.wait_of(node, line, turn, times);
         let Some(mem) = self.desk.mem(line) else {
             unreachable!()
         };
@@ -69,7 +90,23 @@ impl TraceDesk {
         let nodes = self.size.nodes;
         let desk = &mut self.desk;
         self.notes
-            .tell(desk, node, asked, passed, &stage, turn, mem, nodes);
+            .tell(desk, node, asked, passed, &stage, &wait, mem, nodes);
+    }
+
+    /// One turn of the node's open call, as `turn`. Where it waits, its line stands for so many turns.
+    #[inline(always)]
+    pub(crate) fn take(&mut self, node: NodeId, times: u32) -> Turn
+        requires node { node < self.old.size.nodes }
+        requires open { telling_is_open (telling_of self.old) node ≡ true }
+        ensures turned { shared_does (shared_of self.old.desk) (Turned node result) (shared_of self.new.desk) }
+        ensures told { AddsLine (telling_of self.old) node result times (telling_of self.new) }
+        ensures open { IsNoEnd result → telling_is_open (telling_of self.new) node ≡ true }
+        ensures size { self.new.size ≡ self.old.size }
+    {
+        let mut passed = Passed::NOTHING;
+        let turn = self.desk.watched_turn(node, &mut passed);
+        self.tell(node, &passed, &turn, times);
+        turn
     }
 }
 
@@ -93,10 +130,7 @@ impl Desk for TraceDesk {
     }
 
     fn turn(&mut self, node: NodeId) -> Turn {
-        let mut passed = Passed::NOTHING;
-        let turn = self.desk.watched_turn(node, &mut passed);
-        self.tell(node, &passed, &turn);
-        turn
+        self.take(node, 1)
     }
 
     fn resident(&self, alloc: Global, node: NodeId) -> Result<Vec<LineNo>, AllocError> {

@@ -5,13 +5,12 @@ ghost use Rattle.sci_trace.specs.NoteText.{note_bytes};
 ghost use Rattle.sci_script.specs.Wholes.{shared_of};
 ghost use Rattle.sci_trace.specs.Lists.{walked};
 ghost use Rattle.sci_trace.specs.Notes.{AreNotes};
-ghost use Rattle.sci_trace.specs.Texts.{is_waiting, note_line};
+ghost use Rattle.sci_trace.specs.Texts.{note_line};
 
 use crate::note_text::NoteText;
-use crate::texts::push_note;
+use crate::texts::{Wait, push_note};
 use sci_cache::Request;
 use sci_core::Stage;
-use sci_ops::Turn;
 use sci_script::{Passed, WholeDesk};
 use sci_words::{Mem, NodeId};
 use std::alloc::Global;
@@ -22,14 +21,6 @@ pub struct Notes {
     text: NoteText,
     is_cut: bool,
     ghost lines: { AreNotes (note_bytes text) },
-}
-
-/// The turn waited.
-#[inline(always)]
-fn is_waiting(turn: &Turn) -> bool
-    ensures { result ≡ is_waiting turn.now }
-{
-    matches!(turn, Turn::Waiting)
 }
 
 impl Notes {
@@ -82,7 +73,7 @@ impl Notes {
         asked: &Option<Request>,
         passed: &Passed,
         stage: &Stage,
-        turn: &Turn,
+        wait: &Option<Wait>,
         mem: Mem,
         nodes: u16,
     )
@@ -90,13 +81,12 @@ impl Notes {
         requires head { IfSome mem.forw (λ n. n < desk.old.size.nodes) }
         requires nodes { nodes ≡ desk.old.size.nodes }
         ensures told { (self.new.is_cut ≡ true) ⊎ ((self.new.is_cut ≡ self.old.is_cut) × (note_bytes self.new.text ≡ note_bytes self.old.text
-            ++ note_line node asked.now passed.now stage.now (is_waiting turn.now) mem (walked ((shared_of desk.old).lines passed.now.line).tags nodes mem.forw))) }
+            ++ note_line node asked.now passed.now stage.now wait.now mem (walked ((shared_of desk.old).lines passed.now.line).tags nodes mem.forw))) }
         ensures same { shared_of desk.new ≡ shared_of desk.old }
         ensures size { desk.new.size ≡ desk.old.size }
     {
         let text = &mut self.text;
-        let waits = is_waiting(turn);
-        match push_note(text, desk, node, asked, passed, stage, waits, mem, nodes) {
+        match push_note(text, desk, node, asked, passed, stage, wait, mem, nodes) {
             Ok(()) => {}
             Err(_) => {
                 // the front of a line is no line

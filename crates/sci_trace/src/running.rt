@@ -10,13 +10,14 @@ ghost use Rattle.sci_script.specs.Size.{IsIn};
 ghost use Rattle.sci_script.specs.Wholes.{shared_of};
 ghost use Rattle.sci_trace.specs.NoteText.{note_bytes};
 ghost use Rattle.sci_trace.specs.Notes.{AreNotes};
-ghost use Rattle.sci_trace.specs.Telling.{telling, telling_is_open, tells, TellsAll};
+ghost use Rattle.sci_trace.specs.Telling.{is_wait, telling, telling_is_open, tells, TellsAll};
 ghost use Rattle.sci_trace.specs.Coding.{coded};
 ghost use Rattle.sci_trace.specs.Traces.{Traces, NotesLeft, StepLeaves, TraceLeaves, FormLeaves};
 
 use crate::coding::{Coding, put_coded};
 use crate::desk::TraceDesk;
 use crate::notes::Notes;
+use sci_ops::Turn;
 use sci_script::{
     Command, Desk, NODES, Script, ScriptRefusal, Step, TURNS, is_end, note, perform, turn_text,
 };
@@ -77,8 +78,16 @@ fn put_long_notes<W: Write>(
     Ok(())
 }
 
+/// The turn waited.
+fn is_wait(turn: &Turn) -> bool
+    ensures { result ≡ is_wait turn.now }
+{
+    matches!(turn, Turn::Waiting)
+}
+
 /// `done`: writes the lines of the turns to the end of the node's open call, as they come. The text of that end is put behind an
-/// empty text.
+/// empty text. Behind a turn that waits the call doesn't end: nobody else takes a turn, so each further one would wait just so. None
+/// is taken, and the line of that turn stands for all of them.
 fn trace_done<W: Write>(
     text: &mut String,
     desk: &mut TraceDesk,
@@ -106,11 +115,15 @@ fn trace_done<W: Write>(
     if !desk.open(node) {
         return Err(ScriptRefusal::BadCommand(number));
     }
-    for _ in 0..TURNS {
-        let turn = desk.turn(node);
+    for taken in 0..TURNS {
+        let turn = desk.take(node, TURNS - taken);
         if is_end(turn) {
             put_notes(desk, coding, out)?;
             return Ok(turn_text(text, node, words[usize::from(node.get())], &turn)?);
+        }
+        if is_wait(&turn) {
+            put_notes(desk, coding, out)?;
+            return Err(ScriptRefusal::NotDone(number));
         }
         put_long_notes(desk, coding, out)?;
     }
@@ -187,7 +200,8 @@ pub(crate) fn trace_as<W: Write>(
 }
 
 /// Runs the script over a desk of its nodes and lines, and writes its text, with a line for each turn in front of what the turn's
-/// command prints. The lines of a `done` that waits are written as they come, so they take little memory. Refusals are as those of
+/// command prints. Those of a `done` are written as they come, so they take little memory. A `done` that waits is refused at once: one
+/// line stands for the first turn that waits and all behind it, up to 100,000, and says how many they are. Refusals are as those of
 /// `Script::run`; the lines of the turns that a refused command took are written, but on 7 maybe not all of them.
 pub fn trace<W: Write>(
     alloc: Global,

@@ -5,12 +5,12 @@ ghost use Rattle.sci_trace.specs.NoteText.{note_bytes};
 ghost use Rattle.sci_trace.specs.Short.{short_bytes};
 ghost use Rattle.sci_script.specs.Wholes.{shared_of};
 ghost use Rattle.sci_trace.specs.Lists.{walked};
-ghost use Rattle.sci_trace.specs.Texts.{request_name, operation_name, mem_wait, wait_text, look_text, act_text, place_text, note_line};
+ghost use Rattle.sci_trace.specs.Texts.{request_name, operation_name, mem_wait, wait_text, times_text, look_text, act_text, place_text, for_text, note_line};
 
 use crate::events::push_event;
 use crate::lists::push_list;
 use crate::note_text::NoteText;
-use crate::numbers::push_named;
+use crate::numbers::{push_between, push_named};
 use crate::short::Short;
 use crate::steps::push_step;
 use crate::words::{push_link, push_node, push_tag};
@@ -19,6 +19,15 @@ use sci_core::Stage;
 use sci_script::{Load, Passed, WholeDesk};
 use sci_words::{LineNo, Mem, NodeId, Tag};
 use std::alloc::AllocError;
+
+/// That a turn waited.
+#[derive(Clone, Copy)]
+pub struct Wait {
+    /// For how many turns its line stands.
+    pub times: u32,
+    /// Whom its node waits for, where the words say it.
+    pub whom: Option<NodeId>,
+}
 
 /// An operation that was asked for.
 fn request_name(request: &Request) -> Short
@@ -70,22 +79,48 @@ fn push_wait(
     }
 }
 
+/// That it waited, and for how many turns the line stands.
+fn push_times(text: &mut NoteText, times: u32) -> Result<(), AllocError>
+    ensures { OnOk result (note_bytes text.new ≡ note_bytes text.old ++ times_text times) }
+{
+    if times == 1 {
+        return text.push(b"waits: ");
+    }
+    push_between(text, b"waits ", u64::from(times), b" times: ")
+}
+
 /// A turn without an exchange: it waited, or it only looked.
 fn push_look(
     text: &mut NoteText,
     node: NodeId,
     load: &Option<Load>,
     stage: &Stage,
-    waits: bool,
+    wait: &Option<Wait>,
 ) -> Result<(), AllocError>
-    ensures { OnOk result (note_bytes text.new ≡ note_bytes text.old ++ look_text node load.now stage.now waits) }
+    ensures { OnOk result (note_bytes text.new ≡ note_bytes text.old ++ look_text node load.now stage.now wait.now) }
 {
-    if waits {
-        text.push(b"waits: ")?;
-        push_wait(text, node, load, stage)?;
-        return text.push(b"; ");
+    let Some(wait) = wait else {
+        return text.push(b"only looked; ");
+    };
+    push_times(text, wait.times)?;
+    push_wait(text, node, load, stage)?;
+    text.push(b"; ")
+}
+
+/// Whom a turn waited for.
+#[inline(always)]
+fn push_for(text: &mut NoteText, wait: &Option<Wait>) -> Result<(), AllocError>
+    ensures { OnOk result (note_bytes text.new ≡ note_bytes text.old ++ for_text wait.now) }
+{
+    match wait {
+        Some(
+            Wait {
+                whom: Some(node),
+                ..
+            },
+        ) => push_node(text, b"; for node ", *node, b""),
+        _ => Ok(()),
     }
-    text.push(b"only looked; ")
 }
 
 /// What a turn did: its event and how the exchange ended, or its wait, or that it only looked.
@@ -94,13 +129,13 @@ fn push_act(
     node: NodeId,
     passed: &Passed,
     stage: &Stage,
-    waits: bool,
+    wait: &Option<Wait>,
 ) -> Result<(), AllocError>
-    ensures { OnOk result (note_bytes text.new ≡ note_bytes text.old ++ act_text node passed.now stage.now waits) }
+    ensures { OnOk result (note_bytes text.new ≡ note_bytes text.old ++ act_text node passed.now stage.now wait.now) }
 {
     match &passed.step {
         Some((event, ending)) => push_event(text, &passed.load, event, *ending),
-        None => push_look(text, node, &passed.load, stage, waits),
+        None => push_look(text, node, &passed.load, stage, wait),
     }
 }
 
@@ -119,7 +154,7 @@ fn push_place(
 
 /// One turn of a node, which was asked for this: `# node N line L OPERATION: WHAT; STEP; LIST` and a line feed. WHAT is the event
 /// and how its exchange ended, `waits: ` and what it waits for, or `only looked`; STEP is the pending step after the turn; LIST is this
-/// memory word and the entries as they stand, with what is lent and held.
+/// memory word and the entries as they stand, with what is lent and held. A turn that waits for a node ends in `; for node N`.
 #[inline(always)]
 pub(crate) fn push_note(
     text: &mut NoteText,
@@ -128,21 +163,22 @@ pub(crate) fn push_note(
     asked: &Option<Request>,
     passed: &Passed,
     stage: &Stage,
-    waits: bool,
+    wait: &Option<Wait>,
     mem: Mem,
     nodes: u16,
 ) -> Result<(), AllocError>
     requires line { passed.now.line < desk.old.size.lines }
     requires head { IfSome mem.forw (λ n. n < desk.old.size.nodes) }
     requires nodes { nodes ≡ desk.old.size.nodes }
-    ensures pushed { OnOk result (note_bytes text.new ≡ note_bytes text.old ++ note_line node asked.now passed.now stage.now waits mem (walked ((shared_of desk.old).lines passed.now.line).tags nodes mem.forw)) }
+    ensures pushed { OnOk result (note_bytes text.new ≡ note_bytes text.old ++ note_line node asked.now passed.now stage.now wait.now mem (walked ((shared_of desk.old).lines passed.now.line).tags nodes mem.forw)) }
     ensures same { shared_of desk.new ≡ shared_of desk.old }
     ensures size { desk.new.size ≡ desk.old.size }
 {
     let line = passed.line;
     push_place(text, node, asked, line)?;
-    push_act(text, node, passed, stage, waits)?;
+    push_act(text, node, passed, stage, wait)?;
     push_step(text, stage)?;
     push_list(text, desk, line, mem, nodes)?;
+    push_for(text, wait)?;
     text.push(b"\n")
 }

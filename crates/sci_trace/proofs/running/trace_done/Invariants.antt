@@ -10,12 +10,12 @@ use Rattle.sci_trace.proofs.Tellings.{with_front}
 use Rattle.sci_trace.proofs.running.trace_done.Given as goal
 
 -- lines of the turns so far are written, and the others wait behind them
-abbrev pub invariant-loop : goal.invariant-loop
-invariant-loop g l =
+abbrev pub invariant-loop-taken : goal.invariant-loop-taken
+invariant-loop-taken g l =
     record {
       empty : string_bytes l.text ≡ [];
       size : l.desk.size ≡ l.fn.desk.size;
       is_still_open : shared_is_open (shared_of l.desk.desk) l.node ≡ true;
-      written : (put : List ℕ) × AreNotes put × Unended tells l.node l.counter (telling (shared_of l.fn.desk.desk) []) (with_front put (telling_of l.desk))
+      written : (put : List ℕ) × AreNotes put × Unended tells l.node l.taken (telling (shared_of l.fn.desk.desk) []) (with_front put (telling_of l.desk))
           × Appends (g.W.Write.contents l.fn.out) (g.W.Write.contents l.out) (coded l.coding put);
     }

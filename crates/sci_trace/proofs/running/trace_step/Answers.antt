@@ -8,7 +8,6 @@ use Rattle.sci_script.specs.declared.commands.Step.{Step}
 use Rattle.sci_script.specs.declared.refusals.ScriptRefusal.{ScriptRefusal}
 use Rattle.sci_script.specs.declared.wholes.WholeDesk.{WholeDesk}
 use Rattle.sci_script.specs.Run.{Prints, StopsAt}
-use Rattle.sci_script.specs.Shared.{shared_is_open, shared_does}
 use Rattle.sci_script.specs.Wholes.{shared_of}
 use Rattle.sci_script.proofs.Through.{prints, stops_at}
 use Rattle.sci_trace.specs.declared.desk.TraceDesk.{TraceDesk}
@@ -17,7 +16,7 @@ use Rattle.sci_trace.specs.NoteText.{note_bytes}
 use Rattle.sci_trace.specs.Telling.{telling, telling_of, telling_is_open, tells}
 use Rattle.sci_trace.specs.Traces.{StepLeaves}
 use Rattle.sci_trace.proofs.Coded.{coded_nil, err_then, ok_then}
-use Rattle.sci_trace.proofs.Tellings.{told_does, told_so}
+use Rattle.sci_trace.proofs.Tellings.{told_so, told_stops}
 use Rattle.sci_trace.proofs.Tracing.{step_left, notes_left, of_command}
 use Rattle.sci_trace.proofs.Weaving.{notes_none}
 use Rattle.sci_trace.proofs.running.trace_step.Goals as goal
@@ -81,8 +80,9 @@ returns g c =
           (notes, desk.notes.lines, put, c.in_ok-put_notes.ensures.ok));
       err = err_then c.perform-performed.result _ _ c.perform-performed.ensures.err
           (λ e stop.
-          let seen = stops_at (λ (d : TraceDesk). shared_of d.desk) shared_is_open (λ d event e. tells (telling_of d) event (telling_of e)) shared_does (λ d event e h. told_does (telling_of d) event (telling_of e) h) before.size.nodes before c.args.step e desk stop in
-          let stops = subst (λ (d : WholeDesk). StopsAt shared_is_open shared_does before.size.nodes s c.args.step e (shared_of d)) (sym c.in_ok-put_notes.ensures.desk) seen in
+          let seen = stops_at telling_of telling_is_open (λ (d : TraceDesk) event e. tells (telling_of d) event (telling_of e)) tells (λ d event e h. h) before.size.nodes before c.args.step e desk stop in
+          let now = told_stops before.size.nodes c.args.step e s (shared_of desk.desk) (note_bytes before.notes.text) notes before.notes.is_cut desk.notes.is_cut c.requires.none c.requires.whole whole seen in
+          let stops = subst (λ (d : WholeDesk). StopsAt telling_is_open tells before.size.nodes (telling s []) c.args.step e (telling (shared_of d) notes)) (sym c.in_ok-put_notes.ensures.desk) now in
           (coded c.args.coding notes, step_left c.args.coding before.size.nodes s c.args.step notes e t desk.notes.lines stops, c.in_ok-put_notes.ensures.ok));
       dropped = ok_then c.perform-performed.result _ _ c.perform-performed.ensures.ok (λ printed. c.in_ok-put_notes.ensures.dropped);
       size = c.in_ok-put_notes.ensures.size ∙ c.perform-performed.ensures.size;

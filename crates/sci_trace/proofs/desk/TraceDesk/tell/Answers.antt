@@ -1,10 +1,12 @@
-use Rattle.std.proofs.Common.{◌≡◌, ◌∙◌, sym, ap, subst}
+use Rattle.std.proofs.Common.{◌≡◌, ◌∙◌, sym, ap, subst, ℕ, Option}
 use Rattle.std.proofs.lemmas.Option.{same_Some}
 use Rattle.sci_core.specs.Stage.{stage_of}
 use Rattle.sci_script.specs.declared.commands.Size.{Size}
 use Rattle.sci_script.specs.Shared.{Shared}
 use Rattle.sci_script.specs.Wholes.{shared_of}
+use Rattle.sci_trace.specs.declared.texts.Wait.{Wait}
 use Rattle.sci_trace.specs.Lists.{walked}
+use Rattle.sci_trace.specs.Telling.{IsWait}
 use Rattle.sci_trace.proofs.Tellings.{told_line}
 use Rattle.sci_trace.proofs.desk.TraceDesk.tell.Goals as goal
 
@@ -17,4 +19,5 @@ returns-clause-told c =
     let along =
     ap (λ (x : Shared). walked (x.lines line).tags c.args.self.now.size.nodes mem.forw) (c.stage-stage.ensures.same ∙ c.in-Some.ensures.saw.1)
     ∙ ap (λ (z : Size). walked (old.lines line).tags z.nodes mem.forw) (sym c.args.self.now.same) in
-    told_line c.args.node _ c.args.passed.now c.stage-stage.result c.args.turn.now c.in-Some.mem _ _ _ _ _ _ _ (old.lines line).tags old.width stands (same_Some c.in-Some.mem _ c.in-Some.ensures.saw.0) along c.tell.ensures.told
+    told_line c.args.node _ c.args.passed.now c.stage-stage.result c.wait_of-wait.result c.in-Some.mem _ _ _ _ _ (λ (wait : Option Wait). IsWait c.args.turn.now old line c.args.node c.args.times wait) _ _ (old.lines line).tags old.width
+    c.wait_of-wait.ensures stands (same_Some c.in-Some.mem _ c.in-Some.ensures.saw.0) along c.tell.ensures.told

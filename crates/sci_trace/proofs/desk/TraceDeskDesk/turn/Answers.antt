@@ -1,22 +1,4 @@
-use Rattle.std.proofs.Common.{◌≡◌, true, sym, subst}
-use Rattle.sci_script.specs.Event.{Turned}
-use Rattle.sci_script.specs.Shared.{Shared, shared_is_open, shared_does}
-use Rattle.sci_script.specs.Wholes.{shared_of}
-use Rattle.sci_trace.specs.NoteText.{note_bytes}
-use Rattle.sci_trace.proofs.Tellings.{adds_line}
 use Rattle.sci_trace.proofs.desk.TraceDeskDesk.turn.Goals as goal
 
 pub returns-clause-turned : goal.returns-clause-turned
-returns-clause-turned c =
-    let s = shared_of c.args.self.now.desk in
-    let mid = shared_of c.watched_turn-turn.new.self in
-    let turn = c.watched_turn-turn.result in
-    let before = c.args.self.now.notes in
-    let after = c.tell.new.self.notes in (
-      subst (λ (x : Shared). shared_does s (Turned c.args.node turn) x) (sym c.tell.ensures.same) c.watched_turn-turn.ensures.turned,
-      adds_line s mid (shared_of c.tell.new.self.desk) c.args.node turn c.watched_turn-turn.new.passed (note_bytes before.text) (note_bytes after.text) before.is_cut after.is_cut c.tell.ensures.same
-          c.watched_turn-turn.ensures.passed c.tell.ensures.told,
-    )
-
-pub returns-clause-open : goal.returns-clause-open
-returns-clause-open c = λ no_end. subst (λ (s : Shared). shared_is_open s c.args.node ≡ true) (sym c.tell.ensures.same) (c.watched_turn-turn.ensures.open no_end)
+returns-clause-turned c = (c.take.ensures.turned, c.take.ensures.told)
