@@ -47,7 +47,7 @@ trace_front : (nodes : ℕ) (steps : List Step) (s : Shared) (e : ScriptRefusal)
 trace_front nodes steps s OutOfMemory written t n less (k, mid, so_far) = (k, mid, written, n, so_far, less, refl)
 trace_front nodes steps s (BadCommand l) written t n less (k, mid, step, so_far, at, stops) = (k, mid, written, n, so_far, less, refl)
 trace_front nodes steps s (BadNumber l) written t n less h = absurd h
-trace_front nodes steps s (NotDone l) written t n less (k, mid, step, so_far, at, stops) = (k, mid, written, n, so_far, less, refl)
+trace_front nodes steps s (NotDone l) written t n less (k, mid, step, so_far, at, stops, before, notes, front, told, all) = (k, mid, written, n, so_far, less, refl)
 trace_front nodes steps s WriteFailed written t n less (k, mid, traced, m, so_far, short, is) =
     let (inside, again) = front_again n m traced written less is in
     (k, mid, traced, n, so_far, inside, again)
@@ -60,7 +60,7 @@ form_front form nodes steps s OutOfMemory written t n less (traced, so_far, is) 
 form_front form nodes steps s (BadCommand l) written t n less (traced, (k, mid, step, so_far, at, stops), is) =
     (traced, (k, mid, so_far), (n, subst (λ (x : List ℕ). n < length x) is less, ap (take n) is))
 form_front form nodes steps s (BadNumber l) written t n less (traced, stops, is) = absurd stops
-form_front form nodes steps s (NotDone l) written t n less (traced, (k, mid, step, so_far, at, stops), is) =
+form_front form nodes steps s (NotDone l) written t n less (traced, (k, mid, step, so_far, at, stops, before, notes, front, told, all), is) =
     (traced, (k, mid, so_far), (n, subst (λ (x : List ℕ). n < length x) is less, ap (take n) is))
 form_front form nodes steps s WriteFailed written t n less (traced, so_far, (m, short, is)) =
     let (inside, again) = front_again n m (form traced) written less is in

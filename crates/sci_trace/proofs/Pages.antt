@@ -69,7 +69,7 @@ whole_then (Err OutOfMemory) nodes steps s t a b is done (written, (traced, so_f
 whole_then (Err (BadCommand n)) nodes steps s t a b is done (written, (traced, (k, mid, step, so_far, at, stop), whole), appended) =
     (traced, (k, mid, so_far), subst (λ (x : List ℕ). Appends a b x) whole appended)
 whole_then (Err (BadNumber n)) nodes steps s t a b is done (written, (traced, stops, whole), appended) = absurd stops
-whole_then (Err (NotDone n)) nodes steps s t a b is done (written, (traced, (k, mid, step, so_far, at, stop), whole), appended) =
+whole_then (Err (NotDone n)) nodes steps s t a b is done (written, (traced, (k, mid, step, so_far, at, stop, before, notes, front, told, all), whole), appended) =
     (traced, (k, mid, so_far), subst (λ (x : List ℕ). Appends a b x) whole appended)
 whole_then (Err WriteFailed) nodes steps s t a b is done stopped = absurd (let q : true ≡ false = is in cc)
 

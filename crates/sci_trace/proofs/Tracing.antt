@@ -88,9 +88,9 @@ hung node n (suc k) s mid t sum some before now =
 pub hang_left : (coding : Coding) (nodes node number n times : ℕ) (s : Shared) (mid : Telling) (notes : List ℕ) (t : Shared) → AreNotes notes → shared_is_open s node ≡ true → n + times ≡ 100000 → 0 < times
     → Unended tells node n (telling s []) mid → AddsLine mid node Turn.Waiting times (telling t notes) → shared_does mid.shared (Turned node Turn.Waiting) t
     → StepLeaves coding nodes s (record { number = number; command = Done node }) (NotDone number) (coded coding notes) t
-hang_left coding nodes node number n times s mid notes t are open sum some before added now =
+hang_left coding nodes node number n times s mid notes t are still sum some before added now =
     let all : Unended shared_does node 100000 s t = hung node n times s mid.shared t sum some (unended (λ (x : Telling). x.shared) shared_is_open tells shared_does told_does node n (telling s []) mid before) now in
-    (notes, are, ((refl, (open, all)), inr (n, times, mid, some, sum, before, added, waits_again mid.shared t node now)), refl)
+    (notes, are, ((refl, (still, all)), inr (n, times, mid, some, sum, before, added, waits_again mid.shared t node now)), refl)
 
 -- behind lines that were written, others weren't all written
 pub notes_left : (coding : Coding) (nodes : ℕ) (s : Shared) (step : Step) (put notes written : List ℕ) (e : ScriptRefusal) (t : Shared) → AreNotes put → AreNotes notes → NotesLeft coding e notes written

@@ -8,7 +8,6 @@ ghost use Rattle.sci_script.specs.Shared.{shared_does};
 ghost use Rattle.sci_script.specs.Wholes.{shared_of};
 ghost use Rattle.sci_trace.specs.Lists.{walked};
 ghost use Rattle.sci_trace.specs.Notes.{Told, line_of_turn};
-ghost use Rattle.sci_trace.specs.Telling.{AddsLine, IsWait, telling_is_open, telling_of};
 
 use crate::notes::Notes;
 use crate::texts::Wait;
@@ -32,6 +31,7 @@ pub struct TraceDesk {
 impl TraceDesk {
     ghost use Rattle.sci_script.specs.ScriptText.{Opens};
     ghost use Rattle.sci_script.specs.Wholes.{shared_of};
+    ghost use Rattle.sci_trace.specs.Telling.{AddsLine, IsWait, telling_is_open, telling_of};
 
     /// A desk of the script's lines and nodes, as `WholeDesk::open` has it. Refusal 7 alone.
     pub fn open(alloc: Global, script: &Script) -> Result<TraceDesk, AllocError>

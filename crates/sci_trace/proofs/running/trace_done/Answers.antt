@@ -153,7 +153,7 @@ returns-in_err-put_notes-3 g c =
       ok = rw p.1 tt;
       err = rw (p.1, p.2) (
         coded c.args.coding put ++ written,
-        notes_left c.args.coding c.args.desk.now.size.nodes (shared_of c.args.desk.now.desk) step put (note_bytes notes.text) written c.in_err-put_notes-3.field-0.0 (shared_of c.put_notes-3.new.desk.desk) are notes.lines left,
+        notes_left c.args.coding c.args.desk.now.size.nodes (shared_of c.args.desk.now.desk) step put (note_bytes notes.text) written c.in_err-put_notes-3.field-0.0 (shared_of c.put_notes-2.new.desk.desk) are notes.lines left,
         Appends-trans _ _ _ _ _ appended front,
       );
       dropped = rw p.1 tt;
@@ -171,7 +171,7 @@ returns-in_err-put_notes-2 g c =
       ok = rw p.1 tt;
       err = rw (p.1, p.2) (
         coded c.args.coding put ++ written,
-        notes_left c.args.coding c.args.desk.now.size.nodes (shared_of c.args.desk.now.desk) step put (note_bytes notes.text) written c.in_err-put_notes-2.field-0.0 (shared_of c.put_notes-2.new.desk.desk) are notes.lines left,
+        notes_left c.args.coding c.args.desk.now.size.nodes (shared_of c.args.desk.now.desk) step put (note_bytes notes.text) written c.in_err-put_notes-2.field-0.0 (shared_of c.put_notes-then-is_wait.new.desk.desk) are notes.lines left,
         Appends-trans _ _ _ _ _ appended front,
       );
       dropped = rw p.1 tt;
@@ -189,7 +189,7 @@ returns-then-is_wait g c =
     let notes = c.take-turn.new.self.notes in
     let all = put ++ note_bytes notes.text in
     let s = shared_of c.args.desk.now.desk in
-    let t = shared_of c.put_notes-2.new.desk.desk in
+    let t = shared_of c.put_notes-then-is_wait.new.desk.desk in
     let same = ap shared_of c.in_ok-put_notes-2.ensures.desk in
     let does = subst (λ (x : Shared). shared_does before.shared (Turned c.args.node Turn.Waiting) x) (sym same) (subst (λ (o : Turn). shared_does before.shared (Turned c.args.node o) mid.shared) is c.take-turn.ensures.turned) in
     record {
@@ -208,7 +208,7 @@ returns-then-is_wait g c =
 pub returns : goal.returns
 returns g c =
     let s = shared_of c.args.desk.now.desk in
-    let t = shared_of c.put_notes-3.new.desk.desk in
+    let t = shared_of c.put_notes-2.new.desk.desk in
     let nodes = c.args.desk.now.size.nodes in
     let (put, are, so_far, appended) = c.loop-taken.invariant.written in
     let notes = c.loop-taken.desk.notes in
