@@ -1,14 +1,13 @@
 -- What a call leaves in receipts, where there is room for its receipt and where there is none.
-use Rattle.std.proofs.Common.{◌≡◌, ◌≢◌, ◌⊎◌, inl, inr, ℕ, suc, ◌<◌, ltb, Bool, true, false, ◌&&◌, ◌||◌, Option, Some, None, List, refl, sym, ap, ◌∙◌, subst, arith}
+use Rattle.std.proofs.Common.{◌≡◌, ℕ, ◌<◌, ltb, Bool, true, false, ◌&&◌, ◌||◌, Some, None, refl, arith}
 use Rattle.std.proofs.lemmas.Bool.Decides.{nat_tests}
 use Rattle.sci_core.specs.declared.lines.Line.{Line}
 use Rattle.sci_core.specs.declared.pending.Pending.{Pending}
 use Rattle.sci_core.specs.declared.events.Event.{Event}
 use Rattle.sci_core.specs.declared.outcomes.Outcome.{Outcome}
 use Rattle.sci_core.specs.Answers.{is_allowed}
-use Rattle.sci_port.specs.declared.calls.Call.{Call}
 use Rattle.sci_port.specs.declared.calls.Call.TheVariants.{Own, MemWas, TagWas, Stepped}
-use Rattle.sci_port.specs.ReceiptList.{ReceiptList, HasRoom, HasRoomFor, Receives, ReceivesIfRoom, WritesOver, CountsOver, keeps, line_before, replaces}
+use Rattle.sci_port.specs.ReceiptList.{ReceiptList, HasRoom, Receives, ReceivesIfRoom, WritesOver, CountsOver, keeps, line_before, replaces}
 use Rattle.sci_port.proofs.Elements.{clash}
 
 -- a write that is allowed is one over the line that the step keeps

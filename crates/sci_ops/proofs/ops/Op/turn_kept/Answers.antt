@@ -1,4 +1,4 @@
-use Rattle.std.proofs.Common.{◌≡◌, ◌∙◌, ap, refl, rules, subst, sym}
+use Rattle.std.proofs.Common.{◌≡◌, ◌∙◌, ap, rules, subst}
 use Rattle.sci_ops.specs.Kept.{KeptGives, passes}
 use Rattle.sci_ops.proofs.Noted.{aimed_so, answers_from, keeps_answer, keeps_from, takes_as, takes_keeps, turn_as, turn_from}
 use Rattle.sci_ops.proofs.ops.Op.turn_kept.Goals as goal
