@@ -17,7 +17,7 @@ SCRIPT = (
     + "".join(f"load {node} 1 {node}\ndone {node}\n" for node in range(6))
     + "list 1\nevict 2 1\nturn 2\ntag 1 2\ndone 2\nstore 0 1 0 9\ndone 0\nload 0 0 0\ndone 0\nresidents 0\nadd 1 1 7 1\nturn 1\nlist 1\n"
 )
-# A `done` that waits: its lines are more than what waits to be written.
+# A `done` that waits: one line stands for all its turns that wait.
 WAITING = "memory 2 1\nload 0 0 0\nturn 0\nturn 0\nload 1 0 0\nturn 1\ndone 1\n"
 DUMP = (
     "scidump 1 3 1\nline 0 0000000000000201 0 0 0 0 0 0 0 0 0\ntag 0 0 000000000001ff07 0 0 0 0 0 0 0 0 0\n"

@@ -9,6 +9,7 @@ MANY = "scisim: too many states\n"
 # A node names one line: before it loads the other, it is to leave the first.
 VICTIM = "memory 1 2\ncapacity 1\nload 0 0 0\ndone 0\nload 0 1 3\n"
 STORE_AND_LOADS = "memory 3 1\nstore 0 0 0 5\nload 1 0 0\nload 2 0 0\n"
+LOADS_OF_FIVE = "memory 5 1\n" + "".join(f"load {node} 0 0\n" for node in range(5))
 SHARERS = "memory 3 1\n" + "".join(f"load {node} 0 0\ndone {node}\n" for node in range(3))
 
 FILES = {"race": LOAD, "-race": LOAD}
@@ -37,6 +38,7 @@ CASES = [
     (["outcomes"], STORE_AND_LOADS, 0, Begins("states 639\noutcomes 5\n\n"), ""),
     (["outcomes"], SHARERS + "store 0 0 0 5\nstore 1 0 0 6\nstore 2 0 0 7\n", 0, Begins("states 3597\noutcomes 6\n\n"), ""),
     (["outcomes"], SHARERS + "store 0 0 0 5\nevict 1 0\nevict 2 0\n", 0, Begins("states 627\noutcomes 1\n\n"), ""),
+    (["outcomes"], LOADS_OF_FIVE, 0, Begins("states 36167\noutcomes 120\n\n"), "scisim: outcomes: 20000 states\n"),
     (["outcomes", "--most", "638"], STORE_AND_LOADS, 1, "", MANY),
     (["outcomes"], "", 1, "", refused("16 at line 1")),
     (["outcomes"], "memory 1 1\nload 0 0 0\nload 0 0 0\n", 1, "", refused("16 at line 3")),
