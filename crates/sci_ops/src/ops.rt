@@ -18,7 +18,7 @@ use crate::goals::{Goal, WordNo, Write};
 use crate::refusals::BadWord;
 use crate::turns::turn_towards;
 use sci_core::{Keeps, Whole};
-use sci_port::{Port, Solo};
+use sci_port::{Port, Receipts, Solo};
 use sci_words::NodeId;
 use std::marker::Model;
 
@@ -138,7 +138,7 @@ impl Op {
     /// line before and after the turn. Seen: the line's value, and the node is a valid sharer of it. Wrote: the words before
     /// are those of the value before, whose stamp is one less, the value after is what the write makes of them, with the stamp,
     /// and the node is the only valid sharer before and after. Spent: the stamp of the value is `u64::MAX`, the value stays,
-    /// and the node is the only valid sharer before and after. Out: the node's tag is Invalid.
+    /// and the node is the only valid sharer before and after. Out: the node's tag is Invalid. No `Receipts` keep what it shows.
     pub fn turn_on<K: Keeps>(&mut self, whole: &mut Whole<K>, node: NodeId) -> Turn
         requires node { node < nodes_of whole.old }
         requires fits { StoresFitting (K.fits whole.old.keep whole.old.number) self.old.goal }
@@ -151,6 +151,7 @@ impl Op {
         ensures answers { IsTrueTurn (nodes_of whole.old) (K.fits whole.old.keep whole.old.number) self.old node (state_of whole.old) result (state_of whole.new) }
         ensures op { self.new ≡ after_turn self.old result }
     {
-        self.turn(&mut Solo::new(whole, node))
+        let mut receipts = Receipts::new(whole.allocator());
+        self.turn(&mut Solo::new(whole, &mut receipts, node))
     }
 }

@@ -111,7 +111,8 @@ fn on_whole(
     if node.get() >= whole.nodes() {
         return Err("no such node on the line")?;
     }
-    keeps(rt, alloc, &mut Solo::new(whole, node))
+    let mut none = Receipts::new(alloc);
+    keeps(rt, alloc, &mut Solo::new(whole, &mut none, node))
 }
 
 #[test]
@@ -187,7 +188,12 @@ fn none_are_kept_without_room(rt: HostRuntime) -> Result<(), Fail> {
     if node.get() >= whole.nodes() {
         return Err("no such node on the line")?;
     }
-    let receipts = kept(rt.alloc(), &mut Solo::new(&mut whole, node), 0)?;
+    let mut none = Receipts::new(rt.alloc());
+    let receipts = kept(
+        rt.alloc(),
+        &mut Solo::new(&mut whole, &mut none, node),
+        0,
+    )?;
     same(&rt, &receipts.len(), &0);
     Ok(())
 }
