@@ -18,8 +18,6 @@ use Rattle.sci_port.specs.Banks.{BankWay, LentLines, AreLinesOf, IsLineOf, Gives
 use Rattle.sci_port.specs.declared.calls.Call.{Call}
 use Rattle.sci_port.specs.declared.calls.Call.TheVariants.{MemWas, Own, Stepped, TagWas}
 use Rattle.sci_port.specs.Owes.{IsSoundStep, Owes}
-use Rattle.sci_port.specs.Readying.{no_receipts, receipts_at}
-use Rattle.sci_port.specs.ReceiptList.{ReceiptList, ReceivesIfRoom}
 use Rattle.sci_port.specs.Solo as lent
 use Rattle.sci_port.specs.Solo.{Gives}
 use Rattle.sci_port.specs.Way.{Way, way_to}
@@ -31,10 +29,6 @@ written_back items slice count i x same counts =
     ap (λ (n : ℕ). take n (set slice i x ++ drop (length (set slice i x)) items)) (sym (length-set slice i x ∙ counts))
     ∙ take-append_seam (set slice i x) (drop (length (set slice i x)) items)
     ∙ ap (λ (l : List _). set l i x) same
-
--- two lists of one length, one element set in each
-pub counts_back : {X Y : Type 0} (xs after : List X) (ys after' : List Y) (i j : ℕ) (x : X) (y : Y) → length xs ≡ length ys → after ≡ set xs i x → after' ≡ set ys j y → length after ≡ length after'
-counts_back xs after ys after' i j x y same back back' = ap (λ (l : List _). length l) back ∙ (length-set xs i x ∙ same) ∙ sym (ap (λ (l : List _). length l) back' ∙ length-set ys j y)
 
 module _ {K : Type 0} (fits : K → ℕ → List ℕ → Type 0) (s : LentLines K) (line : ℕ) (inside : line < length s.wholes) (are : AreLinesOf s.keep s.node s.wholes) where
   is : IsLineOf s.keep s.node line (whole_at s line)
@@ -65,14 +59,6 @@ module _ {K : Type 0} (fits : K → ℕ → List ℕ → Type 0) (s : LentLines 
       let at_x : IsSoundStep (nodes_of x) (fits x.keep x.number) p = is_sound (nodes_of x) (fits x.keep x.number) (state_of x) s.node p t ep et form links lawful in
       let at_w : IsSoundStep (nodes_at s line) (fits (whole_at s line).keep (whole_at s line).number) p = subst (λ (y : WholeLine K). IsSoundStep (nodes_of y) (fits y.keep y.number) p) (read_at i x il r) at_x in
       subst (λ (k : K). IsSoundStep (nodes_at s line) (fits k line) p) is.fact (subst (λ (n : ℕ). IsSoundStep (nodes_at s line) (fits (whole_at s line).keep n) p) is.number at_w)
-
-  -- the receipts of the line, as they were read there
-  pub receives_there : (call : Call) (i : ℕ) (y x : WholeLine K) (me : ℕ) → i ≡ line → x ≡ get_or s.wholes i y → me ≡ s.node → (lists : List ReceiptList) (j : ℕ) (d r t : ReceiptList) → line < length lists → j ≡ line → r ≡ get_or lists j d
-      → ReceivesIfRoom ((state_of x).steps me) call r t → ReceivesIfRoom (step_at s line) call (receipts_at lists line) t
-  receives_there call i y x me il xy mine lists j d r t near jl at h =
-      subst (λ (z : ReceiptList). ReceivesIfRoom (step_at s line) call z t) (at ∙ ap (λ (k : ℕ). get_or lists k d) jl ∙ get_or_default lists line d no_receipts near)
-      (subst (λ (w : WholeLine K). ReceivesIfRoom ((state_of w).steps s.node) call r t) (read_from i y x il xy)
-      (subst (λ (n : ℕ). ReceivesIfRoom ((state_of x).steps n) call r t) mine h))
 
   -- a load leaves all lines as they are
   load_kept : (call : Call) → Gives (nodes_at s line) (fits s.keep line) (state_at s line) s.node call (state_at s line) → Owes (nodes_at s line) (fits s.keep line) s.node (step_at s line) call (step_at s line) → GivesAt fits s line call s

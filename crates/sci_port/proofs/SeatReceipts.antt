@@ -1,7 +1,7 @@
 -- The receipts of a node's seats at lines, where a call is made on one of them or its receipts are readied.
 use Rattle.std.proofs.Common.{◌≡◌, ◌≢◌, ◌⊎◌, inl, inr, ℕ, ◌<◌, None, List, map, length, get_or, set, refl, sym, ap, subst, ◌∙◌}
 use Rattle.std.proofs.lemmas.Bool.{cases_eq}
-use Rattle.std.proofs.lemmas.List.{get_or-set_same, get_or-set_other, map-set, length-map}
+use Rattle.std.proofs.lemmas.List.{get_or-set_same, get_or-set_other, get_or_default, map-set, length-map}
 use mathlib.Core.Option.{some}
 use lib.ListN.{get_elem?}
 use Rattle.sci_core.specs.declared.pending.Pending.{Pending}
@@ -21,6 +21,14 @@ all_stay {before = before} {after = after} {line = line} h same m = each m (case
     each : (m : ℕ) → (m ≡ line) ⊎ (m ≢ line) → after m ≡ before m
     each m (inl e) = subst (λ (k : ℕ). after k ≡ before k) (sym e) same
     each m (inr other) = h.others m other
+
+-- what was read of the receipts on a line
+pub read_there : (lists : List ReceiptList) (i line : ℕ) (d : ReceiptList) → line < length lists → i ≡ line → d ≡ get_or lists i d → d ≡ receipts_at lists line
+read_there lists i line d near il is = is ∙ (ap (λ (k : ℕ). get_or lists k d) il ∙ get_or_default lists line d no_receipts near)
+
+-- and what is read of them as they are lent
+pub there : (lists after lent : List ReceiptList) (i line : ℕ) (d : ReceiptList) → line < length lists → i ≡ line → after ≡ lists → lent ≡ after → get_or lent i d ≡ receipts_at lists line
+there lists after lent i line d near il same of = (λ k. get_or ((of ∙ same) k) (il k) d) ∙ get_or_default lists line d no_receipts near
 
 -- a list of receipts with those of one line replaced
 pub set_changes : (changes : ReceiptList → ReceiptList → Type 0) (before after : List ReceiptList) (line : ℕ) (y : ReceiptList) → line < length before → after ≡ set before line y → changes (receipts_at before line) y → ChangesAt changes (λ m. receipts_at before m) line (λ m. receipts_at after m)

@@ -1,16 +1,17 @@
 //! The bank of a node over lines that it has alone.
-ghost use Rattle.std.specs.Prelude.{◌≡◌, ◌<◌, length, IfOk, All};
+ghost use Rattle.std.specs.Prelude.{◌≡◌, ◌<◌, length, true};
+ghost use Rattle.sci_core.specs.Answers.{is_allowed, FitsEvent};
 ghost use Rattle.sci_port.specs.Banks.{AreLinesOf, GivesAt, lent_lines, lent_way, nodes_at, step_at};
-ghost use Rattle.sci_port.specs.Readying.{ChangesAt, Readies, no_receipts, receipts_at};
-ghost use Rattle.sci_port.specs.ReceiptList.{ReceivesIfRoom};
+ghost use Rattle.sci_port.specs.declared.calls.Call.TheVariants.{Stepped};
+ghost use Rattle.sci_port.specs.Readying.{ChangesAt, Readies, receipts_at};
+ghost use Rattle.sci_port.specs.ReceiptList.{HasRoom, Receives, ReceivesIfRoom};
 
 use crate::bank::Bank;
-use crate::port::Port;
 use crate::receipts::Receipts;
-use crate::solo::Solo;
+use crate::solo::step_lent;
 use sci_core::{Event, Keeps, Outcome, Pending, Stage, Whole};
 use sci_words::{LineNo, Mem, NodeId, Tag};
-use std::alloc::{AllocError, Global};
+use std::alloc::AllocError;
 
 /// A node's ports to `Whole`s that are given to it alone, with the node's receipts on each: its loads and steps are those of the
 /// line's `Whole`, and the others stay as they are.
@@ -65,6 +66,55 @@ impl<K: Keeps> SoloBank<K> {
             keep: _,
         } = self;
         wholes
+    }
+}
+
+impl<K: Keeps> SoloBank<K> {
+    // An event on the line that the node's pending step there allows, without its receipt.
+    #[inline(always)]
+    fn make(&mut self, line: LineNo, event: Event) -> Outcome
+        requires line { line < length self.old.wholes.items }
+        requires allowed { is_allowed (nodes_at (lent_lines self.old.keep self.old.node self.old.wholes.items) line) self.old.node (step_at (lent_lines self.old.keep self.old.node self.old.wholes.items) line) event ≡ true }
+        requires fits { FitsEvent (K.fits self.old.keep line) event }
+        ensures gives { GivesAt K.fits (lent_lines self.old.keep self.old.node self.old.wholes.items) line (Stepped event result) (lent_lines self.new.keep self.new.node self.new.wholes.items) }
+        ensures same_receipts { self.new.receipts ≡ self.old.receipts }
+    {
+        let me = self.node;
+        let wholes = self.wholes.as_mut_slice();
+        step_lent(&mut wholes[usize::from(line)], me, event)
+    }
+
+    // The same, with its receipt.
+    fn make_kept(&mut self, line: LineNo, event: Event) -> Outcome
+        requires line { line < length self.old.wholes.items }
+        requires allowed { is_allowed (nodes_at (lent_lines self.old.keep self.old.node self.old.wholes.items) line) self.old.node (step_at (lent_lines self.old.keep self.old.node self.old.wholes.items) line) event ≡ true }
+        requires fits { FitsEvent (K.fits self.old.keep line) event }
+        requires room { HasRoom event (receipts_at self.old.receipts.items line) }
+        ensures gives { GivesAt K.fits (lent_lines self.old.keep self.old.node self.old.wholes.items) line (Stepped event result) (lent_lines self.new.keep self.new.node self.new.wholes.items) }
+        ensures received { ChangesAt (Receives (step_at (lent_lines self.old.keep self.old.node self.old.wholes.items) line) (Stepped event result)) (λ m. receipts_at self.old.receipts.items m) line (λ m. receipts_at self.new.receipts.items m) }
+    {
+        let before = Bank::pending(self, line);
+        let asked = event;
+        let outcome = self.make(line, event);
+        let receipts = self.receipts.as_mut_slice();
+        receipts[usize::from(line)].keep(&before, &asked, &outcome);
+        outcome
+    }
+
+    // The same, with its receipt where there is room for one.
+    #[inline(always)]
+    fn make_in_room(&mut self, line: LineNo, event: Event) -> Outcome
+        requires line { line < length self.old.wholes.items }
+        requires allowed { is_allowed (nodes_at (lent_lines self.old.keep self.old.node self.old.wholes.items) line) self.old.node (step_at (lent_lines self.old.keep self.old.node self.old.wholes.items) line) event ≡ true }
+        requires fits { FitsEvent (K.fits self.old.keep line) event }
+        ensures gives { GivesAt K.fits (lent_lines self.old.keep self.old.node self.old.wholes.items) line (Stepped event result) (lent_lines self.new.keep self.new.node self.new.wholes.items) }
+        ensures receives { ChangesAt (ReceivesIfRoom (step_at (lent_lines self.old.keep self.old.node self.old.wholes.items) line) (Stepped event result)) (λ m. receipts_at self.old.receipts.items m) line (λ m. receipts_at self.new.receipts.items m) }
+    {
+        if self.receipts[usize::from(line)].keeps(&event) {
+            self.make_kept(line, event)
+        } else {
+            self.make(line, event)
+        }
     }
 }
 
@@ -154,15 +204,7 @@ impl<K: Keeps> Bank for SoloBank<K> {
 
     #[inline(always)]
     fn step(&mut self, line: LineNo, event: Event) -> Outcome {
-        let me = self.node;
-        let wholes = self.wholes.as_mut_slice();
-        let receipts = self.receipts.as_mut_slice();
-        Solo::new(
-            &mut wholes[usize::from(line)],
-            &mut receipts[usize::from(line)],
-            me,
-        )
-        .step(event)
+        self.make_in_room(line, event)
     }
 
     fn reserve(&mut self, line: LineNo, n: usize) -> Result<(), AllocError> {

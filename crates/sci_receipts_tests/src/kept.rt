@@ -122,8 +122,8 @@ fn receipts_on_a_line_that_is_lent(rt: HostRuntime) -> Result<(), Fail> {
     on_whole(&rt, rt.alloc(), &mut whole, 1)
 }
 
-// A line of two nodes on separate words, with its seats.
-fn fine_pair(
+/// A line of two nodes on separate words, with its seats.
+pub(crate) fn fine_pair(
     alloc: Global,
 ) -> Option<
     (
@@ -142,8 +142,8 @@ fn fine_pair(
     Some((line, zero, one))
 }
 
-// A line of two nodes under a lock word, with its seats.
-fn coarse_pair(
+/// A line of two nodes under a lock word, with its seats.
+pub(crate) fn coarse_pair(
     alloc: Global,
 ) -> Option<
     (
