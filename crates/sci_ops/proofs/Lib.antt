@@ -1,5 +1,6 @@
 pub mod Answering
 pub mod Less
+pub mod Noted
 pub mod Carried
 pub mod Took
 pub mod Short

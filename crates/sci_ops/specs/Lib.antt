@@ -1,6 +1,7 @@
 pub mod Alone
 pub mod Answers
 pub mod Change
+pub mod Kept
 pub mod Operation
 pub mod Plan
 pub mod Ranking

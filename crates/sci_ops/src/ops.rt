@@ -7,6 +7,7 @@ ghost use Rattle.sci_ops.specs.declared.goals.Write as a_write;
 ghost use Rattle.sci_ops.specs.Alone.{TakesTurn};
 ghost use Rattle.sci_ops.specs.Answers.{AnswersAt};
 ghost use Rattle.sci_ops.specs.Change.{StoresFitting};
+ghost use Rattle.sci_ops.specs.Kept.{KeepsAnswer};
 ghost use Rattle.sci_ops.specs.Plan.{Takes, LoadsAtMost};
 ghost use Rattle.sci_ops.specs.Ranking.{ranking};
 ghost use Rattle.sci_ops.specs.Rest.{due_turn, is_exchange, ComesTo};
@@ -110,12 +111,15 @@ impl Op {
     /// answer is what the last of these calls gave. Seen: a load; Settle or Unhold was done, and answered this line. Wrote: a
     /// write; from Purging of a line with these words and a stamp one less, what the write makes of them was written. Spent: a
     /// write; from Purging of a line whose stamp is `u64::MAX`, nothing was. Out: an eviction; the node's own tag was Invalid, or
-    /// Left or Rolled made it so. A turn after the end gives the answer again, and asks nothing of the port.
+    /// Left or Rolled made it so. A turn after the end gives the answer again, and asks nothing of the port. Where the port has room for
+    /// one more receipt, and for a load the mark isn't set, what ends a load or a write is its last receipt, behind those that there
+    /// were: of a load the line that it saw, of a write the words that it replaced, those that it wrote, and their stamp.
     #[inline(always)]
     pub fn turn<P: Port>(&mut self, port: &mut P) -> Turn
         requires fits { StoresFitting (P.Keep.fits (P.keep port.old) (P.way port.old).number) self.old.goal }
         ensures calls { Takes P.gives (turn_of self.old (P.way port.old).node (P.at_step port.old)) port.old result port.new }
         ensures answers { AnswersAt P.gives P.at_step self.old (P.way port.old).node port.old result port.new }
+        ensures last { KeepsAnswer self.old result (P.told port.old) (P.told port.new) }
         ensures loads { LoadsAtMost 3 (turn_of self.old (P.way port.old).node (P.at_step port.old)) }
         ensures op { self.new ≡ after_turn self.old result }
         ensures same_way { P.way port.new ≡ P.way port.old }
