@@ -1,16 +1,16 @@
 use borrow.Author.Rules.{scaled_Fits}
-use Rattle.std.proofs.Common.{◌≡◌, ◌∙◌, ◌<◌, ℕ, List, true, sym, ap, subst, set, length, length-set, rules}
+use Rattle.std.proofs.Common.{◌≡◌, ◌∙◌, ◌<◌, ℕ, List, true, sym, ap, subst, get_or, set, length, length-set, rules}
 use Rattle.sci_core.specs.Answers.{is_allowed}
 use Rattle.sci_core.specs.declared.pending.Pending.{Pending}
 use Rattle.sci_port.specs.declared.calls.Call.TheVariants.{Stepped}
-use Rattle.sci_port.specs.Banks.{lent_lines, step_at}
+use Rattle.sci_port.specs.Banks.{lent_lines, nodes_at, step_at}
 use Rattle.sci_port.specs.ReceiptList.{HasRoom, ReceiptList, Receives}
 use Rattle.sci_port.proofs.Banked.{written_back}
 use Rattle.sci_port.proofs.SeatReceipts.{set_changes, there}
 use Rattle.sci_port.proofs.solo_bank.SoloBank.make_kept.Goals as goal
 
 pub keep-requires-clause-allowed : goal.keep-requires-clause-allowed
-keep-requires-clause-allowed g c = (_, _, subst (λ (p : Pending). is_allowed _ _ p c.args.event ≡ true) (sym c.pending-before.ensures.value) c.requires.allowed)
+keep-requires-clause-allowed g c = (_, _, subst (λ (p : Pending). is_allowed (nodes_at (lent_lines c.args.self.now.keep c.args.self.now.node c.args.self.now.wholes.items) c.args.line) c.args.self.now.node p c.args.event ≡ true) (sym c.pending-before.ensures.value) c.requires.allowed)
 
 pub keep-requires-clause-room : goal.keep-requires-clause-room
 keep-requires-clause-room g c =
@@ -44,4 +44,4 @@ returns-clause-received g c =
     let back = (written_back c.make-outcome.new.self.receipts.items c.as_mut_slice-receipts.result.now c.make-outcome.new.self.receipts.len c.from.result c.keep.new.self c.as_mut_slice-receipts.ensures.value c.as_mut_slice-receipts.ensures.len) ∙ (λ i. set ((ap (λ v. v.items) c.make-outcome.ensures.same_receipts) i) (c.from.ensures i) c.keep.new.self) in
     set_changes (Receives p call) c.args.self.now.receipts.items _ c.args.line c.keep.new.self near back
     (subst (λ (r : ReceiptList). Receives p call r c.keep.new.self) (there c.args.self.now.receipts.items c.make-outcome.new.self.receipts.items c.as_mut_slice-receipts.result.now c.from.result c.args.line c.index-receipts-from.result near c.from.ensures (ap (λ v. v.items) c.make-outcome.ensures.same_receipts) c.as_mut_slice-receipts.ensures.value)
-    (subst (λ (q : Pending). Receives q call _ c.keep.new.self) c.pending-before.ensures.value c.keep.ensures))
+    (subst (λ (q : Pending). Receives q call (get_or c.as_mut_slice-receipts.result.now c.from.result c.index-receipts-from.result) c.keep.new.self) c.pending-before.ensures.value c.keep.ensures))
