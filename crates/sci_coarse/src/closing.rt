@@ -94,12 +94,14 @@ impl<K: Keeps> CoarseLine<K> {
             token: mut root,
             node: _,
             standing: _,
+            receipts: _,
         } = seats.remove(0);
         while let Some(seat) = seats.pop() {
             let Seat {
                 token,
                 node: _,
                 standing: _,
+                receipts: _,
             } = seat;
             self.table.shared.join_seat::<Together>(&mut root, token);
         }

@@ -132,9 +132,14 @@ impl<K: Keeps> FineLine<K> {
         let Seat {
             token: mut root,
             standing: _,
+            receipts: _,
         } = seats.remove(0);
         while let Some(seat) = seats.pop() {
-            let Seat { token, standing: _ } = seat;
+            let Seat {
+                token,
+                standing: _,
+                receipts: _,
+            } = seat;
             self.table.shared.join_seat::<Together>(&mut root, token);
         }
         root

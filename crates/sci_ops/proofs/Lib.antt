@@ -1,4 +1,5 @@
 pub mod Answering
+pub mod Less
 pub mod Carried
 pub mod Took
 pub mod Noted

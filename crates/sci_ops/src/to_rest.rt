@@ -12,7 +12,7 @@ ghost use Rattle.sci_ops.specs.Rest.{Rests, EndsOne, EndsEach, op_at};
 use crate::alone::Steps;
 use crate::ops::Op;
 use sci_core::{Keeps, Whole};
-use sci_port::Solo;
+use sci_port::{Receipts, Solo};
 use sci_words::NodeId;
 use std::sync::ledger::Ledger;
 
@@ -55,7 +55,8 @@ fn ended<K: Keeps, L: Ledger>(
         return op;
     }
     let mut left = op;
-    let _ = left.alone(&mut Solo::new(whole, node), steps);
+    let mut receipts = Receipts::new(whole.allocator());
+    let _ = left.alone(&mut Solo::new(whole, &mut receipts, node), steps);
     left
 }
 

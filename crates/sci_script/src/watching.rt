@@ -13,6 +13,7 @@ use sci_core::{AnyWords, Event, Outcome, Pending, Stage};
 use sci_ops::Turn;
 use sci_port::{Bank, SoloBank};
 use sci_words::{LineNo, Mem, NodeId, Tag};
+use std::alloc::AllocError;
 
 /// A load, with its answer.
 #[derive(Clone, Copy, Debug)]
@@ -105,7 +106,11 @@ impl<B: Bank> Bank for Watched<'_, '_, B> {
 
     ghost at_step = { λ s line. B.at_step s.bank.now line };
 
+    ghost told = { λ s line. B.told s.bank.now line };
+
     ghost gives = { λ s line call t. B.gives s.bank.now line call t.bank.now × (t.passed.now ≡ passed_by s.passed.now line call) × (t.bank.ghost_name ≡ s.bank.ghost_name) × (t.passed.ghost_name ≡ s.passed.ghost_name) };
+
+    ghost readies = { λ s line r t. B.readies s.bank.now line r t.bank.now × (t.passed ≡ s.passed) × (t.bank.ghost_name ≡ s.bank.ghost_name) };
 
     ghost same_way = { λ s line call t h. B.same_way s.bank.now line call t.bank.now h.0 };
 
@@ -116,6 +121,10 @@ impl<B: Bank> Bank for Watched<'_, '_, B> {
     ghost others = { λ s line call t h. B.others s.bank.now line call t.bank.now h.0 };
 
     ghost owes = { λ s line call t h. B.owes s.bank.now line call t.bank.now h.0 };
+
+    ghost receives = { λ s line call t h. B.receives s.bank.now line call t.bank.now h.0 };
+
+    ghost readied = { λ s line r t h. B.readied s.bank.now line r t.bank.now h.0 };
 
     fn node(&self) -> NodeId {
         self.bank.node()
@@ -173,6 +182,22 @@ impl<B: Bank> Bank for Watched<'_, '_, B> {
         self.passed.line = line;
         self.passed.step = Some((passing, ending));
         outcome
+    }
+
+    fn reserve(&mut self, line: LineNo, n: usize) -> Result<(), AllocError> {
+        self.bank.reserve(line, n)
+    }
+
+    fn room(&self, line: LineNo) -> usize {
+        self.bank.room(line)
+    }
+
+    fn last_passed(&self, line: LineNo) -> bool {
+        self.bank.last_passed(line)
+    }
+
+    fn aim(&mut self, line: LineNo, passing: bool) {
+        self.bank.aim(line, passing);
     }
 }
 

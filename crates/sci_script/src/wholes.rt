@@ -11,7 +11,7 @@ use crate::nodes::idle;
 use sci_cache::{Node, OpenCall, Request};
 use sci_core::{AnyWords, Whole};
 use sci_ops::Turn;
-use sci_port::{Bank, SoloBank};
+use sci_port::{Bank, Receipts, SoloBank};
 use sci_words::{LineNo, Mem, NodeId, Tag};
 use std::alloc::{AllocError, Global};
 
@@ -75,7 +75,8 @@ impl WholeDesk {
         let size = script.size;
         let nodes = idle(alloc, script)?;
         let wholes = unused(alloc, script)?;
-        let bank = SoloBank::new(wholes, nodes[0].id());
+        let receipts = Receipts::of_lines(alloc, usize::from(size.lines))?;
+        let bank = SoloBank::new(wholes, receipts, nodes[0].id());
         Ok(WholeDesk { size, bank, nodes })
     }
 

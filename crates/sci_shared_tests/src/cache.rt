@@ -11,7 +11,7 @@ use crate::checks::{same, same_at};
 use sci_cache::*;
 use sci_core::{AnyWords, Line, OpenRefusal, Whole};
 use sci_ops::{Answer, Turn};
-use sci_port::SoloBank;
+use sci_port::{Receipts, SoloBank};
 use sci_words::{LineNo, NodeId, mem_name, name};
 use std::alloc::Global;
 use std::process::Abort;
@@ -69,7 +69,8 @@ fn banked(wholes: Vec<Whole<AnyWords>>, me: NodeId) -> Option<SoloBank<AnyWords>
     if !are_lines_of(&wholes, me) {
         return None;
     }
-    Some(SoloBank::new(wholes, me))
+    let receipts = Receipts::of_lines(*wholes.allocator(), wholes.len()).ok()?;
+    Some(SoloBank::new(wholes, receipts, me))
 }
 
 // The open call of a node of three lines, in turns that all move: how many there were, its answer, and the lines after it.

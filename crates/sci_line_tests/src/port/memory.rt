@@ -8,7 +8,7 @@ use super::{LINE, fresh, step_of};
 use crate::checks::{allocates, same};
 use sci_core::{Event, Outcome, Whole};
 use sci_port::recording::{Recorder, Trace};
-use sci_port::{AnyWords, At, Bank, Port, SoloBank};
+use sci_port::{AnyWords, At, Bank, Port, Receipts, SoloBank};
 use sci_words::{LineNo, NodeId};
 use std::alloc::Global;
 use std::test::Fail;
@@ -64,7 +64,8 @@ fn seated(alloc: Global) -> Result<SoloBank<AnyWords>, Fail> {
     if !are_lines_of(&wholes, me) {
         return Err(Fail::new("no lines of the node"));
     }
-    Ok(SoloBank::new(wholes, me))
+    let receipts = Receipts::of_lines(alloc, wholes.len())?;
+    Ok(SoloBank::new(wholes, receipts, me))
 }
 
 /// An event on a line through a bank, if the event is in turn.

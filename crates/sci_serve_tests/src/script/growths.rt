@@ -182,7 +182,11 @@ fn seats_again(rt: &impl Abort, alloc: Global, script: &Script, none: NoDesk<Unh
 
 fn seats(rt: &impl Abort, alloc: Global, script: &Script) -> Result<(), Fail> {
     let mut banks = Vec::new(alloc);
-    if banks.push(unheard_bank(script.lines())).is_err() {
+    let Ok(bank) = unheard_bank(alloc, script.lines()) else {
+        unheard_bank(alloc, script.lines())?;
+        return Err(Fail::new("of_lines answered 7"));
+    };
+    if banks.push(bank).is_err() {
         return Err(Fail::new("push answered 7"));
     }
     if !are_banks(script, &banks) {
