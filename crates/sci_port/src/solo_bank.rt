@@ -65,6 +65,20 @@ impl<K: Keeps> SoloBank<K> {
         &wholes[usize::from(line)]
     }
 
+    /// The lines as they stand, and the receipts on each.
+    pub fn into_parts(self) -> (Vec<Whole<K>>, Vec<Receipts>)
+        ensures same_lines { result.0 ≡ self.wholes }
+        ensures same_receipts { result.1 ≡ self.receipts }
+    {
+        let SoloBank {
+            wholes,
+            receipts,
+            node: _,
+            keep: _,
+        } = self;
+        (wholes, receipts)
+    }
+
     /// The lines as they stand.
     pub fn into_wholes(self) -> Vec<Whole<K>>
         ensures { result ≡ self.wholes }

@@ -65,9 +65,10 @@ impl WholeDesk {
     {
         let WholeDesk { size, bank, nodes } = self;
         let node = bank.node();
-        let mut wholes = bank.into_wholes();
+        let parts = bank.into_parts();
+        let mut wholes = parts.0;
         rest_all(&mut wholes, size, steps);
-        let bank = SoloBank::new(wholes, node);
+        let bank = SoloBank::new(wholes, parts.1, node);
         WholeDesk { size, bank, nodes }
     }
 
