@@ -83,13 +83,7 @@ impl<K: Keeps> SoloBank<K> {
     pub fn into_wholes(self) -> Vec<Whole<K>>
         ensures { result ≡ self.wholes }
     {
-        let SoloBank {
-            wholes,
-            receipts: _,
-            node: _,
-            keep: _,
-        } = self;
-        wholes
+        self.into_parts().0
     }
 }
 

@@ -30,13 +30,15 @@ fn made(alloc: Global, number: u16, capacity: u16) -> Result<Node, Fail>
     Ok(Node::new(alloc, id, 3, capacity)?)
 }
 
+// Lines that are lent to one node after another, and receipts on each, none of which is kept: there is no room.
+#[derive(Drop)]
+struct Lent {
+    wholes: Vec<Whole<AnyWords>>,
+    receipts: Vec<Receipts>,
+}
+
 // So many lines of so many nodes, each opened with this content.
-fn opened(
-    alloc: Global,
-    nodes: u16,
-    lines: u16,
-    line: Line,
-) -> Result<Vec<Whole<AnyWords>>, OpenRefusal> {
+fn opened(alloc: Global, nodes: u16, lines: u16, line: Line) -> Result<Lent, OpenRefusal> {
     let mut wholes = Vec::new(alloc);
     for number in 0..lines {
         let whole = Whole::open(alloc, nodes, number, line, AnyWords)?;
@@ -44,7 +46,10 @@ fn opened(
             return Err(OpenRefusal::OutOfMemory);
         }
     }
-    Ok(wholes)
+    match Receipts::of_lines(alloc, usize::from(lines)) {
+        Ok(receipts) => Ok(Lent { wholes, receipts }),
+        Err(_) => Err(OpenRefusal::OutOfMemory),
+    }
 }
 
 // Whether these are a memory's lines, numbered from 0, and each has the node.
@@ -63,33 +68,39 @@ fn are_lines_of(wholes: &[Whole<AnyWords>], me: NodeId) -> bool
 }
 
 // The node's bank of these lines.
-fn banked(wholes: Vec<Whole<AnyWords>>, me: NodeId) -> Option<SoloBank<AnyWords>>
-    ensures { IfSome result (λ bank. (bank.node ≡ me) × (bank.wholes ≡ wholes)) }
+fn banked(lent: Lent, me: NodeId) -> Option<SoloBank<AnyWords>>
+    ensures { IfSome result (λ bank. (bank.node ≡ me) × (bank.wholes ≡ lent.wholes)) }
 {
-    if !are_lines_of(&wholes, me) {
+    let Lent { wholes, receipts } = lent;
+    if !are_lines_of(&wholes, me) || receipts.len() != wholes.len() {
         return None;
     }
-    let receipts = Receipts::of_lines(*wholes.allocator(), wholes.len()).ok()?;
     Some(SoloBank::new(wholes, receipts, me))
+}
+
+// What a bank was lent.
+fn given_back(bank: SoloBank<AnyWords>) -> Lent {
+    let (wholes, receipts) = bank.into_parts();
+    Lent { wholes, receipts }
 }
 
 // The open call of a node of three lines, in turns that all move: how many there were, its answer, and the lines after it.
 #[tactic(auto, using(sci_cache::proofs::Storing::any_call_fits))]
 fn ended(
     node: &mut Node,
-    wholes: Vec<Whole<AnyWords>>,
-) -> Option<(u32, Answer, Vec<Whole<AnyWords>>)>
+    wholes: Lent,
+) -> Option<(u32, Answer, Lent)>
     requires { node.old.lines ≡ 3 }
     ensures { node.new.lines ≡ 3 }
 {
-    if wholes.len() != 3 {
+    if wholes.wholes.len() != 3 {
         return None;
     }
     let mut bank = banked(wholes, node.id())?;
     for turns in 1..100 {
         match node.turn(&mut bank) {
             Ok(Turn::Moved) => {}
-            Ok(Turn::Done(answer)) => return Some((turns, answer, bank.into_wholes())),
+            Ok(Turn::Done(answer)) => return Some((turns, answer, given_back(bank))),
             Ok(Turn::Waiting) | Err(_) => return None,
         }
     }
@@ -99,9 +110,9 @@ fn ended(
 // A request of such a node, to its end.
 fn done(
     node: &mut Node,
-    wholes: Vec<Whole<AnyWords>>,
+    wholes: Lent,
     request: Request,
-) -> Option<(u32, Answer, Vec<Whole<AnyWords>>)>
+) -> Option<(u32, Answer, Lent)>
     requires { node.old.lines ≡ 3 }
     ensures { node.new.lines ≡ 3 }
 {
@@ -128,12 +139,12 @@ fn names(
 // These are the names of memory's word and of a node's tag on a line.
 fn stands(
     rt: &impl Abort,
-    wholes: &[Whole<AnyWords>],
+    lent: &Lent,
     line: usize,
     number: u16,
     want: (&'static str, &'static str),
 ) {
-    same(rt, &names(wholes, line, number), &Some(want));
+    same(rt, &names(&lent.wholes, line, number), &Some(want));
 }
 
 // The residents of a node are these.
@@ -146,10 +157,10 @@ fn lists(rt: &impl Abort, alloc: Global, node: &Node, want: &[u16]) -> Result<()
 fn answers(
     rt: &impl Abort,
     node: &mut Node,
-    wholes: Vec<Whole<AnyWords>>,
+    wholes: Lent,
     request: Request,
     want: Answer,
-) -> Result<(u32, Vec<Whole<AnyWords>>), Fail>
+) -> Result<(u32, Lent), Fail>
     requires { node.old.lines ≡ 3 }
     ensures { node.new.lines ≡ 3 }
 {
@@ -162,10 +173,10 @@ fn answers(
 fn finds_zeros(
     rt: &impl Abort,
     node: &mut Node,
-    wholes: Vec<Whole<AnyWords>>,
+    wholes: Lent,
     line: LineNo,
     want: u32,
-) -> Result<Vec<Whole<AnyWords>>, Fail>
+) -> Result<Lent, Fail>
     requires { node.old.lines ≡ 3 }
     ensures { node.new.lines ≡ 3 }
 {
@@ -194,10 +205,10 @@ fn takes(
     rt: &impl Abort,
     alloc: Global,
     node: &mut Node,
-    wholes: Vec<Whole<AnyWords>>,
+    wholes: Lent,
     request: Request,
     want: (u32, &[u16]),
-) -> Result<Vec<Whole<AnyWords>>, Fail>
+) -> Result<Lent, Fail>
     requires { node.old.lines ≡ 3 }
     ensures { node.new.lines ≡ 3 }
 {
@@ -269,9 +280,9 @@ fn purges(
     rt: &impl Abort,
     reader: &mut Node,
     writer: &mut Node,
-    wholes: Vec<Whole<AnyWords>>,
+    wholes: Lent,
     purge: (Answer, u64, Answer),
-) -> Result<Vec<Whole<AnyWords>>, Fail>
+) -> Result<Lent, Fail>
     requires { (reader.old.lines ≡ 3) × (writer.old.lines ≡ 3) }
     ensures { (reader.new.lines ≡ 3) × (writer.new.lines ≡ 3) }
 {

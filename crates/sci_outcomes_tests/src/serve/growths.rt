@@ -24,7 +24,7 @@ fn refuses(rt: &impl Abort, alloc: Global) -> Result<(), Fail> {
     Err(Fail::new("serve_outcomes answered 7"))
 }
 
-/// Growths: 1 of serve_outcomes, 3 made up for, 99 of serve_outcomes.
+/// Growths: 1 of serve_outcomes, 3 made up for, 100 of serve_outcomes.
 #[test]
 fn refused_growths(rt: HostRuntime) -> Result<(), Fail> {
     refuses(&rt, rt.alloc())

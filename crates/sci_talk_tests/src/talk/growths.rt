@@ -38,7 +38,7 @@ fn refuses(rt: &impl Abort, alloc: Global) -> Result<(), Fail> {
     Ok(())
 }
 
-/// Growths: 4 made up for, 1 of say, 1 made up for, 14 of say, 2 made up for, 2 of say, 1 made up for, 3 of say, 1 made up for,
+/// Growths: 4 made up for, 1 of say, 1 made up for, 15 of say, 2 made up for, 2 of say, 1 made up for, 3 of say, 1 made up for,
 /// 4 of say.
 #[test]
 fn refused_growths(rt: HostRuntime) -> Result<(), Fail> {
