@@ -5,7 +5,8 @@ and the table of turns of tools/progress.
 
 PROGRAM is crates/sci_sim/out/sci_sim. Of each of COUNT scripts, 200, the program must print as many states, and the same outcomes, in
 the order of how many turns lead there, with as many turns as are needed; behind the script these turns must lead it to just that
-outcome; and one state less must be too few. The last line is `N passed, M failed`.
+outcome; and one state less must be too few. From each state some order must end all calls, as PROGRESS says. The last line is
+`N passed, M failed`.
 """
 import os
 import pathlib
@@ -54,11 +55,11 @@ def leads(race, outcome, turns):
 
 
 def agrees(race):
-    """Whether the program says of the race what the search found."""
-    states, least = race.outcomes()
+    """Whether the program says of the race what the search found, and each state can come to an end."""
+    states, least, endless = race.outcomes()
     status, said, faults = ran('outcomes', text=race.text())
     head, listed = read(said)
-    return ((status, faults) == (0, '') and head == [f'states {states}', f'outcomes {len(least)}']
+    return (endless == 0 and (status, faults) == (0, '') and head == [f'states {states}', f'outcomes {len(least)}']
             and [len(turns) for _, turns in listed] == sorted(least.values())
             and {outcome: len(turns) for outcome, turns in listed} == least
             and all(leads(race, outcome, turns) for outcome, turns in listed)

@@ -35,5 +35,5 @@ class Race:
         return ''.join(f'{line}\n' for line in self.script)
 
     def outcomes(self):
-        """How many states there are, and by outcome how many turns lead there at least."""
+        """How many states there are, by outcome how many turns lead there at least, and from how many states no order ends all calls."""
         return outcomes(self.state)
