@@ -33,7 +33,7 @@ fn made(alloc: Global, number: u16, capacity: u16) -> Result<Node, Fail>
 // Lines that are lent to one node after another, and receipts on each, none of which is kept: there is no room.
 #[derive(Drop)]
 struct Lent {
-    wholes: Vec<Whole<AnyWords>>,
+    lines: Vec<Whole<AnyWords>>,
     receipts: Vec<Receipts>,
 }
 
@@ -47,7 +47,10 @@ fn opened(alloc: Global, nodes: u16, lines: u16, line: Line) -> Result<Lent, Ope
         }
     }
     match Receipts::of_lines(alloc, usize::from(lines)) {
-        Ok(receipts) => Ok(Lent { wholes, receipts }),
+        Ok(receipts) => Ok(Lent {
+            lines: wholes,
+            receipts,
+        }),
         Err(_) => Err(OpenRefusal::OutOfMemory),
     }
 }
@@ -69,19 +72,22 @@ fn are_lines_of(wholes: &[Whole<AnyWords>], me: NodeId) -> bool
 
 // The node's bank of these lines.
 fn banked(lent: Lent, me: NodeId) -> Option<SoloBank<AnyWords>>
-    ensures { IfSome result (λ bank. (bank.node ≡ me) × (bank.wholes ≡ lent.wholes)) }
+    ensures { IfSome result (λ bank. (bank.node ≡ me) × (bank.wholes ≡ lent.lines)) }
 {
-    let Lent { wholes, receipts } = lent;
-    if !are_lines_of(&wholes, me) || receipts.len() != wholes.len() {
+    let Lent { lines, receipts } = lent;
+    if receipts.len() != lines.len() {
         return None;
     }
-    Some(SoloBank::new(wholes, receipts, me))
+    if !are_lines_of(&lines, me) {
+        return None;
+    }
+    Some(SoloBank::new(lines, receipts, me))
 }
 
 // What a bank was lent.
 fn given_back(bank: SoloBank<AnyWords>) -> Lent {
-    let (wholes, receipts) = bank.into_parts();
-    Lent { wholes, receipts }
+    let (lines, receipts) = bank.into_parts();
+    Lent { lines, receipts }
 }
 
 // The open call of a node of three lines, in turns that all move: how many there were, its answer, and the lines after it.
@@ -93,7 +99,7 @@ fn ended(
     requires { node.old.lines ≡ 3 }
     ensures { node.new.lines ≡ 3 }
 {
-    if wholes.wholes.len() != 3 {
+    if wholes.lines.len() != 3 {
         return None;
     }
     let mut bank = banked(wholes, node.id())?;
@@ -144,7 +150,7 @@ fn stands(
     number: u16,
     want: (&'static str, &'static str),
 ) {
-    same(rt, &names(&lent.wholes, line, number), &Some(want));
+    same(rt, &names(&lent.lines, line, number), &Some(want));
 }
 
 // The residents of a node are these.

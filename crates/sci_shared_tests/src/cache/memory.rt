@@ -81,7 +81,7 @@ fn worked(first: &mut Node, second: &mut Node, wholes: Lent) -> Option<(u32, usi
     let (turns, wholes) = filled(first, second, wholes)?;
     let wholes = rounds(first, second, wholes)?;
     let (_, _, wholes) = done(first, wholes, Request::Evict { line: 1 })?;
-    Some((turns, wholes.wholes.len()))
+    Some((turns, wholes.lines.len()))
 }
 
 #[test]
