@@ -1,5 +1,5 @@
 -- The receipts of a node's seats at lines, where a call is made on one of them or its receipts are readied.
-use Rattle.std.proofs.Common.{◌≡◌, ◌≢◌, ◌⊎◌, inl, inr, ℕ, ◌<◌, None, List, map, length, get_or, set, refl, sym, ap, subst, ◌∙◌}
+use Rattle.std.proofs.Common.{◌≡◌, ◌≢◌, ◌⊎◌, inl, inr, ℕ, ◌+◌, ◌<◌, None, List, map, length, get_or, set, refl, sym, ap, subst, ◌∙◌, arith}
 use Rattle.std.proofs.lemmas.Bool.{cases_eq}
 use Rattle.std.proofs.lemmas.List.{get_or-set_same, get_or-set_other, get_or_default, map-set, length-map}
 use mathlib.Core.Option.{some}
@@ -8,7 +8,7 @@ use Rattle.sci_core.specs.declared.pending.Pending.{Pending}
 use Rattle.sci_port.specs.declared.calls.Call.{Call}
 use Rattle.sci_port.specs.declared.calls.Call.TheVariants.{MemWas}
 use Rattle.sci_port.specs.Owes.{Owes}
-use Rattle.sci_port.specs.Readying.{ChangesAt, Readies, Readying, no_receipts, receipts_at}
+use Rattle.sci_port.specs.Readying.{ChangesAt, Readies, Readying, no_receipts, receipts_at, receipts_from}
 use Rattle.sci_port.specs.ReceiptList.{ReceiptList, ReceivesIfRoom}
 use Rattle.sci_port.specs.Seated.{CallsOn, ReadiesOn, Seated}
 use Rattle.sci_port.specs.SeatBanks.{IsKept, IsShared, LineTerms, MakesCall, MakesReady, Seating, receipts_of}
@@ -36,6 +36,13 @@ set_changes changes before after line y near back h = record {
   here = subst (λ (z : ReceiptList). changes (receipts_at before line) z) (sym (ap (λ (l : List ReceiptList). receipts_at l line) back ∙ get_or-set_same before line y no_receipts near)) h;
   others = λ m other. ap (λ (l : List ReceiptList). receipts_at l m) back ∙ get_or-set_other before line m y no_receipts other;
 }
+
+-- the same of a node's, which stand together from a place on
+pub shifted : (changes : ReceiptList → ReceiptList → Type 0) (before after : List ReceiptList) (from to line : ℕ) → to ≡ from → ChangesAt changes (λ m. receipts_at before m) (from + line) (λ m. receipts_at after m) → ChangesAt changes (receipts_from before from) line (receipts_from after to)
+shifted changes before after from to line same h =
+    let other : (m : ℕ) → m ≢ line → from + m ≡ from + line → ⊥ = λ m far e. far (let is : m ≡ line = omega (arith, e) in is) in
+    let so : ChangesAt changes (receipts_from before from) line (receipts_from after from) = record { here = h.here; others = λ m far. h.others (from + m) (other m far) } in
+    subst (λ (k : ℕ). ChangesAt changes (receipts_from before from) line (receipts_from after k)) (sym same) so
 
 module _ {K L S : Type 0} {seating : S → Seating K} {is_seat : L → S → Type 0} {makes : S → Call → S → Type 0} {readies : S → Readying → S → Type 0} (kept : IsKept seating is_seat makes readies) where
   seat_changes : (changes : ReceiptList → ReceiptList → Type 0) (before after : List S) (line : ℕ) (x y : S) → line < length before → get_elem? before line ≡ some x → after ≡ set before line y → changes (seating x).receipts (seating y).receipts

@@ -1,5 +1,5 @@
 -- Calls of a port that ready a node's receipts, and what they leave in them. They reach no line. This project's profile.
-use Rattle.std.specs.Prelude.{◌≡◌, ◌≢◌, ℕ, ◌≤◌, Bool, true, false, List, [], slice_index_or}
+use Rattle.std.specs.Prelude.{◌≡◌, ◌≢◌, ℕ, ◌+◌, ◌≤◌, Bool, true, false, List, [], length, slice_index_or}
 use Rattle.sci_port.specs.ReceiptList.{ReceiptList}
 
 -- room was asked for so many more, and was there or not; or the mark was set so
@@ -38,3 +38,13 @@ no_receipts = record { list = []; passing = false; room = 0 }
 -- those on a line, where there is a list for each
 abbrev pub receipts_at : List ReceiptList → ℕ → ReceiptList
 receipts_at lists line = slice_index_or lists line no_receipts
+
+-- those on a line, where the lists of one node stand together from a place on
+abbrev pub receipts_from : List ReceiptList → ℕ → ℕ → ReceiptList
+receipts_from lists from line = receipts_at lists (from + line)
+
+-- all lists but that of this line stay, other nodes' too, and so does the place
+pub record OthersStay (before : List ReceiptList) (from line : ℕ) (after : List ReceiptList) (place : ℕ) : Type 0 where
+  pub same_from : place ≡ from
+  pub count : length after ≡ length before
+  pub others : (p : ℕ) → p ≢ from + line → receipts_at after p ≡ receipts_at before p

@@ -1,10 +1,10 @@
 //! The bank of a node over lines that it has alone.
-ghost use Rattle.std.specs.Prelude.{◌≡◌, ◌<◌, length, slice_index_or, true};
+ghost use Rattle.std.specs.Prelude.{◌≡◌, ◌<◌, ◌≤◌, ◌+◌, length, slice_index_or, true};
 ghost use Rattle.sci_core.specs.Answers.{is_allowed, FitsEvent};
 ghost use Rattle.sci_core.specs.Whole.{WholeLine};
 ghost use Rattle.sci_port.specs.Banks.{AreLinesOf, GivesAt, lent_lines, lent_way, nodes_at, step_at};
 ghost use Rattle.sci_port.specs.declared.calls.Call.TheVariants.{Stepped};
-ghost use Rattle.sci_port.specs.Readying.{ChangesAt, Readies, receipts_at};
+ghost use Rattle.sci_port.specs.Readying.{ChangesAt, OthersStay, Readies, receipts_from};
 ghost use Rattle.sci_port.specs.ReceiptList.{HasRoom, Receives, ReceivesIfRoom};
 
 use crate::bank::Bank;
@@ -15,45 +15,52 @@ use sci_words::{LineNo, Mem, NodeId, Tag};
 use std::alloc::AllocError;
 
 /// A node's ports to `Whole`s that are given to it alone, with the node's receipts on each: its loads and steps are those of the
-/// line's `Whole`, and the others stay as they are.
+/// line's `Whole`, and the others stay as they are. Its receipts stand together, from one place on, in a list that may have those of
+/// other nodes too: they stay.
 #[derive(Drop)]
 pub struct SoloBank<K: Keeps> {
     wholes: Vec<Whole<K>>,
     receipts: Vec<Receipts>,
+    from: usize,
     node: NodeId,
     keep: K,
-    ghost count: { length receipts.items ≡ length wholes.items },
+    ghost room: { from + length wholes.items ≤ length receipts.items },
     ghost of: { AreLinesOf keep node wholes.items },
 }
 
 impl<K: Keeps> SoloBank<K> {
     /// The node's bank of these lines: 1 to 1,024 of them, numbered from 0, under one fact, and each with the node.
-    /// There are receipts for each line.
+    /// There are receipts for each line: the first of the list are the node's.
     pub fn new(wholes: Vec<Whole<K>>, receipts: Vec<Receipts>, node: NodeId) -> SoloBank<K>
         requires lines { (keep : K) × AreLinesOf keep node wholes.items }
-        requires count { length receipts.items ≡ length wholes.items }
+        requires room { length wholes.items ≤ length receipts.items }
         ensures same_lines { result.wholes ≡ wholes }
         ensures same_receipts { result.receipts ≡ receipts }
+        ensures from { result.from ≡ 0 }
         ensures node { result.node ≡ node }
     {
         let keep = wholes[0].keep();
         SoloBank {
             wholes,
             receipts,
+            from: 0,
             node,
             keep,
         }
     }
 
-    /// Makes it another node's bank. The receipts stay.
-    pub fn seat(&mut self, node: NodeId)
-        requires { AreLinesOf self.old.keep node self.old.wholes.items }
+    /// Makes it another node's bank, whose receipts stand from this place on. All receipts stay.
+    pub fn seat(&mut self, node: NodeId, from: usize)
+        requires lines { AreLinesOf self.old.keep node self.old.wholes.items }
+        requires room { from + length self.old.wholes.items ≤ length self.old.receipts.items }
         ensures same_lines { self.new.wholes ≡ self.old.wholes }
         ensures same_receipts { self.new.receipts ≡ self.old.receipts }
         ensures same_fact { self.new.keep ≡ self.old.keep }
+        ensures from { self.new.from ≡ from }
         ensures node { self.new.node ≡ node }
     {
         self.node = node;
+        self.from = from;
     }
 
     /// The line with this number, as it stands.
@@ -73,6 +80,7 @@ impl<K: Keeps> SoloBank<K> {
         let SoloBank {
             wholes,
             receipts,
+            from: _,
             node: _,
             keep: _,
         } = self;
@@ -88,6 +96,16 @@ impl<K: Keeps> SoloBank<K> {
 }
 
 impl<K: Keeps> SoloBank<K> {
+    // Where the node's receipts on the line stand.
+    #[inline(always)]
+    fn place(&self, line: LineNo) -> usize
+        requires { line < length self.now.wholes.items }
+        ensures place { result ≡ self.now.from + line }
+        ensures inside { result < length self.now.receipts.items }
+    {
+        self.from + usize::from(line)
+    }
+
     // An event on the line that the node's pending step there allows, without its receipt.
     #[inline(always)]
     fn make(&mut self, line: LineNo, event: Event) -> Outcome
@@ -96,6 +114,7 @@ impl<K: Keeps> SoloBank<K> {
         requires fits { FitsEvent (K.fits self.old.keep line) event }
         ensures gives { GivesAt K.fits (lent_lines self.old.keep self.old.node self.old.wholes.items) line (Stepped event result) (lent_lines self.new.keep self.new.node self.new.wholes.items) }
         ensures same_receipts { self.new.receipts ≡ self.old.receipts }
+        ensures same_from { self.new.from ≡ self.old.from }
     {
         let me = self.node;
         let wholes = self.wholes.as_mut_slice();
@@ -107,15 +126,17 @@ impl<K: Keeps> SoloBank<K> {
         requires line { line < length self.old.wholes.items }
         requires allowed { is_allowed (nodes_at (lent_lines self.old.keep self.old.node self.old.wholes.items) line) self.old.node (step_at (lent_lines self.old.keep self.old.node self.old.wholes.items) line) event ≡ true }
         requires fits { FitsEvent (K.fits self.old.keep line) event }
-        requires room { HasRoom event (receipts_at self.old.receipts.items line) }
+        requires room { HasRoom event (receipts_from self.old.receipts.items self.old.from line) }
         ensures gives { GivesAt K.fits (lent_lines self.old.keep self.old.node self.old.wholes.items) line (Stepped event result) (lent_lines self.new.keep self.new.node self.new.wholes.items) }
-        ensures received { ChangesAt (Receives (step_at (lent_lines self.old.keep self.old.node self.old.wholes.items) line) (Stepped event result)) (λ m. receipts_at self.old.receipts.items m) line (λ m. receipts_at self.new.receipts.items m) }
+        ensures received { ChangesAt (Receives (step_at (lent_lines self.old.keep self.old.node self.old.wholes.items) line) (Stepped event result)) (receipts_from self.old.receipts.items self.old.from) line (receipts_from self.new.receipts.items self.new.from) }
+        ensures stay { OthersStay self.old.receipts.items self.old.from line self.new.receipts.items self.new.from }
     {
+        let place = self.place(line);
         let before = Bank::pending(self, line);
         let asked = event;
         let outcome = self.make(line, event);
         let receipts = self.receipts.as_mut_slice();
-        receipts[usize::from(line)].keep(&before, &asked, &outcome);
+        receipts[place].keep(&before, &asked, &outcome);
         outcome
     }
 
@@ -126,9 +147,11 @@ impl<K: Keeps> SoloBank<K> {
         requires allowed { is_allowed (nodes_at (lent_lines self.old.keep self.old.node self.old.wholes.items) line) self.old.node (step_at (lent_lines self.old.keep self.old.node self.old.wholes.items) line) event ≡ true }
         requires fits { FitsEvent (K.fits self.old.keep line) event }
         ensures gives { GivesAt K.fits (lent_lines self.old.keep self.old.node self.old.wholes.items) line (Stepped event result) (lent_lines self.new.keep self.new.node self.new.wholes.items) }
-        ensures receives { ChangesAt (ReceivesIfRoom (step_at (lent_lines self.old.keep self.old.node self.old.wholes.items) line) (Stepped event result)) (λ m. receipts_at self.old.receipts.items m) line (λ m. receipts_at self.new.receipts.items m) }
+        ensures receives { ChangesAt (ReceivesIfRoom (step_at (lent_lines self.old.keep self.old.node self.old.wholes.items) line) (Stepped event result)) (receipts_from self.old.receipts.items self.old.from) line (receipts_from self.new.receipts.items self.new.from) }
+        ensures stay { OthersStay self.old.receipts.items self.old.from line self.new.receipts.items self.new.from }
     {
-        if self.receipts[usize::from(line)].keeps(&event) {
+        let place = self.place(line);
+        if self.receipts[place].keeps(&event) {
             self.make_kept(line, event)
         } else {
             self.make(line, event)
@@ -147,11 +170,11 @@ impl<K: Keeps> Bank for SoloBank<K> {
 
     ghost at_step = { λ s line. step_at (lent_lines s.keep s.node s.wholes.items) line };
 
-    ghost told = { λ s line. receipts_at s.receipts.items line };
+    ghost told = { λ s line. receipts_from s.receipts.items s.from line };
 
-    ghost gives = { λ s line call t. GivesAt K.fits (lent_lines s.keep s.node s.wholes.items) line call (lent_lines t.keep t.node t.wholes.items) × ChangesAt (ReceivesIfRoom (step_at (lent_lines s.keep s.node s.wholes.items) line) call) (λ m. receipts_at s.receipts.items m) line (λ m. receipts_at t.receipts.items m) };
+    ghost gives = { λ s line call t. GivesAt K.fits (lent_lines s.keep s.node s.wholes.items) line call (lent_lines t.keep t.node t.wholes.items) × ChangesAt (ReceivesIfRoom (step_at (lent_lines s.keep s.node s.wholes.items) line) call) (receipts_from s.receipts.items s.from) line (receipts_from t.receipts.items t.from) × OthersStay s.receipts.items s.from line t.receipts.items t.from };
 
-    ghost readies = { λ s line r t. (t.wholes ≡ s.wholes) × (t.node ≡ s.node) × (t.keep ≡ s.keep) × ChangesAt (Readies r) (λ m. receipts_at s.receipts.items m) line (λ m. receipts_at t.receipts.items m) };
+    ghost readies = { λ s line r t. (t.wholes ≡ s.wholes) × (t.node ≡ s.node) × (t.keep ≡ s.keep) × ChangesAt (Readies r) (receipts_from s.receipts.items s.from) line (receipts_from t.receipts.items t.from) × OthersStay s.receipts.items s.from line t.receipts.items t.from };
 
     ghost same_way = { λ s line call t h. h.0.stays.way };
 
@@ -226,20 +249,22 @@ impl<K: Keeps> Bank for SoloBank<K> {
     }
 
     fn reserve(&mut self, line: LineNo, n: usize) -> Result<(), AllocError> {
+        let place = self.place(line);
         let receipts = self.receipts.as_mut_slice();
-        receipts[usize::from(line)].reserve(n)
+        receipts[place].reserve(n)
     }
 
     fn room(&self, line: LineNo) -> usize {
-        self.receipts[usize::from(line)].room()
+        self.receipts[self.place(line)].room()
     }
 
     fn last_passed(&self, line: LineNo) -> bool {
-        self.receipts[usize::from(line)].last_passed()
+        self.receipts[self.place(line)].last_passed()
     }
 
     fn aim(&mut self, line: LineNo, passing: bool) {
+        let place = self.place(line);
         let receipts = self.receipts.as_mut_slice();
-        receipts[usize::from(line)].aim(passing);
+        receipts[place].aim(passing);
     }
 }

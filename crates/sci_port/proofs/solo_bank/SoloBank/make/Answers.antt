@@ -1,5 +1,5 @@
 use borrow.Author.Rules.{scaled_Fits}
-use Rattle.std.proofs.Common.{◌≡◌, ◌∙◌, List, true, refl, sym, ap, get_or, length, length-set, rules}
+use Rattle.std.proofs.Common.{◌≡◌, ◌∙◌, ◌+◌, ◌≤◌, ℕ, List, true, refl, sym, ap, subst, get_or, length, length-set, rules}
 use Rattle.sci_core.specs.Answers.{is_allowed, FitsEvent}
 use Rattle.sci_core.specs.Whole.{WholeLine, nodes_of, state_of}
 use Rattle.sci_port.specs.Banks.{lent_lines}
@@ -10,7 +10,7 @@ use Rattle.sci_port.proofs.solo_bank.SoloBank.make.Goals as goal
 pub invariant_of-self : goal.invariant_of-self
 invariant_of-self g c =
     record {
-      count = c.args.self.now.count ∙ sym (ap (λ (l : List _). length l) (written_back c.args.self.now.wholes.items c.as_mut_slice-wholes.result.now c.args.self.now.wholes.len c.from.result c.step_lent.new.whole c.as_mut_slice-wholes.ensures.value c.as_mut_slice-wholes.ensures.len) ∙ length-set c.args.self.now.wholes.items c.from.result c.step_lent.new.whole);
+      room = subst (λ (n : ℕ). c.args.self.now.from + n ≤ length c.args.self.now.receipts.items) (sym (ap (λ (l : List _). length l) (written_back c.args.self.now.wholes.items c.as_mut_slice-wholes.result.now c.args.self.now.wholes.len c.from.result c.step_lent.new.whole c.as_mut_slice-wholes.ensures.value c.as_mut_slice-wholes.ensures.len) ∙ length-set c.args.self.now.wholes.items c.from.result c.step_lent.new.whole)) c.args.self.now.room;
       of = are_after g.K.Keeps.fits (lent_lines c.args.self.now.keep c.args.self.now.node c.args.self.now.wholes.items) c.args.line c.requires.line c.args.self.now.of (Stepped c.args.event c.step_lent.result) c.from.result c.index-wholes-from.result (get_or c.as_mut_slice-wholes.result.now c.from.result c.index-wholes-from.result) c.step_lent.new.whole c.args.self.now.node c.args.self.now.node c.as_mut_slice-wholes.result.ghost_name c.as_mut_slice-wholes.result.ghost_name c.from.ensures (ap (λ l. get_or l c.from.result c.index-wholes-from.result) c.as_mut_slice-wholes.ensures.value) refl (c.step_lent.ensures c.as_mut_slice-wholes.result.ghost_name) _ (written_back c.args.self.now.wholes.items c.as_mut_slice-wholes.result.now c.args.self.now.wholes.len c.from.result c.step_lent.new.whole c.as_mut_slice-wholes.ensures.value c.as_mut_slice-wholes.ensures.len);
     }
 

@@ -1,4 +1,4 @@
-use Rattle.std.proofs.Common.{◌∙◌, ap, refl, subst, sym, arith}
+use Rattle.std.proofs.Common.{◌∙◌, ◌+◌, ◌≤◌, length, ap, refl, subst, sym, arith}
 use Rattle.sci_core.specs.Whole.{WholeLine}
 use Rattle.sci_port.specs.Banks.{AreLinesOf}
 use Rattle.sci_port.proofs.solo_bank.SoloBank.new.Goals as goal
@@ -10,7 +10,11 @@ pub invariant_of-result : goal.invariant_of-result
 invariant_of-result g c =
     let first = c.requires.lines.1.each 0 c.index.result.now c.requires.lines.1.some in
     let fact = c.keep-keep.ensures ∙ ap (λ (w : WholeLine g.row.K.Denot). w.keep) c.index.ensures ∙ first.fact in
-    record { count = c.requires.count; of = subst (λ (k : g.row.K.Denot). AreLinesOf k c.args.node c.args.wholes.items) (sym fact) c.requires.lines.1 }
+    let near : 0 + length c.args.wholes.items ≤ length c.args.receipts.items = omega (arith, c.requires.room) in
+    record { room = near; of = subst (λ (k : g.row.K.Denot). AreLinesOf k c.args.node c.args.wholes.items) (sym fact) c.requires.lines.1 }
+
+pub returns-clause-from : goal.returns-clause-from
+returns-clause-from g c = refl
 
 pub returns-clause-node : goal.returns-clause-node
 returns-clause-node g c = refl

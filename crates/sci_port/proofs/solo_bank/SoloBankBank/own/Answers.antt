@@ -13,7 +13,7 @@ pub tag-requires : goal.tag-requires
 tag-requires g c = node_below g.K.Keeps.fits (lent_lines c.step.new.self.keep c.step.new.self.node c.step.new.self.wholes.items) c.args.line (subst (λ (w : BankWay). c.args.line < w.lines) (sym c.step.ensures.same_way) c.requires) c.step.new.self.of c.from.result c.index-whole.result.now c.index-whole.result.now c.from.ensures c.index-whole.ensures
 
 pub returns-clause-gives : goal.returns-clause-gives
-returns-clause-gives g c = (look_given g.K.Keeps.fits (lent_lines c.args.self.now.keep c.args.self.now.node c.args.self.now.wholes.items) (lent_lines c.step.new.self.keep c.step.new.self.node c.step.new.self.wholes.items) c.args.line (subst (λ (w : BankWay). c.args.line < w.lines) (sym c.step.ensures.same_way) c.requires) c.step.new.self.of c.step.result c.from.result c.index-whole.result.now c.tag.result c.step.ensures.gives.0 c.from.ensures c.index-whole.ensures c.tag.ensures.value c.tag.ensures.well_formed c.tag.ensures.links, record { here = own_keeps _ _ _ _ (look_keeps _ c.step.result _ _ c.step.ensures.gives.1.here); others = c.step.ensures.gives.1.others })
+returns-clause-gives g c = (look_given g.K.Keeps.fits (lent_lines c.args.self.now.keep c.args.self.now.node c.args.self.now.wholes.items) (lent_lines c.step.new.self.keep c.step.new.self.node c.step.new.self.wholes.items) c.args.line (subst (λ (w : BankWay). c.args.line < w.lines) (sym c.step.ensures.same_way) c.requires) c.step.new.self.of c.step.result c.from.result c.index-whole.result.now c.tag.result c.step.ensures.gives.0 c.from.ensures c.index-whole.ensures c.tag.ensures.value c.tag.ensures.well_formed c.tag.ensures.links, record { here = own_keeps _ _ _ _ (look_keeps _ c.step.result _ _ c.step.ensures.gives.1.here); others = c.step.ensures.gives.1.others }, c.step.ensures.gives.2)
 
 pub returns-clause-same_way : goal.returns-clause-same_way
 returns-clause-same_way g c = (returns-clause-gives g c).0.stays.way

@@ -1,7 +1,7 @@
 use Rattle.sci_port.proofs.solo_bank.SoloBankBank.step.Goals as goal
 
 pub returns-clause-gives : goal.returns-clause-gives
-returns-clause-gives g c = (c.make_in_room.ensures.gives, c.make_in_room.ensures.receives)
+returns-clause-gives g c = (c.make_in_room.ensures.gives, c.make_in_room.ensures.receives, c.make_in_room.ensures.stay)
 
 pub returns-clause-same_way : goal.returns-clause-same_way
 returns-clause-same_way g c = c.make_in_room.ensures.gives.stays.way
