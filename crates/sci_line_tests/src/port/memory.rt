@@ -158,12 +158,12 @@ fn lines_left(mut bank: SoloBank<AnyWords>) -> usize {
 
 #[test]
 fn ports_and_banks_take_no_memory(rt: HostRuntime) -> Result<(), Fail> {
-    // Two lines take three each, their list one, and the room of a trace one.
+    // Two lines take three each, their list and their receipts one each, and the room of a trace one.
     let mut bank = seated(rt.alloc())?;
     let mut trace = Trace::new(Vec::with_capacity(rt.alloc(), 16)?);
     same(&rt, &rounds(&mut bank, &mut trace), &Some(ROUNDS));
     assert!(rt; trace.events().is_none());
     same(&rt, &lines_left(bank), &2);
-    allocates(&rt, rt.alloc(), "allocation 9 is refused");
+    allocates(&rt, rt.alloc(), "allocation 10 is refused");
     Ok(())
 }
