@@ -1,5 +1,5 @@
 -- The calls of a desk of whole lines, on its lists.
-use Rattle.std.proofs.Common.{◌≡◌, ◌∙◌, ℕ, ◌<◌, List, Option, Some, None, IfSome, length, get_or, set, All, refl, sym, ap, subst, arith, rules}
+use Rattle.std.proofs.Common.{◌≡◌, ◌*◌, ◌∙◌, ℕ, ◌<◌, List, Option, Some, None, IfSome, length, get_or, set, All, refl, sym, ap, subst, arith, rules}
 use Rattle.std.specs.Global.{Vec}
 use Rattle.std.proofs.Props.{props}
 use Rattle.std.proofs.lemmas.Bool.Decides.{nat_tests}
@@ -38,8 +38,8 @@ begins nodes place node n m request same lt found begun = λ i.
     (read_set nodes place i m no_node lt ∙ ap (λ (k : NodeState). update (λ j. get_or nodes j no_node) place k i) now)
 
 -- a desk is the one whose nodes it has
-abbrev with_nodes : (d : WholeDesk) (nodes : Vec Node) → length d.bank.wholes.items ≡ d.size.lines → All (λ w. nodes_of w ≡ d.size.nodes) d.bank.wholes.items → nodes.len ≡ d.size.nodes → AreNodesOf d.size.lines nodes.items → WholeDesk
-with_nodes d nodes lines widths count of = record { size = d.size; bank = d.bank; nodes = nodes; lines = lines; widths = widths; count = count; of = of }
+abbrev with_nodes : (d : WholeDesk) (nodes : Vec Node) → length d.bank.wholes.items ≡ d.size.lines → All (λ w. nodes_of w ≡ d.size.nodes) d.bank.wholes.items → length d.bank.receipts.items ≡ d.size.lines * d.size.nodes → nodes.len ≡ d.size.nodes → AreNodesOf d.size.lines nodes.items → WholeDesk
+with_nodes d nodes lines widths places count of = record { size = d.size; bank = d.bank; nodes = nodes; lines = lines; widths = widths; places = places; count = count; of = of }
 
 abbrev with_list : (v : Vec Node) (nodes : List NodeState) → v.len ≡ length nodes → Vec Node
 with_list v nodes count = record { ptr = v.ptr; len = v.len; cap = v.cap; alloc = v.alloc; items = nodes; ok = (count, v.ok.1); small = v.small }
@@ -51,18 +51,20 @@ same_vec v place n m found same =
     subst (λ (l : List NodeState). (count : v.len ≡ length l) → with_list v l count ≡ v) (sym items) (λ count. ap (λ c. with_list v v.items c) (count_prop count v.ok.0)) _
 
 pub same_desk : (d : WholeDesk) (place : ℕ) (n m : NodeState) → n ≡ get_or d.nodes.items place n → m ≡ n
-    → (lines : length d.bank.wholes.items ≡ d.size.lines) (widths : All (λ w. nodes_of w ≡ d.size.nodes) d.bank.wholes.items) (count : d.nodes.len ≡ d.size.nodes) (of : AreNodesOf d.size.lines (set d.nodes.items place m))
-    → with_nodes d (with_item d.nodes place m) lines widths count of ≡ d
+    → (lines : length d.bank.wholes.items ≡ d.size.lines) (widths : All (λ w. nodes_of w ≡ d.size.nodes) d.bank.wholes.items) (places : length d.bank.receipts.items ≡ d.size.lines * d.size.nodes) (count : d.nodes.len ≡ d.size.nodes) (of : AreNodesOf d.size.lines (set d.nodes.items place m))
+    → with_nodes d (with_item d.nodes place m) lines widths places count of ≡ d
 same_desk d place n m found same =
     let lines_prop : IsProp (length d.bank.wholes.items ≡ d.size.lines) = hlevel props in
     let widths_prop : IsProp (All (λ w. nodes_of w ≡ d.size.nodes) d.bank.wholes.items) = hlevel props in
+    let places_prop : IsProp (length d.bank.receipts.items ≡ d.size.lines * d.size.nodes) = hlevel props in
     let count_prop : IsProp (d.nodes.len ≡ d.size.nodes) = hlevel props in
     let of_prop : IsProp (AreNodesOf d.size.lines d.nodes.items) = hlevel props in
-    subst (λ (v : Vec Node). (lines : length d.bank.wholes.items ≡ d.size.lines) (widths : All (λ w. nodes_of w ≡ d.size.nodes) d.bank.wholes.items) (count : v.len ≡ d.size.nodes) (of : AreNodesOf d.size.lines v.items) → with_nodes d v lines widths count of ≡ d)
+    subst (λ (v : Vec Node). (lines : length d.bank.wholes.items ≡ d.size.lines) (widths : All (λ w. nodes_of w ≡ d.size.nodes) d.bank.wholes.items) (places : length d.bank.receipts.items ≡ d.size.lines * d.size.nodes) (count : v.len ≡ d.size.nodes) (of : AreNodesOf d.size.lines v.items) → with_nodes d v lines widths places count of ≡ d)
     (sym (same_vec d.nodes place n m found same))
-    (λ lines widths count of.
-    ap (λ h. with_nodes d d.nodes h widths count of) (lines_prop lines d.lines) ∙ ap (λ h. with_nodes d d.nodes d.lines h count of) (widths_prop widths d.widths)
-    ∙ ap (λ h. with_nodes d d.nodes d.lines d.widths h of) (count_prop count d.count) ∙ ap (λ h. with_nodes d d.nodes d.lines d.widths d.count h) (of_prop of d.of))
+    (λ lines widths places count of.
+    ap (λ h. with_nodes d d.nodes h widths places count of) (lines_prop lines d.lines) ∙ ap (λ h. with_nodes d d.nodes d.lines h places count of) (widths_prop widths d.widths)
+    ∙ ap (λ h. with_nodes d d.nodes d.lines d.widths h count of) (places_prop places d.places) ∙ ap (λ h. with_nodes d d.nodes d.lines d.widths d.places h of) (count_prop count d.count)
+    ∙ ap (λ h. with_nodes d d.nodes d.lines d.widths d.places d.count h) (of_prop of d.of))
 
 -- a turn of the call of the node that stands at its number
 module _ (width : ℕ) (wholes after : List (WholeLine AnyWords)) (nodes : List NodeState) (node : ℕ) (shown : Turn) (m : NodeState) (inside : node < length nodes)

@@ -7,7 +7,7 @@ ghost use Rattle.sci_script.specs.Resting.{ComeToRest, LentOverOf};
 
 use crate::commands::Size;
 use crate::desk::Desk;
-use crate::wholes::WholeDesk;
+use crate::wholes::{WholeDesk, first_place};
 use sci_cache::Node;
 use sci_core::{AnyWords, Whole};
 use sci_ops::{Answer, Steps, Turn, rest};
@@ -39,6 +39,7 @@ fn lent_turn_on(bank: &mut SoloBank<AnyWords>, node: &mut Node) -> Turn
     ensures below { IfSome node.old.call (λ c. line_by c.victim c.line < node.old.lines) }
     ensures same_node { IsSameNode node.old node.new }
     ensures same_lines { length bank.new.wholes.items ≡ length bank.old.wholes.items }
+    ensures same_places { length bank.new.receipts.items ≡ length bank.old.receipts.items }
     ensures same_widths { (line : ℕ) → nodes_of (whole_of bank.new.wholes.items line) ≡ nodes_of (whole_of bank.old.wholes.items line) }
 {
     match node.turn(bank) {
@@ -79,7 +80,8 @@ impl WholeDesk {
         ensures lent { TakesLentOf (shared_of self.old) node ((shared_of self.old).nodes node).call result (shared_of self.new) }
         ensures size { self.new.size ≡ self.old.size }
     {
-        self.bank.seat(node);
+        let from = first_place(self.size, node);
+        self.bank.seat(node, from);
         lent_turn_on(&mut self.bank, &mut self.nodes[usize::from(node.get())])
     }
 

@@ -7,7 +7,7 @@ ghost use Rattle.sci_script.specs.declared.watching.Load.{Load};
 ghost use Rattle.sci_script.specs.Nodes.{TurnsOverOf, whole_of};
 ghost use Rattle.sci_script.specs.Passed.{ending_of, looks_by, passed_by, PassesOverOf};
 
-use crate::wholes::WholeDesk;
+use crate::wholes::{WholeDesk, first_place};
 use sci_cache::Node;
 use sci_core::{AnyWords, Event, Outcome, Pending, Stage};
 use sci_ops::Turn;
@@ -213,6 +213,7 @@ fn watched_turn_on(bank: &mut SoloBank<AnyWords>, node: &mut Node, passed: &mut 
     ensures below { IfSome node.old.call (λ c. line_by c.victim c.line < node.old.lines) }
     ensures same_node { IsSameNode node.old node.new }
     ensures same_lines { length bank.new.wholes.items ≡ length bank.old.wholes.items }
+    ensures same_places { length bank.new.receipts.items ≡ length bank.old.receipts.items }
     ensures same_widths { (line : ℕ) → nodes_of (whole_of bank.new.wholes.items line) ≡ nodes_of (whole_of bank.old.wholes.items line) }
 {
     match node.turn(&mut Watched { bank, passed }) {
@@ -238,7 +239,8 @@ impl WholeDesk {
         ensures open { IsNoEnd result → shared_is_open (shared_of self.new) node ≡ true }
         ensures size { self.new.size ≡ self.old.size }
     {
-        self.bank.seat(node);
+        let from = first_place(self.size, node);
+        self.bank.seat(node, from);
         watched_turn_on(
             &mut self.bank,
             &mut self.nodes[usize::from(node.get())],
@@ -254,7 +256,8 @@ impl WholeDesk {
         ensures same { shared_of self.new ≡ shared_of self.old }
         ensures size { self.new.size ≡ self.old.size }
     {
-        self.bank.seat(node);
+        let from = first_place(self.size, node);
+        self.bank.seat(node, from);
         Bank::pending(&self.bank, line)
     }
 
@@ -266,7 +269,8 @@ impl WholeDesk {
         ensures same { shared_of self.new ≡ shared_of self.old }
         ensures size { self.new.size ≡ self.old.size }
     {
-        self.bank.seat(node);
+        let from = first_place(self.size, node);
+        self.bank.seat(node, from);
         Bank::stage(&self.bank, line)
     }
 }

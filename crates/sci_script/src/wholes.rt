@@ -1,5 +1,5 @@
 //! A desk of whole lines.
-ghost use Rattle.std.specs.Prelude.{◌≡◌, ◌<◌, ℕ, true, length, is_some, vec_len, All, IfOk, IfSome};
+ghost use Rattle.std.specs.Prelude.{◌≡◌, ◌<◌, ◌≤◌, ◌+◌, ◌*◌, ℕ, true, length, is_some, vec_len, All, IfOk, IfSome};
 ghost use Rattle.sci_core.specs.Whole.{nodes_of};
 ghost use Rattle.sci_cache.specs.Nodes.{IsSameNode, line_by};
 ghost use Rattle.sci_script.specs.Nodes.{AreNodesOf, TurnsOverOf, whole_of};
@@ -15,7 +15,8 @@ use sci_port::{Bank, Receipts, SoloBank};
 use sci_words::{LineNo, Mem, NodeId, Tag};
 use std::alloc::{AllocError, Global};
 
-/// A `Whole` for each line, in a bank that each turn's node is seated at, and the nodes. A word of it is always to be had.
+/// A `Whole` for each line, in a bank that each turn's node is seated at, with the node's own receipts on each line, and the nodes.
+/// A word of it is always to be had.
 #[derive(Drop)]
 pub struct WholeDesk {
     pub(crate) size: Size,
@@ -23,6 +24,7 @@ pub struct WholeDesk {
     pub(crate) nodes: Vec<Node>,
     ghost lines: { length bank.wholes.items ≡ size.lines },
     ghost widths: { All (λ w. nodes_of w ≡ size.nodes) bank.wholes.items },
+    ghost places: { length bank.receipts.items ≡ size.lines * size.nodes },
     ghost count: { vec_len nodes ≡ size.nodes },
     ghost of: { AreNodesOf size.lines nodes.items },
 }
@@ -44,6 +46,23 @@ pub(crate) fn unused(alloc: Global, script: &Script) -> Result<Vec<Whole<AnyWord
     Ok(wholes)
 }
 
+// How many lists of receipts there are: one of each node on each line.
+fn places(size: Size) -> usize
+    ensures { result ≡ size.lines * size.nodes }
+{
+    usize::from(size.lines) * usize::from(size.nodes)
+}
+
+/// Where a node's lists of receipts begin. They stand together, line by line.
+#[inline(always)]
+pub(crate) fn first_place(size: Size, node: NodeId) -> usize
+    requires { node < size.nodes }
+    ensures place { result ≡ size.lines * node }
+    ensures inside { result + size.lines ≤ size.lines * size.nodes }
+{
+    usize::from(size.lines) * usize::from(node.get())
+}
+
 /// One turn of the node's call, over the bank that it is seated at.
 #[tactic(auto, using(sci_ops::proofs::Storing::any_store_fits))]
 #[inline(always)]
@@ -55,6 +74,7 @@ fn turn_on(bank: &mut SoloBank<AnyWords>, node: &mut Node) -> Turn
     ensures below { IfSome node.old.call (λ c. line_by c.victim c.line < node.old.lines) }
     ensures same_node { IsSameNode node.old node.new }
     ensures same_lines { length bank.new.wholes.items ≡ length bank.old.wholes.items }
+    ensures same_places { length bank.new.receipts.items ≡ length bank.old.receipts.items }
     ensures same_widths { (line : ℕ) → nodes_of (whole_of bank.new.wholes.items line) ≡ nodes_of (whole_of bank.old.wholes.items line) }
 {
     match node.turn(bank) {
@@ -75,7 +95,7 @@ impl WholeDesk {
         let size = script.size;
         let nodes = idle(alloc, script)?;
         let wholes = unused(alloc, script)?;
-        let receipts = Receipts::of_lines(alloc, usize::from(size.lines))?;
+        let receipts = Receipts::of_lines(alloc, places(size))?;
         let bank = SoloBank::new(wholes, receipts, nodes[0].id());
         Ok(WholeDesk { size, bank, nodes })
     }
@@ -126,7 +146,8 @@ impl Desk for WholeDesk {
 
     #[inline(always)]
     fn turn(&mut self, node: NodeId) -> Turn {
-        self.bank.seat(node);
+        let from = first_place(self.size, node);
+        self.bank.seat(node, from);
         turn_on(&mut self.bank, &mut self.nodes[usize::from(node.get())])
     }
 

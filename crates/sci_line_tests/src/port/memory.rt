@@ -152,7 +152,7 @@ fn rounds(bank: &mut SoloBank<AnyWords>, trace: &mut Trace) -> Option<u32> {
 /// How many lines a bank gives back, behind one more seat for its node.
 fn lines_left(mut bank: SoloBank<AnyWords>) -> usize {
     let me = bank.node();
-    bank.seat(me);
+    bank.seat(me, 0);
     bank.into_wholes().len()
 }
 

@@ -2,6 +2,7 @@ use Rattle.std.proofs.Common.{rules, sym, subst, ap, ◌≡◌, length, List}
 use Rattle.sci_core.specs.declared.keeps.AnyWords.{AnyWords}
 use Rattle.sci_core.specs.Whole.{WholeLine, nodes_of}
 use Rattle.sci_port.specs.Banks.{lent_lines}
+use Rattle.sci_port.specs.ReceiptList.{ReceiptList}
 use Rattle.sci_script.specs.declared.watching.Passed.{Passed}
 use Rattle.sci_script.specs.Nodes.{TurnsOverOf, whole_of}
 use Rattle.sci_script.specs.Passed.{PassesOverOf}
@@ -34,3 +35,9 @@ returns-clause-passed c =
     (subst (λ (l : List (WholeLine AnyWords)). PassesOverOf c.args.bank.now.wholes.items c.args.node.now c.args.node.now.call l c.args.passed.now c.turn.new.bank.passed.now) (search (rules, named))
     (watched (λ _ _ _. Unit {0}) (λ b. lent_lines b.bank.now.keep b.bank.now.node b.bank.now.wholes.items) _ (λ u l call v h. h.0.0) (λ b. b.passed.now) (λ u l call v h. h.1) c.args.node.now c.args.node.now.call _ c.in-Ok.turn c.turn.new.bank c.turn.new.self
     (sym c.requires.seat) c.in-Ok.ensures.turns))
+
+pub returns-clause-same_places : goal.returns-clause-same_places
+returns-clause-same_places c =
+    let named = turn_keeps _ _ (λ b. b.bank.ghost_name) (λ u l call v h. h.2) c.args.node.now c.args.node.now.call _ c.in-Ok.turn c.turn.new.bank c.turn.new.self c.in-Ok.ensures.turns in
+    subst (λ (l : List ReceiptList). length l ≡ length c.args.bank.now.receipts.items) (search (rules, named))
+    (turn_keeps _ _ (λ b. length b.bank.now.receipts.items) (λ u l call v h. h.0.2.count) c.args.node.now c.args.node.now.call _ c.in-Ok.turn c.turn.new.bank c.turn.new.self c.in-Ok.ensures.turns)

@@ -1,6 +1,6 @@
-use Rattle.std.proofs.Common.{ap, sym}
+use Rattle.std.proofs.Common.{ap, length, sym}
 use Rattle.sci_port.specs.Banks.{lent_lines}
-use Rattle.sci_script.proofs.Kept.{never_refused}
+use Rattle.sci_script.proofs.Kept.{never_refused, turn_keeps}
 use Rattle.sci_script.proofs.Seated.{turned}
 use Rattle.sci_script.proofs.wholes.turn_on.Goals as goal
 
@@ -29,3 +29,6 @@ returns-clause-same_lines c = ap (λ w. w.lines) c.in-Ok.ensures.same_way
 
 pub returns-clause-same_widths : goal.returns-clause-same_widths
 returns-clause-same_widths c = c.in-Ok.ensures.same_nodes
+
+pub returns-clause-same_places : goal.returns-clause-same_places
+returns-clause-same_places c = turn_keeps _ _ (λ b. length b.receipts.items) (λ u l call v h. h.2.count) c.args.node.now c.args.node.now.call _ c.in-Ok.turn c.turn.new.bank c.turn.new.self c.in-Ok.ensures.turns

@@ -1,4 +1,5 @@
 use Rattle.std.proofs.Common.{◌≡◌, ◌∙◌, All, length, arith, ap, refl, sym, subst}
+use Rattle.std.proofs.Math.Nat.{mul-le-mul_left}
 use Rattle.sci_core.specs.Whole.{nodes_of}
 use Rattle.sci_cache.specs.Nodes.{NodeState}
 use Rattle.sci_script.specs.Unused.{AreOpened}
@@ -17,7 +18,7 @@ new-bank-requires c =
         are_lines script.size.nodes script.openings.items c.in_ok-wholes.wholes.items script.size.lines c.id.result c.in_ok-wholes.ensures.count (omega (arith, script.is_size.some_lines)) script.is_size.few_lines
             (omega (arith, id, script.is_size.some_nodes)) c.in_ok-wholes.ensures.opened,
       );
-      count = c.in_ok-receipts.ensures.count ∙ (c.from.ensures ∙ sym c.in_ok-wholes.ensures.count);
+      room = let more = mul-le-mul_left script.size.lines script.is_size.some_nodes in omega (arith, more, c.in_ok-wholes.ensures.count, c.in_ok-receipts.ensures.count, c.places.ensures);
     }
 
 pub invariant_of-result : goal.invariant_of-result
@@ -29,6 +30,7 @@ invariant_of-result c =
     record {
       lines = subst (λ v. length v.items ≡ size.lines) same c.in_ok-wholes.ensures.count;
       widths = subst (λ v. All (λ w. nodes_of w ≡ size.nodes) v.items) same (opened_widths size.nodes script.openings.items wholes size.lines c.in_ok-wholes.ensures.count c.in_ok-wholes.ensures.opened);
+      places = ap (λ v. length v.items) c.new-bank.ensures.same_receipts ∙ (c.in_ok-receipts.ensures.count ∙ c.places.ensures);
       count = c.in_ok-nodes.nodes.ok.0 ∙ c.in_ok-nodes.ensures.count;
       of = idle_nodes size.lines script.capacity size.nodes c.in_ok-nodes.nodes.items c.in_ok-nodes.ensures.count c.in_ok-nodes.ensures.idle;
     }

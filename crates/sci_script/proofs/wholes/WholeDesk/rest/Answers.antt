@@ -1,4 +1,4 @@
-use Rattle.std.proofs.Common.{◌≡◌, ◌∙◌, ℕ, length, All, refl, sym, ap, subst}
+use Rattle.std.proofs.Common.{◌≡◌, ◌∙◌, ℕ, length, All, refl, sym, ap, subst, arith}
 use Rattle.sci_core.specs.Progress.{IsAtRest}
 use Rattle.sci_core.specs.Whole.{nodes_of, state_of}
 use Rattle.sci_port.specs.Banks.{AreLinesOf}
@@ -25,7 +25,7 @@ new-bank-requires g c =
         desk.bank.keep,
         subst (λ (i : ℕ). AreLinesOf desk.bank.keep i c.rest_all.new.wholes.items) (sym c.node-node.ensures.value) are,
       );
-      count = ap (λ v. length v.items) c.into_parts-parts.ensures.same_receipts ∙ desk.bank.count ∙ sym (ap (λ v. length v.items) from) ∙ lines ∙ sym c.rest_all.ensures.lines;
+      room = let lists = ap (λ v. length v.items) c.into_parts-parts.ensures.same_receipts in omega (arith, lists, desk.bank.room, desk.lines, c.rest_all.ensures.lines);
     }
 
 pub invariant_of-result : goal.invariant_of-result
@@ -38,6 +38,7 @@ invariant_of-result g c =
     record {
       lines = subst (λ v. length v.items ≡ desk.size.lines) same c.rest_all.ensures.lines;
       widths = subst (λ v. All (λ w. nodes_of w ≡ desk.size.nodes) v.items) same (widths_stay c.into_parts-parts.result.0.items c.rest_all.new.wholes.items (c.rest_all.ensures.lines ∙ sym lines) c.rest_all.ensures.same desk.size.nodes wide);
+      places = ap (λ v. length v.items) (c.new-bank.ensures.same_receipts ∙ c.into_parts-parts.ensures.same_receipts) ∙ desk.places;
       count = desk.count;
       of = desk.of;
     }

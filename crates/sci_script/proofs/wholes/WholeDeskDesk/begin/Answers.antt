@@ -14,6 +14,7 @@ invariant_of-self c =
     record {
       lines = desk.lines;
       widths = desk.widths;
+      places = desk.places;
       count = desk.count;
       of = nodes_set desk.size.lines desk.nodes.items i c.begin.new.self desk.of inside (c.begin.ensures.same_node.id ∙ was.0) (c.begin.ensures.same_node.lines ∙ was.1);
     }
@@ -32,7 +33,7 @@ pub returns-in-Err-clause-began : goal.returns-in-Err-clause-began
 returns-in-Err-clause-began c = tt
 
 pub returns-in-Err-clause-same : goal.returns-in-Err-clause-same
-returns-in-Err-clause-same c = same_desk c.args.self.now c.from.result c.index_mut.result.now c.begin.new.self c.index_mut.ensures.value c.in-Err.ensures.same _ _ _ _
+returns-in-Err-clause-same c = same_desk c.args.self.now c.from.result c.index_mut.result.now c.begin.new.self c.index_mut.ensures.value c.in-Err.ensures.same _ _ _ _ _
 
 pub returns-in-Err-clause-size : goal.returns-in-Err-clause-size
 returns-in-Err-clause-size c = refl
