@@ -31,5 +31,5 @@ returns-clause-err g c =
     let frame = c.args.frame in
     fails_then c.put-2.result _ _ c.put-2.ensures.err
     (λ (n, less, front). front_written _ _ (head_of frame) ((frame.front.now ++ escaped frame.source.now) ++ take n frame.seam.now)
-      (front_in_end frame.front.now frame.seam.now frame.source.now n less)
-      (Appends-trans _ _ _ _ _ (Appends-trans _ _ _ _ _ c.in_ok-put.ensures.ok c.in_ok-put_coded.ensures.ok) front))
+    (front_in_end frame.front.now frame.seam.now frame.source.now n less)
+    (Appends-trans _ _ _ _ _ (Appends-trans _ _ _ _ _ c.in_ok-put.ensures.ok c.in_ok-put_coded.ensures.ok) front))
