@@ -39,6 +39,15 @@ impl<K: Keeps> SoloBank<K> {
         self.node = node;
     }
 
+    /// A node of the line that is under way and moves, as `Whole::mover` gives it.
+    pub fn mover(&self, line: LineNo) -> Option<NodeId>
+        requires { line < length self.now.wholes.items }
+        ensures { MatchOption result (IsAtRest (state_at (lent_lines self.now.keep self.now.node self.now.wholes.items) line))
+            (λ i. (i < nodes_at (lent_lines self.now.keep self.now.node self.now.wholes.items) line) × IsMover (nodes_at (lent_lines self.now.keep self.now.node self.now.wholes.items) line) (state_at (lent_lines self.now.keep self.now.node self.now.wholes.items) line) i) }
+    {
+        self.wholes[usize::from(line)].mover()
+    }
+
     /// The lines as they stand.
     pub fn into_wholes(self) -> Vec<Whole<K>>
         ensures { result ≡ self.wholes }

@@ -26,7 +26,7 @@ use Rattle.sci_script.specs.Shared.{HasNode, TakesTurnOf}
 use Rattle.sci_script.specs.Turns.{TurnsOn}
 use Rattle.sci_script.specs.Unused.{AreOpened, AreIdle, no_line, no_node, shared}
 
-read_set : {A : Type 0} (l : List A) (i j : ℕ) (v d : A) → i < length l → get_or (set l i v) j d ≡ update (λ k. get_or l k d) i v j
+pub read_set : {A : Type 0} (l : List A) (i j : ℕ) (v d : A) → i < length l → get_or (set l i v) j d ≡ update (λ k. get_or l k d) i v j
 read_set l i j v d h = grind (arith, nat_tests, get_or-set_same l i v d, get_or-set_other l i j v d)
 
 -- a call begun by the node that was read at a place

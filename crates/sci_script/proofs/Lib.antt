@@ -8,6 +8,10 @@ pub mod Followed
 pub mod Seated
 pub mod Kept
 pub mod Desks
+pub mod Resting
+pub mod Lent
+pub mod Ending
+pub mod Ended
 pub mod PassedLines
 pub mod Through
 pub mod Extended

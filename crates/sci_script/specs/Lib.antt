@@ -11,6 +11,7 @@ pub mod Shared
 pub mod Unused
 pub mod Nodes
 pub mod Wholes
+pub mod Resting
 pub mod BankDesks
 pub mod Passed
 pub mod ScriptText

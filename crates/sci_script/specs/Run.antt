@@ -7,10 +7,11 @@ use Rattle.sci_words.specs.declared.tags.Tag.{Tag}
 use Rattle.sci_ops.specs.declared.answers.Turn.{Turn as Outcome}
 use Rattle.sci_script.specs.declared.commands.Step.{Step}
 use Rattle.sci_script.specs.declared.commands.Command.{Command}
-use Rattle.sci_script.specs.declared.commands.Command.TheVariants.{Begin, Turn, Done, List as ListLine, Tag as ShowTag, Residents}
+use Rattle.sci_script.specs.declared.commands.Command.TheVariants.{Begin, Turn, Done, Rest, End, List as ListLine, Tag as ShowTag, Residents}
 use Rattle.sci_script.specs.declared.refusals.ScriptRefusal.{ScriptRefusal}
 use Rattle.sci_script.specs.declared.refusals.ScriptRefusal.TheVariants.{OutOfMemory, BadCommand, BadNumber, NotDone, WriteFailed}
-use Rattle.sci_script.specs.Event.{Event, Began, Turned, SawMem, SawTag, SawResidents, IsEnd, IsNoEnd}
+use Rattle.sci_script.specs.declared.desk.Toward.{Toward}
+use Rattle.sci_script.specs.Event.{Event, Began, Turned, Rested, SawMem, SawTag, SawResidents, IsEnd, IsNoEnd}
 use Rattle.sci_script.specs.Request.{asked, no_words, words_after}
 use Rattle.sci_script.specs.Text.{turn_text, list_line, tag_line, residents_line}
 
@@ -18,6 +19,34 @@ use Rattle.sci_script.specs.Text.{turn_text, list_line, tag_line, residents_line
 unfoldable pub Unended : {S : Type 0} → (S → Event → S → Type 0) → ℕ → ℕ → S → S → Type 0
 Unended does node zero s t = t ≡ s
 Unended {S} does node (suc n) s t = (mid : S) × (o : Outcome) × Unended does node n s mid × IsNoEnd o × does mid (Turned node o) t
+
+-- n turns towards rest on the line
+unfoldable pub Calms : {S : Type 0} → (S → Event → S → Type 0) → ℕ → ℕ → S → S → Type 0
+Calms does line zero s t = t ≡ s
+Calms {S} does line (suc n) s t = (mid : S) × (node : ℕ) × Calms does line n s mid × does mid (Rested line (Toward.Turned node)) t
+
+-- the first m lines are brought to rest, one after another
+unfoldable pub RestsLines : {S : Type 0} → (S → Event → S → Type 0) → ℕ → S → S → Type 0
+RestsLines does zero s t = t ≡ s
+RestsLines {S} does (suc m) s t = (mid last : S) × (n : ℕ) × RestsLines does m s mid × Calms does m n mid last × does last (Rested m Toward.Reached) t
+
+-- the node's call is taken to its end, which prints this text
+abbrev pub EndsCall : {S : Type 0} → (S → Event → S → Type 0) → List ℕ → ℕ → S → List ℕ → S → Type 0
+EndsCall {S} does words node s text t = (n : ℕ) × (n < 100000) × (mid : S) × Unended does node n s mid × (o : Outcome) × IsEnd o × does mid (Turned node o) t × (text ≡ turn_text node (slice_index words node) o)
+
+-- so it is where it is open; else nothing is printed, and all stays
+abbrev pub EndsOpenBy : {S : Type 0} → Bool → (S → Event → S → Type 0) → List ℕ → ℕ → S → List ℕ → S → Type 0
+EndsOpenBy true does words node s text t = EndsCall does words node s text t
+EndsOpenBy false does words node s text t = (text ≡ []) × (t ≡ s)
+
+-- the open calls of the first m nodes are taken to their ends, one after another
+unfoldable pub EndsOpen : {S : Type 0} → (S → ℕ → Bool) → (S → Event → S → Type 0) → List ℕ → ℕ → S → List ℕ → S → Type 0
+EndsOpen is_open does words zero s text t = (text ≡ []) × (t ≡ s)
+EndsOpen {S} is_open does words (suc m) s text t = (mid : S) × (first last : List ℕ) × EndsOpen is_open does words m s first mid × EndsOpenBy (is_open mid m) does words m mid last t × (text ≡ first ++ last)
+
+-- who moves on a line isn't known
+abbrev pub IsRestUnknown : {S : Type 0} → (S → Event → S → Type 0) → ℕ → S → S → Type 0
+IsRestUnknown {S} does lines s t = (line : ℕ) × (line < lines) × (mid last : S) × (n : ℕ) × RestsLines does line s mid × Calms does line n mid last × does last (Rested line Toward.Unknown) t
 
 -- n times in a row this call with this answer
 unfoldable pub Repeats : {S : Type 0} → (S → Event → S → Type 0) → Event → ℕ → S → S → Type 0
@@ -41,6 +70,8 @@ Prints is_open does words s (Begin node line request) text t = (is_open s node �
 Prints is_open does words s (Turn node) text t = (is_open s node ≡ true) × (o : Outcome) × does s (Turned node o) t × (text ≡ turn_text node (slice_index words node) o)
 Prints {S} is_open does words s (Done node) text t = (is_open s node ≡ true) × (n : ℕ) × (n < 100000) × (mid : S) × Unended does node n s mid × (o : Outcome) × IsEnd o × does mid (Turned node o) t
     × (text ≡ turn_text node (slice_index words node) o)
+Prints is_open does words s (Rest lines) text t = RestsLines does lines s t × (text ≡ [])
+Prints {S} is_open does words s (End nodes lines) text t = (mid : S) × RestsLines does lines s mid × EndsOpen is_open does words nodes mid text t
 Prints {S} is_open does words s (ListLine line) text t = (mid : S) × (mem : Mem) × (entries : List (ℕ × Tag)) × Loads does (SawMem line None) (SawMem line (Some mem)) s mid
     × Walked does line mem.forw entries None mid t × (text ≡ list_line line mem entries)
 Prints is_open does words s (ShowTag line node) text t = (tag : Tag) × Loads does (SawTag line node None) (SawTag line node (Some tag)) s t × (text ≡ tag_line line node tag)
@@ -57,6 +88,8 @@ abbrev pub IsOutOfPlace : {S : Type 0} → (S → ℕ → Bool) → S → Comman
 IsOutOfPlace is_open s (Begin node line request) = is_open s node ≡ true
 IsOutOfPlace is_open s (Turn node) = is_open s node ≡ false
 IsOutOfPlace is_open s (Done node) = is_open s node ≡ false
+IsOutOfPlace is_open s (Rest lines) = ⊥
+IsOutOfPlace is_open s (End nodes lines) = ⊥
 IsOutOfPlace is_open s (ListLine line) = ⊥
 IsOutOfPlace is_open s (ShowTag line node) = ⊥
 IsOutOfPlace is_open s (Residents node) = ⊥
@@ -71,6 +104,9 @@ abbrev pub IsUnended : {S : Type 0} → (S → ℕ → Bool) → (S → Event �
 IsUnended is_open does nodes s (Begin node line request) t = ⊥
 IsUnended is_open does nodes s (Turn node) t = ⊥
 IsUnended is_open does nodes s (Done node) t = (is_open s node ≡ true) × Unended does node 100000 s t
+IsUnended is_open does nodes s (Rest lines) t = IsRestUnknown does lines s t
+IsUnended {S} is_open does nodes s (End ends lines) t = IsRestUnknown does lines s t
+    ⊎ ((m : ℕ) × (m < ends) × (words text : List ℕ) × (mid last : S) × RestsLines does lines s mid × EndsOpen is_open does words m mid text last × (is_open last m ≡ true) × Unended does m 100000 last t)
 IsUnended {S} is_open does nodes s (ListLine line) t = Repeats does (SawMem line None) 100000 s t
     ⊎ ((mid : S) × (mem : Mem) × Loads does (SawMem line None) (SawMem line (Some mem)) s mid × IsLost does nodes line mem.forw mid t)
 IsUnended is_open does nodes s (ShowTag line node) t = Repeats does (SawTag line node None) 100000 s t
@@ -86,6 +122,9 @@ abbrev pub WantsMemory : {S : Type 0} → (S → ℕ → Bool) → (S → Event 
 WantsMemory is_open does s (Begin node line request) t = (is_open s node ≡ false) × (t ≡ s)
 WantsMemory is_open does s (Turn node) t = (is_open s node ≡ true) × (o : Outcome) × does s (Turned node o) t
 WantsMemory {S} is_open does s (Done node) t = (is_open s node ≡ true) × (n : ℕ) × (n < 100000) × (mid : S) × Unended does node n s mid × (o : Outcome) × IsEnd o × does mid (Turned node o) t
+WantsMemory is_open does s (Rest lines) t = ⊥
+WantsMemory {S} is_open does s (End nodes lines) t =
+    (m : ℕ) × (m < nodes) × (words text last : List ℕ) × (mid at : S) × RestsLines does lines s mid × EndsOpen is_open does words m mid text at × (is_open at m ≡ true) × EndsCall does words m at last t
 WantsMemory {S} is_open does s (ListLine line) t = (mid : S) × (mem : Mem) × Loads does (SawMem line None) (SawMem line (Some mem)) s mid × Walks does line mem.forw mid t
 WantsMemory is_open does s (ShowTag line node) t = (tag : Tag) × Loads does (SawTag line node None) (SawTag line node (Some tag)) s t
 WantsMemory is_open does s (Residents node) t = t ≡ s

@@ -1,5 +1,5 @@
 -- What a script's memory has, and which commands fit it. This project's profile.
-use Rattle.std.specs.Prelude.{◌≡◌, ◌≤◌, ℕ, Bool, true, ◌&&◌, nat_lt, List}
+use Rattle.std.specs.Prelude.{◌≡◌, ◌≤◌, ℕ, Bool, true, ◌&&◌, nat_eq, nat_lt, List}
 use Rattle.std.specs.List.{list_all}
 use Rattle.sci_core.specs.declared.whole.TheConstants.{MOST_NODES}
 use Rattle.sci_script.specs.declared.commands.Size.{Size}
@@ -7,7 +7,7 @@ use Rattle.sci_script.specs.declared.commands.Request.{Request}
 use Rattle.sci_script.specs.declared.commands.Request.TheVariants.{Load, Store, Add, Evict}
 use Rattle.sci_script.specs.declared.commands.Step.{Step}
 use Rattle.sci_script.specs.declared.commands.Command.{Command}
-use Rattle.sci_script.specs.declared.commands.Command.TheVariants.{Begin, Turn, Done, List as ListLine, Tag as ShowTag, Residents}
+use Rattle.sci_script.specs.declared.commands.Command.TheVariants.{Begin, Turn, Done, Rest, End, List as ListLine, Tag as ShowTag, Residents}
 
 -- 1 to 1,024 nodes, 1 to 1,024 lines
 pub record IsSize (size : Size) : Type 0 where
@@ -32,6 +32,8 @@ abbrev pub is_in : Size → Command → Bool
 is_in size (Begin node line request) = nat_lt node size.nodes && (nat_lt line size.lines && is_request request)
 is_in size (Turn node) = nat_lt node size.nodes
 is_in size (Done node) = nat_lt node size.nodes
+is_in size (Rest lines) = nat_eq lines size.lines
+is_in size (End nodes lines) = nat_eq nodes size.nodes && nat_eq lines size.lines
 is_in size (ListLine line) = nat_lt line size.lines
 is_in size (ShowTag line node) = nat_lt line size.lines && nat_lt node size.nodes
 is_in size (Residents node) = nat_lt node size.nodes

@@ -9,6 +9,17 @@ use sci_ops::Turn;
 use sci_words::{LineNo, Mem, NodeId, Tag};
 use std::alloc::{AllocError, Global};
 
+/// What one turn towards rest came to.
+#[derive(Clone, Copy, Debug, PartialEq, Eq)]
+pub enum Toward {
+    /// This node was under way, and made an exchange.
+    Turned(NodeId),
+    /// No node is under way.
+    Reached,
+    /// It isn't known who moves.
+    Unknown,
+}
+
 /// Nodes and lines, the lines that each node names, and each node's open call, where it has one. What a call answers, and how the
 /// desk stands after it, is the implementation's own to say, by `does`.
 pub trait Desk {
@@ -42,6 +53,12 @@ pub trait Desk {
         requires open { is_open self.old node ≡ true }
         ensures turned { does self.old (Turned node result) self.new }
         ensures open { IsNoEnd result → is_open self.new node ≡ true }
+        ensures size { size self.new ≡ size self.old };
+
+    /// One turn of a node under way on the line that moves, as a load takes it. No call ends.
+    fn rest_turn(&mut self, line: LineNo) -> Toward
+        requires { line < (size self.old).lines }
+        ensures turned { does self.old (Rested line result) self.new }
         ensures size { size self.new ≡ size self.old };
 
     /// The lines that the node names, most recent first.

@@ -11,6 +11,7 @@ mod nodes;
 mod numbers;
 mod reader;
 mod refusals;
+mod resting;
 mod running;
 mod talk;
 mod texts;
@@ -20,7 +21,7 @@ mod writing;
 
 pub use banks::{BankDesk, NoDesk};
 pub use commands::{Command, Opening, Script, Size, Step};
-pub use desk::Desk;
+pub use desk::{Desk, Toward};
 pub use line_words::is_skipped;
 pub use reader::{line_end, read_script, without_return};
 pub use refusals::ScriptRefusal;

@@ -8,7 +8,7 @@ ghost use Rattle.sci_script.specs.Request.{words_after};
 ghost use Rattle.sci_script.specs.Run.{Unended, Prints, StopsAt};
 
 use crate::commands::{Command, Request, Script, Size, Step};
-use crate::desk::Desk;
+use crate::desk::{Desk, Toward};
 use crate::loading::{load_mem, load_tag, walk};
 use crate::refusals::ScriptRefusal;
 use crate::texts::{list_text, residents_text, tag_text, turn_text};
@@ -73,6 +73,42 @@ fn done<D: Desk>(
         Some(turn) => Ok(turn_text(text, node, words[usize::from(node.get())], &turn)?),
         None => Err(ScriptRefusal::NotDone(number)),
     }
+}
+
+/// `rest`: each line is brought to rest. It prints nothing.
+fn rest<D: Desk>(desk: &mut D, number: u64, lines: u16) -> Result<(), ScriptRefusal> {
+    for line in 0..lines {
+        loop {
+            match desk.rest_turn(line) {
+                Toward::Turned(_) => {}
+                Toward::Reached => break,
+                Toward::Unknown => return Err(ScriptRefusal::NotDone(number)),
+            }
+        }
+    }
+    Ok(())
+}
+
+/// `end`: `rest`, and then the texts of the ends of all open calls, the lowest node's first.
+fn end<D: Desk>(
+    text: &mut String,
+    desk: &mut D,
+    words: &[u8; NODES],
+    number: u64,
+    nodes: u16,
+    lines: u16,
+) -> Result<(), ScriptRefusal> {
+    rest(desk, number, lines)?;
+    for place in 0..nodes {
+        let node = NodeId::new(place).unwrap();
+        if desk.open(node) {
+            match turns_to_end(desk, node) {
+                Some(turn) => turn_text(text, node, words[usize::from(place)], &turn)?,
+                None => return Err(ScriptRefusal::NotDone(number)),
+            }
+        }
+    }
+    Ok(())
 }
 
 /// `list`: the text of the line's sharing list.
@@ -209,6 +245,8 @@ pub fn perform<D: Desk>(
         } => begin(desk, nodes, number, node, line, request),
         Command::Turn { node } => turn(text, desk, nodes, words, number, node),
         Command::Done { node } => done(text, desk, nodes, words, number, node),
+        Command::Rest { lines } => rest(desk, number, lines),
+        Command::End { nodes, lines } => end(text, desk, words, number, nodes, lines),
         Command::List { line } => list(alloc, text, desk, nodes, number, line),
         Command::Tag { line, node } => tag(alloc, text, desk, nodes, number, line, node),
         Command::Residents { node } => residents(alloc, text, desk, nodes, number, node),

@@ -7,11 +7,12 @@ ghost use Rattle.sci_script.specs.declared.watching.Load.{Load};
 ghost use Rattle.sci_script.specs.Nodes.{TurnsOverOf, whole_of};
 ghost use Rattle.sci_script.specs.Passed.{ending_of, looks_by, passed_by, PassesOverOf};
 
+use crate::desk::Toward;
 use crate::wholes::WholeDesk;
 use sci_cache::Node;
 use sci_core::{AnyWords, Event, Outcome, Pending, Stage};
-use sci_ops::Turn;
-use sci_port::{Bank, SoloBank};
+use sci_ops::{Op, Turn};
+use sci_port::{At, Bank, SoloBank};
 use sci_words::{LineNo, Mem, NodeId, Tag};
 
 /// A load, with its answer.
@@ -219,6 +220,18 @@ impl WholeDesk {
             &mut self.nodes[usize::from(node.get())],
             passed,
         )
+    }
+
+    /// One turn towards rest, as `rest_turn`, and what passed in it.
+    pub fn watched_rest_turn(&mut self, line: LineNo, passed: &mut Passed) -> Toward {
+        let Some(node) = self.bank.mover(line) else {
+            return Toward::Reached;
+        };
+        self.bank.seat(node);
+        let bank = &mut self.bank;
+        let mut load = Op::load();
+        let _ = load.turn(&mut At::new(&mut Watched { bank, passed }, line));
+        Toward::Turned(node)
     }
 
     /// The node's pending step on the line.

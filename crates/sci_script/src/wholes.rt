@@ -6,12 +6,12 @@ ghost use Rattle.sci_script.specs.Nodes.{AreNodesOf, TurnsOverOf, whole_of};
 ghost use Rattle.sci_script.specs.Unused.{AreOpened};
 
 use crate::commands::{Script, Size};
-use crate::desk::Desk;
+use crate::desk::{Desk, Toward};
 use crate::nodes::idle;
 use sci_cache::{Node, OpenCall, Request};
 use sci_core::{AnyWords, Whole};
-use sci_ops::Turn;
-use sci_port::{Bank, SoloBank};
+use sci_ops::{Op, Turn};
+use sci_port::{At, Bank, SoloBank};
 use sci_words::{LineNo, Mem, NodeId, Tag};
 use std::alloc::{AllocError, Global};
 
@@ -127,6 +127,16 @@ impl Desk for WholeDesk {
     fn turn(&mut self, node: NodeId) -> Turn {
         self.bank.seat(node);
         turn_on(&mut self.bank, &mut self.nodes[usize::from(node.get())])
+    }
+
+    fn rest_turn(&mut self, line: LineNo) -> Toward {
+        let Some(node) = self.bank.mover(line) else {
+            return Toward::Reached;
+        };
+        self.bank.seat(node);
+        let mut load = Op::load();
+        let _ = load.turn(&mut At::new(&mut self.bank, line));
+        Toward::Turned(node)
     }
 
     fn resident(&self, alloc: Global, node: NodeId) -> Result<Vec<LineNo>, AllocError> {

@@ -51,6 +51,8 @@ One command a line. N is a node, L a line, W a word of it (0 to 7), V a number b
   evict N L                 node N begins to leave line L's list
   turn N                    one turn of N's call: prints nothing, `node N waits`, or the answer
   done N                    turns to the call's end, at most 100000: prints the answer
+  rest                      turns of nodes under way, as of loads, until no step is pending: no call ends, nothing is written
+  end                       rest, and then each open call to its end, the lowest node's first: prints their answers
   list L                    prints the sharing list
   tag L N                   prints node N's tag on line L
   residents N               prints the lines that node N names, the one used last in front

@@ -4,7 +4,7 @@ use Rattle.sci_core.specs.Stage.{stage_of}
 use Rattle.sci_ops.specs.declared.answers.Turn.{Turn}
 use Rattle.sci_script.specs.declared.commands.Step.{Step}
 use Rattle.sci_script.specs.declared.watching.Passed.{Passed}
-use Rattle.sci_script.specs.Event.{Event, Began, Turned, SawMem, SawTag, SawResidents}
+use Rattle.sci_script.specs.Event.{Event, Began, Turned, Rested, SawMem, SawTag, SawResidents}
 use Rattle.sci_script.specs.Passed.{shared_passes}
 use Rattle.sci_script.specs.Request.{words_after}
 use Rattle.sci_script.specs.Run.{Prints}

@@ -10,7 +10,7 @@ ghost use Rattle.sci_trace.specs.Notes.{Told, line_of_turn};
 use crate::notes::Notes;
 use sci_cache::Request;
 use sci_ops::Turn;
-use sci_script::{Desk, Passed, Script, Size, WholeDesk};
+use sci_script::{Desk, Passed, Script, Size, Toward, WholeDesk};
 use sci_words::{LineNo, Mem, NodeId, Tag};
 use std::alloc::{AllocError, Global};
 
@@ -97,6 +97,15 @@ impl Desk for TraceDesk {
         let turn = self.desk.watched_turn(node, &mut passed);
         self.tell(node, &passed, &turn);
         turn
+    }
+
+    fn rest_turn(&mut self, line: LineNo) -> Toward {
+        let mut passed = Passed::NOTHING;
+        let toward = self.desk.watched_rest_turn(line, &mut passed);
+        if let Toward::Turned(node) = toward {
+            self.tell(node, &passed, &Turn::Moved);
+        }
+        toward
     }
 
     fn resident(&self, alloc: Global, node: NodeId) -> Result<Vec<LineNo>, AllocError> {

@@ -10,7 +10,7 @@ use crate::entries::push_entries;
 use crate::note_text::NoteText;
 use sci_cache::Request;
 use sci_ops::Turn;
-use sci_script::{Desk, Passed, Script, Size, WholeDesk};
+use sci_script::{Desk, Passed, Script, Size, Toward, WholeDesk};
 use sci_words::{LineNo, Mem, NodeId, Tag};
 use std::alloc::{AllocError, Global};
 
@@ -97,6 +97,15 @@ impl Desk for LogDesk {
         let turn = self.desk.watched_turn(node, &mut passed);
         self.log.add(node, &passed);
         turn
+    }
+
+    fn rest_turn(&mut self, line: LineNo) -> Toward {
+        let mut passed = Passed::NOTHING;
+        let toward = self.desk.watched_rest_turn(line, &mut passed);
+        if let Toward::Turned(node) = toward {
+            self.log.add(node, &passed);
+        }
+        toward
     }
 
     fn resident(&self, alloc: Global, node: NodeId) -> Result<Vec<LineNo>, AllocError> {

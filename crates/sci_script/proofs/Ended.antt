@@ -1,0 +1,33 @@
+-- Calls that end one after another.
+use Rattle.std.proofs.Common.{◌≡◌, ◌+◌, ◌<◌, ◌≤◌, ℕ, zero, suc, Bool, false, List, Option, None, length, get_or, set, is_some, ⊎_elim, refl, sym, ap, subst, ◌∙◌, arith}
+use Rattle.std.proofs.lemmas.Bool.{cases_eq}
+use Rattle.std.proofs.lemmas.List.{get_or-set_same, get_or-set_other}
+use Rattle.sci_ops.specs.declared.answers.Answer.{Answer}
+use Rattle.sci_cache.specs.Nodes.{NodeState}
+use Rattle.sci_script.specs.Resting.{EndsIfOpen, EndsCalls}
+use Rattle.sci_script.specs.Shared.{Shared, shared_is_open}
+
+-- an answer at a place behind changes none before
+kept : (m k : ℕ) (s : Shared) (answers : List (Option Answer)) (a : Option Answer) (t : Shared) → m ≤ k → EndsCalls m s answers t → EndsCalls m s (set answers k a) t
+kept zero k s answers a t le h = h
+kept (suc m) k s answers a t le h = (
+  h.0,
+  kept m k s answers a h.0 (omega (arith, le)) h.1,
+  subst (λ (x : Option Answer). EndsIfOpen (shared_is_open h.0 m) m h.0 x t) (sym (get_or-set_other answers k m a None (λ q. omega (arith, le, q)))) h.2,
+)
+
+pub ends_more : (m : ℕ) (s mid t : Shared) (answers : List (Option Answer)) (a : Option Answer) → m < length answers → EndsCalls m s answers mid → EndsIfOpen (shared_is_open mid m) m mid a t → EndsCalls (suc m) s (set answers m a) t
+ends_more m s mid t answers a below before one = (
+  mid,
+  kept m m s answers a mid (omega arith) before,
+  subst (λ (x : Option Answer). EndsIfOpen (shared_is_open mid m) m mid x t) (sym (get_or-set_same answers m a None below)) one,
+)
+
+-- the nodes so far have none open
+pub closed_more : (m : ℕ) (s t : Shared) → ((i : ℕ) → i < m → shared_is_open s i ≡ false) → shared_is_open t m ≡ false → ((i : ℕ) → (i ≡ m → ⊥) → t.nodes i ≡ s.nodes i)
+    → (i : ℕ) → i < m + 1 → shared_is_open t i ≡ false
+closed_more m s t before here others i lt =
+    ⊎_elim
+    (λ q. subst (λ (j : ℕ). shared_is_open t j ≡ false) (sym q) here)
+    (λ d. ap (λ (n : NodeState). is_some n.call) (others i d) ∙ before i (omega (arith, lt, d)))
+    (cases_eq i m)

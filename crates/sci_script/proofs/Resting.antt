@@ -1,0 +1,77 @@
+-- Lines that are brought to rest, one after another.
+use Rattle.std.proofs.Common.{◌≡◌, ◌∙◌, ℕ, ◌+◌, ◌*◌, ◌<◌, ◌≤◌, List, length, get_or, set, All, refl, sym, ap, subst, ⊎_elim, inl, inr, arith}
+use Rattle.std.proofs.lemmas.Bool.{cases_eq, cases_lt}
+use Rattle.std.proofs.lemmas.List.{get_or_read, get_or_default, get_or-set_same, get_or-set_other, get_or_past}
+use Rattle.sci_core.specs.declared.keeps.AnyWords.{AnyWords}
+use Rattle.sci_core.specs.Progress.{IsAtRest}
+use Rattle.sci_core.specs.Whole.{WholeLine, IsSameLine, nodes_of, state_of}
+use Rattle.sci_port.specs.Banks.{AreLinesOf, IsLineOf}
+use Rattle.sci_ops.proofs.Resting.Turning.{same_line}
+use Rattle.sci_script.specs.Nodes.{whole_of}
+use Rattle.sci_script.specs.Resting.{ComesToRest, ComeToRest}
+use Rattle.sci_script.specs.Unused.{no_line}
+
+-- the line w that was read at place k has become v
+module _ (n : ℕ) (first items : List (WholeLine AnyWords)) (k p : ℕ) (w v : WholeLine AnyWords) (place : p ≡ k) (inside : k < length items) (found : w ≡ get_or items p w) where
+  pub here : w ≡ whole_of items k
+  here = get_or_read items k w inside (subst (λ (j : ℕ). w ≡ get_or items j w) place found) no_line
+
+  now : whole_of (set items p v) k ≡ v
+  now = subst (λ (j : ℕ). whole_of (set items j v) k ≡ v) (sym place) (get_or-set_same items k v no_line inside)
+
+  other : (j : ℕ) → (j ≡ k → ⊥) → whole_of (set items p v) j ≡ whole_of items j
+  other j d = get_or-set_other items p j v no_line (λ q. d (q ∙ place))
+
+  pub same_after : ((j : ℕ) → IsSameLine (whole_of first j) (whole_of items j)) → IsSameLine w v → (j : ℕ) → IsSameLine (whole_of first j) (whole_of (set items p v) j)
+  same_after all one j =
+      let was : IsSameLine (whole_of first k) w = subst (λ (x : WholeLine AnyWords). IsSameLine (whole_of first k) x) (sym here) (all k) in
+      let is : IsSameLine (whole_of first k) (whole_of (set items p v) k) = subst (λ (x : WholeLine AnyWords). IsSameLine (whole_of first k) x) (sym now) (same_line (whole_of first k) w v was one) in
+      ⊎_elim
+      (λ q. subst (λ (m : ℕ). IsSameLine (whole_of first m) (whole_of (set items p v) m)) (sym q) is)
+      (λ d. subst (λ (x : WholeLine AnyWords). IsSameLine (whole_of first j) x) (sym (other j d)) (all j))
+      (cases_eq j k)
+
+  pub left_after : ((j : ℕ) → k ≤ j → whole_of items j ≡ whole_of first j) → (j : ℕ) → k + 1 ≤ j → whole_of (set items p v) j ≡ whole_of first j
+  left_after left j le = other j (λ q. omega (arith, le, q)) ∙ left j (omega (arith, le))
+
+  pub rested_after : ComeToRest n k first items → ((j : ℕ) → k ≤ j → whole_of items j ≡ whole_of first j) → nodes_of w ≡ n → ComesToRest (nodes_of w) (state_of w) (state_of v) → ComeToRest n (k + 1) first (set items p v)
+  rested_after before left wide came j lt =
+      let at : ComesToRest n (state_of w) (state_of v) = subst (λ (m : ℕ). ComesToRest m (state_of w) (state_of v)) wide came in
+      let was : w ≡ whole_of first k = here ∙ left k (omega arith) in
+      let is : ComesToRest n (state_of (whole_of first k)) (state_of (whole_of (set items p v) k)) =
+      subst (λ (x : WholeLine AnyWords). ComesToRest n (state_of (whole_of first k)) (state_of x)) (sym now)
+      (subst (λ (x : WholeLine AnyWords). ComesToRest n (state_of x) (state_of v)) was at) in
+      ⊎_elim
+      (λ q. subst (λ (m : ℕ). ComesToRest n (state_of (whole_of first m)) (state_of (whole_of (set items p v) m))) (sym q) is)
+      (λ d. subst (λ (x : WholeLine AnyWords). ComesToRest n (state_of (whole_of first j)) (state_of x)) (sym (other j d)) (before j (omega (arith, lt, d))))
+      (cases_eq j k)
+
+-- lines that stay the same but for their states are still those of a bank, and as wide
+module _ (first items : List (WholeLine AnyWords)) (count : length items ≡ length first) (same : (j : ℕ) → IsSameLine (whole_of first j) (whole_of items j)) where
+  pub lines_stay : (keep : AnyWords) (node : ℕ) → AreLinesOf keep node first → AreLinesOf keep node items
+  lines_stay keep node h = record {
+    some = subst (λ (m : ℕ). 0 < m) (sym count) h.some;
+    few = subst (λ (m : ℕ). m ≤ 1024) (sym count) h.few;
+    each = λ line d lt.
+        let was : IsLineOf keep node line (whole_of first line) = h.each line no_line (omega (arith, lt, count)) in
+        let at : IsLineOf keep node line (whole_of items line) = record {
+          number = (same line).number ∙ was.number;
+          fact = (same line).keep ∙ was.fact;
+          below = subst (λ (m : ℕ). node < m) (sym (same line).nodes) was.below;
+        } in
+        subst (λ (x : WholeLine AnyWords). IsLineOf keep node line x) (get_or_default items line no_line d lt) at;
+  }
+
+  pub widths_stay : (n : ℕ) → All (λ w. nodes_of w ≡ n) first → All (λ w. nodes_of w ≡ n) items
+  widths_stay n wide = λ line d lt.
+      let was : nodes_of (whole_of first line) ≡ n = wide line no_line (omega (arith, lt, count)) in
+      let at : nodes_of (whole_of items line) ≡ n = (same line).nodes ∙ was in
+      subst (λ (x : WholeLine AnyWords). nodes_of x ≡ n) (get_or_default items line no_line d lt) at
+
+-- each line that there is comes to rest, and where none is, all is at rest
+pub all_at_rest : (n m : ℕ) (first items : List (WholeLine AnyWords)) → length items ≡ m → ComeToRest n m first items → (line : ℕ) → IsAtRest (state_of (whole_of items line))
+all_at_rest n m first items count rested line =
+    elim (cases_lt line m) [
+      | inl less ↦ (rested line less).rest
+      | inr more ↦ subst (λ (x : WholeLine AnyWords). IsAtRest (state_of x)) (sym (get_or_past items line no_line (omega (arith, more, count)))) (λ i. refl)
+    ]

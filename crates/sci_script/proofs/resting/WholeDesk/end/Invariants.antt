@@ -1,0 +1,16 @@
+use Rattle.std.proofs.Common.{◌≡◌, ◌+◌, ◌*◌, ◌<◌, ◌≤◌, ℕ, false, length}
+use Rattle.sci_script.specs.Resting.{AreAtRest, EndsCalls}
+use Rattle.sci_script.specs.Shared.{shared_is_open}
+use Rattle.sci_script.specs.Wholes.{shared_of}
+use Rattle.sci_script.proofs.resting.WholeDesk.end.Given as goal
+
+-- the calls of the nodes so far have ended, one after another
+abbrev pub invariant-loop-number : goal.invariant-loop-number
+invariant-loop-number g l = record {
+  size : l.desk.size ≡ l.initial.desk.size;
+  count : length l.answers ≡ length l.initial.answers;
+  rest : AreAtRest (shared_of l.desk);
+  ends : EndsCalls l.number (shared_of l.initial.desk) l.answers (shared_of l.desk);
+  closed : (i : ℕ) → i < l.number → shared_is_open (shared_of l.desk) i ≡ false;
+  bound : l.steps ≤ l.initial.steps + l.number * (2 * (3 * l.initial.desk.size.nodes + 16));
+}

@@ -1,0 +1,32 @@
+use Rattle.std.proofs.Common.{◌≡◌, ◌∙◌, Bool, true, false, Some, None, refl, sym, subst, arith}
+use Rattle.sci_script.specs.Resting.{EndsIfOpen}
+use Rattle.sci_script.specs.Wholes.{shared_of}
+use Rattle.sci_script.proofs.resting.WholeDesk.ended_if_open.Goals as goal
+
+pub ended-requires : goal.ended-requires
+ended-requires g c = record { node = c.requires.node; «open» = sym c.if-not-open.ensures; rest = c.requires.rest }
+
+pub returns-then-not-open : goal.returns-then-not-open
+returns-then-not-open g c =
+    let closed = sym c.open.ensures ∙ c.if-not-open.true in
+    let s = shared_of c.args.self.now in
+    record {
+      ends = subst (λ (b : Bool). EndsIfOpen b c.args.node s None s) (sym closed) (refl, refl);
+      bound = omega arith;
+      rest = c.requires.rest;
+      closed = closed;
+      others = λ i d. refl;
+      size = refl;
+    }
+
+pub returns : goal.returns
+returns g c =
+    let s = shared_of c.args.self.now in
+    record {
+      ends = subst (λ (b : Bool). EndsIfOpen b c.args.node s (Some c.ended.result) (shared_of c.ended.new.self)) c.if-not-open.ensures c.ended.ensures.ends;
+      bound = c.ended.ensures.bound;
+      rest = c.ended.ensures.rest;
+      closed = c.ended.ensures.closed;
+      others = c.ended.ensures.others;
+      size = c.ended.ensures.size;
+    }

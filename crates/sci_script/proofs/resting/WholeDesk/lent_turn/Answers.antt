@@ -1,0 +1,29 @@
+use Rattle.std.proofs.Common.{rules, refl, sym, ap, subst, ◌≡◌, ◌<◌, ◌∙◌, ℕ, length, get_or, set, IfSome, List}
+use Rattle.std.proofs.lemmas.List.{get_or_read}
+use Rattle.sci_core.specs.declared.keeps.AnyWords.{AnyWords}
+use Rattle.sci_core.specs.Whole.{WholeLine}
+use Rattle.sci_cache.specs.Nodes.{NodeState, line_by}
+use Rattle.sci_script.specs.Resting.{LentOverOf, TakesLentOf}
+use Rattle.sci_script.specs.Unused.{no_node, shared}
+use Rattle.sci_script.proofs.Lent.{takes_lent}
+use Rattle.sci_script.proofs.resting.WholeDesk.lent_turn.Goals as goal
+
+pub returns-clause-lent : goal.returns-clause-lent
+returns-clause-lent c =
+    let desk = c.args.self.now in
+    let nodes = desk.nodes.items in
+    let wholes = desk.bank.wholes.items in
+    let after = c.lent_turn_on.new.bank.wholes.items in
+    let m = c.lent_turn_on.new.node in
+    let n = get_or nodes c.args.node no_node in
+    let place : c.from.result ≡ c.args.node = search rules in
+    let inside : c.args.node < length nodes = search rules in
+    let found : c.index_mut.result.now ≡ get_or nodes c.args.node c.index_mut.result.now = subst (λ (i : ℕ). c.index_mut.result.now ≡ get_or nodes i c.index_mut.result.now) place c.index_mut.ensures.value in
+    let here : c.index_mut.result.now ≡ n = get_or_read nodes c.args.node c.index_mut.result.now inside found no_node in
+    let at = desk.of c.args.node no_node inside in
+    let lines : c.seat.new.self.wholes.items ≡ wholes = ap (λ v. v.items) c.seat.ensures.same_lines in
+    let lent = subst (λ (k : NodeState). LentOverOf wholes k k.call c.lent_turn_on.result after m) here
+    (subst (λ (l : List (WholeLine AnyWords)). LentOverOf l c.index_mut.result.now c.index_mut.result.now.call c.lent_turn_on.result after m) lines c.lent_turn_on.ensures.lent) in
+    let below = subst (λ (k : NodeState). IfSome k.call (λ d. line_by d.victim d.line < k.lines)) here c.lent_turn_on.ensures.below in
+    subst (λ (i : ℕ). TakesLentOf (shared desk.size.nodes wholes nodes) c.args.node n.call c.lent_turn_on.result (shared desk.size.nodes after (set nodes i m))) (sym place)
+    (takes_lent desk.size.nodes wholes after nodes c.args.node c.lent_turn_on.result m inside desk.widths n n.call refl at.0 (at.1 ∙ sym desk.lines) below lent)

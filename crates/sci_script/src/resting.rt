@@ -1,0 +1,146 @@
+//! A desk of whole lines that is brought to rest.
+ghost use Rattle.std.specs.Prelude.{◌≡◌, ◌+◌, ◌*◌, ◌<◌, ◌≤◌, ℕ, true, length, is_some, All, IfSome};
+ghost use Rattle.sci_cache.specs.Nodes.{IsSameNode, line_by};
+ghost use Rattle.sci_core.specs.Whole.{IsSameLine, nodes_of};
+ghost use Rattle.sci_script.specs.Nodes.{whole_of};
+ghost use Rattle.sci_script.specs.Resting.{ComeToRest, LentOverOf};
+
+use crate::commands::Size;
+use crate::desk::Desk;
+use crate::wholes::WholeDesk;
+use sci_cache::Node;
+use sci_core::{AnyWords, Whole};
+use sci_ops::{Answer, Steps, Turn, rest};
+use sci_port::{Bank, SoloBank};
+use sci_words::NodeId;
+use std::sync::ledger::Ledger;
+
+// Brings these lines to rest, one after another.
+fn rest_all<L: Ledger>(wholes: &mut Vec<Whole<AnyWords>>, size: Size, steps: &mut Steps<L>)
+    requires lines { length wholes.old.items ≡ size.lines }
+    requires widths { All (λ w. nodes_of w ≡ size.nodes) wholes.old.items }
+    ensures rested { ComeToRest size.nodes size.lines wholes.old.items wholes.new.items }
+    ensures bound { steps.new ≤ steps.old + size.lines * (size.nodes * size.nodes + 9 * size.nodes) }
+    ensures same { (line : ℕ) → IsSameLine (whole_of wholes.old.items line) (whole_of wholes.new.items line) }
+    ensures lines { length wholes.new.items ≡ size.lines }
+{
+    for line in 0..size.lines {
+        rest(&mut wholes[usize::from(line)], steps);
+    }
+}
+
+// One turn of the node's call, over the bank that it is seated at.
+#[tactic(auto, using(sci_ops::proofs::Storing::any_store_fits))]
+fn lent_turn_on(bank: &mut SoloBank<AnyWords>, node: &mut Node) -> Turn
+    requires seat { bank.old.node ≡ node.old.id }
+    requires lines { length bank.old.wholes.items ≡ node.old.lines }
+    requires open { is_some node.old.call ≡ true }
+    ensures lent { LentOverOf bank.old.wholes.items node.old node.old.call result bank.new.wholes.items node.new }
+    ensures below { IfSome node.old.call (λ c. line_by c.victim c.line < node.old.lines) }
+    ensures same_node { IsSameNode node.old node.new }
+    ensures same_lines { length bank.new.wholes.items ≡ length bank.old.wholes.items }
+    ensures same_widths { (line : ℕ) → nodes_of (whole_of bank.new.wholes.items line) ≡ nodes_of (whole_of bank.old.wholes.items line) }
+{
+    match node.turn(bank) {
+        Ok(turn) => turn,
+        Err(_) => unreachable!(),
+    }
+}
+
+impl WholeDesk {
+    ghost use Rattle.std.specs.Prelude.{◌≢◌, false};
+    ghost use Rattle.sci_script.specs.Resting.{AreAtRest, SharedRests, TakesLentOf, EndsCall, EndsIfOpen, EndsCalls};
+    ghost use Rattle.sci_script.specs.Shared.{Shared, shared_is_open};
+    ghost use Rattle.sci_script.specs.Wholes.{shared_of};
+
+    /// The desk with every line at rest, as for a checkpoint: line after line, as `rest` of `sci_ops` brings one to rest, by turns of
+    /// nodes under way alone, as loads take them. So nothing is written, and each line's value stays. Of m lines and n nodes at most
+    /// m * (n * n + 9 * n) turns, counted as steps. The nodes are as they were: a call that is open stays open, with its victim, and
+    /// goes on from Idle; none ends. This project's profile.
+    pub fn rest<L: Ledger>(self, steps: &mut Steps<L>) -> WholeDesk
+        ensures rested { SharedRests self.size.lines (shared_of self) (shared_of result) }
+        ensures rest { AreAtRest (shared_of result) }
+        ensures bound { steps.new ≤ steps.old + self.size.lines * (self.size.nodes * self.size.nodes + 9 * self.size.nodes) }
+        ensures size { result.size ≡ self.size }
+    {
+        let WholeDesk { size, bank, nodes } = self;
+        let node = bank.node();
+        let mut wholes = bank.into_wholes();
+        rest_all(&mut wholes, size, steps);
+        let bank = SoloBank::new(wholes, node);
+        WholeDesk { size, bank, nodes }
+    }
+
+    // One turn of the node's open call.
+    fn lent_turn(&mut self, node: NodeId) -> Turn
+        requires node { node < self.old.size.nodes }
+        requires open { shared_is_open (shared_of self.old) node ≡ true }
+        ensures lent { TakesLentOf (shared_of self.old) node ((shared_of self.old).nodes node).call result (shared_of self.new) }
+        ensures size { self.new.size ≡ self.old.size }
+    {
+        self.bank.seat(node);
+        lent_turn_on(&mut self.bank, &mut self.nodes[usize::from(node.get())])
+    }
+
+    // Takes the node's open call to its end.
+    fn ended<L: Ledger>(&mut self, node: NodeId, steps: &mut Steps<L>) -> Answer
+        requires node { node < self.old.size.nodes }
+        requires open { shared_is_open (shared_of self.old) node ≡ true }
+        requires rest { AreAtRest (shared_of self.old) }
+        ensures ends { EndsCall node (shared_of self.old) result (shared_of self.new) }
+        ensures bound { steps.new ≤ steps.old + 2 * (3 * self.old.size.nodes + 16) }
+        ensures rest { AreAtRest (shared_of self.new) }
+        ensures closed { shared_is_open (shared_of self.new) node ≡ false }
+        ensures others { (i : ℕ) → i ≢ node → (shared_of self.new).nodes i ≡ (shared_of self.old).nodes i }
+        ensures size { self.new.size ≡ self.old.size }
+    {
+        'turns: loop {
+            steps.count();
+            match self.lent_turn(node) {
+                Turn::Done(answer) => return answer,
+                Turn::Moved => {}
+                Turn::Waiting => unreachable!(),
+            }
+        }
+    }
+
+    // The answer of the node's open call, taken to its end, where it has one.
+    fn ended_if_open<L: Ledger>(&mut self, node: NodeId, steps: &mut Steps<L>) -> Option<Answer>
+        requires node { node < self.old.size.nodes }
+        requires rest { AreAtRest (shared_of self.old) }
+        ensures ends { EndsIfOpen (shared_is_open (shared_of self.old) node) node (shared_of self.old) result (shared_of self.new) }
+        ensures bound { steps.new ≤ steps.old + 2 * (3 * self.old.size.nodes + 16) }
+        ensures rest { AreAtRest (shared_of self.new) }
+        ensures closed { shared_is_open (shared_of self.new) node ≡ false }
+        ensures others { (i : ℕ) → i ≢ node → (shared_of self.new).nodes i ≡ (shared_of self.old).nodes i }
+        ensures size { self.new.size ≡ self.old.size }
+    {
+        if !self.open(node) {
+            return None;
+        }
+        Some(self.ended(node, steps))
+    }
+
+    /// `rest`, and then each open call is taken to its end alone, node after node from the lowest, as `done` takes it: by the node's own
+    /// turns, the victim's eviction first, at most 2 * (3 * n + 16) of n nodes. None waits. `answers` has a place for each
+    /// node: the answer of its call, in the order in which they end, or None where it had none open. Afterwards no call is open, and all
+    /// is at rest. Each turn is counted as one step. This project's profile.
+    pub fn end<L: Ledger>(self, answers: &mut [Option<Answer>], steps: &mut Steps<L>) -> WholeDesk
+        requires { length answers.old ≡ self.size.nodes }
+        ensures ends { (mid : Shared) × SharedRests self.size.lines (shared_of self) mid × AreAtRest mid × EndsCalls self.size.nodes mid answers.new (shared_of result) }
+        ensures bound { steps.new ≤ steps.old + self.size.lines * (self.size.nodes * self.size.nodes + 9 * self.size.nodes) + self.size.nodes * (2 * (3 * self.size.nodes + 16)) }
+        ensures rest { AreAtRest (shared_of result) }
+        ensures closed { (node : ℕ) → node < self.size.nodes → shared_is_open (shared_of result) node ≡ false }
+        ensures count { length answers.new ≡ length answers.old }
+        ensures size { result.size ≡ self.size }
+    {
+        let mut desk = self.rest(steps);
+        for number in 0..desk.size.nodes {
+            let place = usize::from(number);
+            let node = desk.nodes[place].id();
+            let answer = desk.ended_if_open(node, steps);
+            answers[place] = answer;
+        }
+        desk
+    }
+}
