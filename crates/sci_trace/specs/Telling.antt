@@ -5,7 +5,8 @@ use Rattle.sci_ops.specs.declared.answers.Turn.{Turn}
 use Rattle.sci_script.specs.declared.commands.Step.{Step}
 use Rattle.sci_script.specs.declared.watching.Passed.{Passed}
 use Rattle.sci_script.specs.Event.{Event, Began, Turned, Rested, SawMem, SawTag, SawResidents}
-use Rattle.sci_script.specs.Passed.{shared_passes}
+use Rattle.sci_script.specs.declared.desk.Toward.{Toward}
+use Rattle.sci_script.specs.Passed.{passes_to_rest, shared_passes}
 use Rattle.sci_script.specs.Request.{words_after}
 use Rattle.sci_script.specs.Run.{Prints}
 use Rattle.sci_script.specs.Shared.{Shared, shared_is_open, shared_does}
@@ -41,6 +42,12 @@ IsTold s node turn t told = (told.node ≡ node) × (told.turn ≡ turn) × shar
 abbrev pub AddsLine : Telling → ℕ → Turn → Telling → Type 0
 AddsLine s node turn t = (t.is_cut ≡ true) ⊎ ((t.is_cut ≡ s.is_cut) × (told : Told) × IsTold s.shared node turn t.shared told × (t.notes ≡ s.notes ++ line_of_turn told))
 
+-- a turn towards rest adds its line, in the same way
+abbrev pub AddsRestLine : Telling → ℕ → Toward → Telling → Type 0
+AddsRestLine s line (Toward.Turned node) t = (t.is_cut ≡ true) ⊎ ((t.is_cut ≡ s.is_cut) × (told : Told) × (told.node ≡ node) × (told.turn ≡ Turn.Moved) × passes_to_rest s.shared line node t.shared nothing told.passed
+    × (told.stage ≡ stage_of ((t.shared.lines line).steps node)) × (told.mem ≡ (t.shared.lines line).memory) × (told.entries ≡ walked (t.shared.lines line).tags t.shared.width told.mem.forw) × (t.notes ≡ s.notes ++ line_of_turn told))
+AddsRestLine s line toward t = (t.is_cut ≡ s.is_cut) × (t.notes ≡ s.notes)
+
 abbrev pub AddsNone : Telling → Telling → Type 0
 AddsNone s t = (t.is_cut ≡ s.is_cut) × (t.notes ≡ s.notes)
 
@@ -48,6 +55,7 @@ AddsNone s t = (t.is_cut ≡ s.is_cut) × (t.notes ≡ s.notes)
 abbrev pub tells : Telling → Event → Telling → Type 0
 tells s (Began node request) t = shared_does s.shared (Began node request) t.shared × AddsNone s t
 tells s (Turned node turn) t = shared_does s.shared (Turned node turn) t.shared × AddsLine s node turn t
+tells s (Rested line toward) t = shared_does s.shared (Rested line toward) t.shared × AddsRestLine s line toward t
 tells s (SawMem line mem) t = shared_does s.shared (SawMem line mem) t.shared × AddsNone s t
 tells s (SawTag line node tag) t = shared_does s.shared (SawTag line node tag) t.shared × AddsNone s t
 tells s (SawResidents node lines) t = shared_does s.shared (SawResidents node lines) t.shared × AddsNone s t
