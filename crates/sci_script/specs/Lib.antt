@@ -18,3 +18,4 @@ pub mod Refusals
 pub mod Dealt
 pub mod Talks
 pub mod Talkers
+pub mod Reasons
