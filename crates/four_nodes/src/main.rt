@@ -9,7 +9,7 @@ use crossbeam_utils::Backoff;
 use sci_core::{AnyWords, Closed, Line, OpenRefusal, Pending, Whole};
 use sci_fine::{FineLine, FinePort, Seat};
 use sci_ops::{Answer, Op, Turn};
-use sci_words::{MemState, NodeId};
+use sci_words::NodeId;
 use std::alloc::Global;
 use std::process::ExitCode;
 use std::sync::Wait;
@@ -147,18 +147,6 @@ fn over_fine<R: Threads + Wait + Sync>(rt: &R, alloc: Global) -> Option<Closed> 
     close(alloc, line, seats)
 }
 
-/// Word 0 of a line at rest: the head has it where memory's may be stale.
-fn word_of(closed: &Closed) -> u64 {
-    let head = match (closed.mem.state, closed.mem.forw) {
-        (MemState::Gone, Some(head)) => closed.lines.get(usize::from(head.get())),
-        _ => None,
-    };
-    match head {
-        Some(line) => line.words[0],
-        None => closed.memory.words[0],
-    }
-}
-
 fn main(rt: HostRuntime) -> ExitCode {
     let Some((word, entries)) = over_whole(rt.alloc()) else {
         return ExitCode::from(1);
@@ -166,7 +154,7 @@ fn main(rt: HostRuntime) -> ExitCode {
     let Some(closed) = over_fine(&rt, rt.alloc()) else {
         return ExitCode::from(1);
     };
-    let counted = word_of(&closed);
+    let counted = closed.value().words[0];
     let printed = println!(rt;
         "one after another: node 0 sees {word}, and the list has {entries} nodes\nin threads: {counted}"
     );

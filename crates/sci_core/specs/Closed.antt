@@ -1,7 +1,8 @@
 -- What contracts see of a line that nobody uses any more. This project's profile.
-use Rattle.std.specs.Prelude.{◌≡◌, ℕ, true, Some, List, length, map, All, slice_index_or}
+use Rattle.std.specs.Prelude.{◌≡◌, ℕ, true, Option, Some, List, length, map, All, slice_index_or}
 use Rattle.sci_words.specs.declared.tags.Tag.{Tag}
 use Rattle.sci_words.specs.declared.memory.Mem.{Mem}
+use Rattle.sci_words.specs.declared.memory.MemState.{MemState}
 use Rattle.sci_words.specs.Tag.{tag_well_formed}
 use Rattle.sci_words.specs.Mem.{mem_well_formed}
 use Rattle.sci_core.specs.declared.lines.Line.{Line}
@@ -32,3 +33,15 @@ pub record IsReadOff {K : Type 0} (w : WholeLine K) (c : ClosedLine) : Type 0 wh
 -- some nodes are its exact sharing list. IEEE Std 1596-1992
 abbrev pub IsExactClosed : ClosedLine → Type 0
 IsExactClosed c = (nodes : List ℕ) × IsExact (length c.tags) c.mem c.memory (λ i. slice_index_or c.tags i invalid) (λ i. slice_index_or c.lines i blank) nodes
+
+-- these nodes are its exact sharing list
+abbrev pub IsExactBy : ClosedLine → List ℕ → Type 0
+IsExactBy c nodes = IsExact (length c.tags) c.mem c.memory (λ i. slice_index_or c.tags i invalid) (λ i. slice_index_or c.lines i blank) nodes
+
+-- the line's bytes: the head's where memory's may be stale, and memory's else
+abbrev pub value_under : MemState → Option ℕ → Line → List Line → Line
+value_under MemState.Gone (Some head) memory lines = slice_index_or lines head memory
+value_under _ _ memory lines = memory
+
+abbrev pub value_of : ClosedLine → Line
+value_of c = value_under c.mem.state c.mem.forw c.memory c.lines

@@ -1,14 +1,15 @@
 //! A line once nobody uses it any more.
-ghost use Rattle.std.specs.Prelude.{◌≡◌, ℕ, ◌<◌, ◌≤◌, [], IfOk, length, map, vec_capacity};
+ghost use Rattle.std.specs.Prelude.{◌≡◌, ℕ, ◌<◌, ◌≤◌, [], List, IfOk, Contains, length, map, slice_index_or, vec_capacity};
 ghost use Rattle.sci_core.specs.declared.pending.Pending.TheVariants.{Idle};
-ghost use Rattle.sci_core.specs.Closed.{IsExactClosed, IsReadOff};
+ghost use Rattle.sci_core.specs.Closed.{IsExactBy, IsExactClosed, IsReadOff, value_of};
+ghost use Rattle.sci_core.specs.State.{blank};
 ghost use Rattle.sci_core.specs.Step.{line_in};
 ghost use Rattle.sci_core.specs.Whole.{nodes_of, state_of};
 
 use crate::keeps::Keeps;
 use crate::lines::Line;
 use crate::whole::Whole;
-use sci_words::{Mem, Tag};
+use sci_words::{Mem, MemState, Tag};
 use std::alloc::{AllocError, Global};
 use std::marker::Model;
 
@@ -30,6 +31,36 @@ impl Model for Closed {
     ghost view = { λ c. record { mem = c.mem; memory = c.memory; tags = c.tags.items; lines = c.lines.items } };
 
     ghost invariant = { λ c. IsClosed record { mem = c.mem; memory = c.memory; tags = c.tags.items; lines = c.lines.items } };
+}
+
+impl Closed {
+    // The head's bytes where memory's may be stale, and memory's else.
+    #[tactic(auto, using(crate::proofs::Values::beyond))]
+    fn bytes(&self) -> Line
+        ensures value { result ≡ value_of self.now }
+        ensures long { length self.now.lines ≡ length self.now.tags }
+    {
+        match (self.mem.state, self.mem.forw) {
+            (MemState::Gone, Some(head)) => {
+                let place = usize::from(head.get());
+                if place < self.lines.len() {
+                    self.lines[place]
+                } else {
+                    self.memory
+                }
+            }
+            _ => self.memory,
+        }
+    }
+
+    /// The line's value, its eight words and their stamp: the head's under GONE, and memory's else. Each sharer of an exact sharing
+    /// list has it. The bytes of other nodes, and memory's under GONE, may be stale.
+    pub fn value(&self) -> Line
+        ensures value { result ≡ value_of self.now }
+        ensures shared { (nodes : List ℕ) → IsExactBy self.now nodes → (i : ℕ) → Contains nodes i → slice_index_or self.now.lines i blank ≡ result }
+    {
+        self.bytes()
+    }
 }
 
 // Copies, in room that was taken before.

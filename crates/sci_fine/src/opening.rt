@@ -1,12 +1,12 @@
 //! How a line is made, with its seats.
-ghost use Rattle.std.specs.Prelude.{◌≡◌, ◌<◌, ◌≤◌, ◌⊎◌, ◌↔◌, ℕ, ◌+◌, Some, None, [], IfOk, replicate, set, vec_len, vec_capacity};
+ghost use Rattle.std.specs.Prelude.{◌≡◌, ◌<◌, ◌≤◌, ◌⊎◌, ◌↔◌, ℕ, ◌+◌, Some, None, [], All, IfOk, replicate, set, vec_len, vec_capacity};
 ghost use Rattle.sci_words.specs.Codes.{tag_code, mem_code};
 ghost use Rattle.sci_words.specs.declared.memory.MemState.TheVariants.{Home};
 ghost use Rattle.sci_core.specs.State.{invalid, memory_word};
 ghost use Rattle.sci_core.specs.declared.pending.Pending.TheVariants.{Idle};
 ghost use Rattle.sci_core.specs.declared.whole.TheConstants.{MOST_NODES};
 ghost use Rattle.sci_fine.specs.Rule.{lies_at};
-ghost use Rattle.sci_fine.specs.Seats.{AreIdleFrom, AreNew, HasTerms};
+ghost use Rattle.sci_fine.specs.Seats.{AreIdleFrom, AreNew, HasTerms, IsSeatOf};
 ghost use Rattle.sci_fine.specs.Views.{first_view};
 
 use crate::codes::lies_at;
@@ -83,6 +83,7 @@ impl<K: Keeps> FineLine<K> {
         ensures terms { IfOk result (λ r. HasTerms r.0 nodes number line keep) }
         ensures seats { IfOk result (λ r. (vec_len r.1 ≡ nodes) × AreIdleFrom r.0 0 r.1.items) }
         ensures new { IfOk result (λ r. AreNew r.1.items) }
+        ensures own { IfOk result (λ r. All (λ s. IsSeatOf r.0 s) r.1.items) }
     {
         if nodes == 0 || nodes > MOST_NODES {
             return Err(OpenRefusal::BadNodes);
