@@ -13,7 +13,7 @@
 enum { /* the answers of calls */
     SCI_OK = 0,
     SCI_UNKNOWN_KIND = 1,   /* no kind or state has this number */
-    SCI_SPARE_BITS = 2,     /* a bit is set that the layout fixes as 0; of parts, held or lent is above 1 */
+    SCI_SPARE_BITS = 2,     /* a bit is set that the layout fixes as 0; of parts, one is too great for its field */
     SCI_LINK_MISSING = 3,   /* the kind or state needs a link */
     SCI_LINK_UNWANTED = 4,  /* the kind or state has no such link */
     SCI_HELD_NOT_VALID = 5, /* held, at a kind other than Fresh, Dirty and Valid */
@@ -82,6 +82,10 @@ uint8_t sci_read_tag(uint64_t word, sci_tag *tag);
 uint8_t sci_write_tag(const sci_tag *tag, uint64_t *word);
 uint8_t sci_read_mem(uint64_t word, sci_mem *mem);
 uint8_t sci_write_mem(const sci_mem *mem, uint64_t *word);
+uint8_t sci_read_tag_layout1(uint64_t word, sci_tag *tag);
+uint8_t sci_write_tag_layout1(const sci_tag *tag, uint64_t *word);
+uint8_t sci_read_mem_layout1(uint64_t word, sci_mem *mem);
+uint8_t sci_write_mem_layout1(const sci_mem *mem, uint64_t *word);
 uint8_t sci_check_step(const sci_step *step);
 uint8_t sci_check_event(const sci_event *event);
 uint8_t sci_allows(uint16_t me, uint16_t nodes, const sci_step *step, const sci_line *own, const sci_event *event);

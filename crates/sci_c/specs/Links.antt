@@ -2,7 +2,8 @@
 use Rattle.std.specs.Prelude.{◌≡◌, ℕ, ◌==◌, Bool, true, ◌&&◌, cond, Option, Some, None}
 use Rattle.sci_words.specs.declared.tags.Tag.{Tag}
 use Rattle.sci_words.specs.declared.memory.Mem.{Mem}
-use Rattle.sci_words.specs.Codes.{tag_code, mem_code}
+use Rattle.sci_words.specs.declared.layouts.Layout.{Layout}
+use Rattle.sci_words.specs.Codes.{tag_code, mem_code, tag_code_in, mem_code_in, fits_tag_in, fits_mem_in}
 use Rattle.sci_words.specs.Tag.{tag_well_formed, tag_links_below}
 use Rattle.sci_words.specs.Mem.{mem_well_formed, mem_links_below}
 
@@ -34,3 +35,10 @@ IsTag w t = (tag_code t ≡ w) × (fits_tag t ≡ true)
 -- the word is the code of this memory word, in layout 2
 abbrev pub IsMem : ℕ → Mem → Type 0
 IsMem w m = (mem_code m ≡ w) × (fits_mem m ≡ true)
+
+-- the word is the code of this tag in this layout, or of this memory word
+abbrev pub IsTagIn : Layout → ℕ → Tag → Type 0
+IsTagIn l w t = (tag_code_in l t ≡ w) × (fits_tag_in l t ≡ true)
+
+abbrev pub IsMemIn : Layout → ℕ → Mem → Type 0
+IsMemIn l w m = (mem_code_in l m ≡ w) × (fits_mem_in l m ≡ true)

@@ -9,6 +9,7 @@ mod events;
 mod faults;
 mod lines;
 mod links;
+mod parts;
 mod rows;
 mod steps;
 mod table;

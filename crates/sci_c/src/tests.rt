@@ -4,7 +4,10 @@ use crate::lines::LineNumbers;
 use crate::rows::RowNumbers;
 use crate::steps::StepNumbers;
 use crate::table::{sci_allows, sci_check_event, sci_check_step, sci_exchange, sci_look};
-use crate::words::{TagNumbers, sci_read_tag, sci_write_tag};
+use crate::words::{
+    MemNumbers, TagNumbers, sci_read_mem, sci_read_mem_layout1, sci_read_tag, sci_read_tag_layout1,
+    sci_write_mem, sci_write_mem_layout1, sci_write_tag, sci_write_tag_layout1,
+};
 
 const ZERO: LineNumbers = LineNumbers {
     words: [0; 8],
@@ -162,4 +165,80 @@ fn a_row_a_look_and_a_word(rt: HostRuntime) {
         sci_write_tag(&tag, &mut word),
     ];
     assert!(rt; answers == [0, 0] && word == VALID && tag.back == 2);
+}
+
+fn tag(kind: u8, held: u8, forw: u16, back: u16) -> TagNumbers {
+    TagNumbers {
+        kind,
+        held,
+        forw,
+        back,
+    }
+}
+
+fn mem(state: u8, lent: u8, forw: u16) -> MemNumbers {
+    MemNumbers { state, lent, forw }
+}
+
+// Parts of a tag, its codes in layouts 1 and 2, and the answers of both writers.
+fn tag_rows() -> [(TagNumbers, [u64; 2], [u8; 2]); 7] {
+    [
+        (tag(7, 0, 0, 2), [0x2_0007, 0x2_0000_0007], [0, 0]),
+        (tag(9, 0, 65535, 254), [0xfe_ff09, 0xfe_ffff_0009], [0, 0]),
+        (
+            tag(2, 1, 65535, 65535),
+            [0xff_ff12, 0xffff_ffff_0012],
+            [0, 0],
+        ),
+        (tag(2, 0, 255, 65535), [0, 0xffff_00ff_0002], [2, 0]),
+        (tag(10, 2, 65535, 65535), [0, 0], [1, 1]),
+        (tag(7, 2, 65535, 65535), [0, 0], [2, 2]),
+        (tag(7, 0, 65535, 65535), [0, 0], [3, 3]),
+    ]
+}
+
+#[test]
+fn tags_in_both_layouts(rt: HostRuntime) {
+    for (parts, codes, answers) in tag_rows() {
+        let mut words = [0; 2];
+        let found = [
+            sci_write_tag_layout1(&parts, &mut words[0]),
+            sci_write_tag(&parts, &mut words[1]),
+        ];
+        assert!(rt; found == answers && words == codes, "at {parts:?}");
+        let mut read = [parts; 2];
+        let found = [
+            sci_read_tag_layout1(codes[0], &mut read[0]),
+            sci_read_tag(codes[1], &mut read[1]),
+        ];
+        let is_read = answers != [0, 0] || found == [0, 0];
+        assert!(rt; is_read && read == [parts; 2], "reading {parts:?}");
+    }
+}
+
+#[test]
+fn memory_words_in_both_layouts(rt: HostRuntime) {
+    for (parts, codes, answers) in [
+        (mem(0, 0, 65535), [0xff00, 0xffff_0000], [0, 0]),
+        (mem(2, 1, 254), [0xfe12, 0xfe_0012], [0, 0]),
+        (mem(1, 0, 255), [0, 0xff_0001], [2, 0]),
+        (mem(3, 2, 0), [0, 0], [1, 1]),
+        (mem(1, 2, 0), [0, 0], [2, 2]),
+        (mem(1, 0, 65535), [0, 0], [3, 3]),
+        (mem(0, 0, 254), [0, 0], [4, 4]),
+    ] {
+        let mut words = [0; 2];
+        let found = [
+            sci_write_mem_layout1(&parts, &mut words[0]),
+            sci_write_mem(&parts, &mut words[1]),
+        ];
+        assert!(rt; found == answers && words == codes, "at {parts:?}");
+        let mut read = [parts; 2];
+        let found = [
+            sci_read_mem_layout1(codes[0], &mut read[0]),
+            sci_read_mem(codes[1], &mut read[1]),
+        ];
+        let is_read = answers != [0, 0] || found == [0, 0];
+        assert!(rt; is_read && read == [parts; 2], "reading {parts:?}");
+    }
 }

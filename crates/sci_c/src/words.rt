@@ -1,15 +1,15 @@
-//! The exports of the words' codec, in layout 2.
+//! The exports of the words' codec.
 ghost use Rattle.std.specs.Prelude.{◌≡◌, IfOk, IfErr};
-ghost use Rattle.sci_words.specs.declared.tags.Tag as a_tag;
-ghost use Rattle.sci_words.specs.declared.memory.Mem as a_mem;
-ghost use Rattle.sci_words.specs.Codes.{kind_number, state_number};
-ghost use Rattle.sci_c.specs.Links.{IsTag, IsMem};
-ghost use Rattle.sci_c.specs.Words.{tag_numbers, mem_numbers, tag_sum, mem_sum, IsNoTag, IsNoMem, IsTagSum, IsMemSum, IsNoTagSum, IsNoMemSum};
+ghost use Rattle.sci_words.specs.declared.layouts.Layout.TheVariants.{One, Two};
+ghost use Rattle.sci_c.specs.Words.{IsTagOf, IsMemOf, IsNoTag, IsNoMem, AreNoTag, AreNoMem};
 ghost use Rattle.sci_c.specs.Asking.{Tells};
 
 use crate::faults::Fault;
-use crate::links::{bit, link_number};
-use sci_words::{Kind, MemState, WordRefusal, read_mem, read_tag};
+use crate::parts::{
+    mem_code, mem_numbers, mem_parts_refusal, read_mem, read_tag, tag_code, tag_numbers,
+    tag_parts_refusal,
+};
+use sci_words::Layout;
 
 /// A tag's parts.
 #[repr(C)]
@@ -37,54 +37,52 @@ pub struct MemNumbers {
     pub forw: u16,
 }
 
-fn kind_number(kind: Kind) -> u8
-    ensures { result ≡ kind_number kind }
+fn tag_of(layout: Layout, word: u64) -> Result<TagNumbers, Fault>
+    ensures ok { IfOk result (λ n. IsTagOf layout n word) }
+    ensures err { IfErr result (λ f. IsNoTag layout word f) }
 {
-    match kind {
-        Kind::Invalid => 0,
-        Kind::Queued => 1,
-        Kind::Fresh => 2,
-        Kind::Dirty => 3,
-        Kind::Convert => 4,
-        Kind::Purging => 5,
-        Kind::Leaving => 6,
-        Kind::Valid => 7,
-        Kind::Roll => 8,
-        Kind::Purged => 9,
+    match read_tag(layout, word) {
+        Ok(tag) => Ok(tag_numbers(&tag)),
+        Err(fault) => Err(fault),
     }
 }
 
-fn state_number(state: MemState) -> u8
-    ensures { result ≡ state_number state }
+fn tag_word(layout: Layout, parts: &TagNumbers) -> Result<u64, Fault>
+    ensures ok { IfOk result (λ w. IsTagOf layout parts.now w) }
+    ensures err { IfErr result (λ f. AreNoTag layout parts.now f) }
 {
-    match state {
-        MemState::Home => 0,
-        MemState::Fresh => 1,
-        MemState::Gone => 2,
+    match tag_parts_refusal(layout, parts) {
+        Some(refusal) => Err(Fault::Word(refusal)),
+        None => Ok(tag_code(layout, parts)),
     }
 }
 
-fn tag_of(word: u64) -> Result<TagNumbers, Fault>
-    ensures ok { IfOk result (λ n. (t : a_tag.Tag) × IsTag word t × (n ≡ tag_numbers t)) }
-    ensures err { IfErr result (λ f. IsNoTag word f) }
+fn mem_of(layout: Layout, word: u64) -> Result<MemNumbers, Fault>
+    ensures ok { IfOk result (λ n. IsMemOf layout n word) }
+    ensures err { IfErr result (λ f. IsNoMem layout word f) }
 {
-    match read_tag(word) {
-        Ok(tag) => Ok(TagNumbers {
-            kind: kind_number(tag.kind),
-            held: bit(tag.held),
-            forw: link_number(tag.forw),
-            back: link_number(tag.back),
-        }),
-        Err(refusal) => Err(Fault::Word(refusal)),
+    match read_mem(layout, word) {
+        Ok(mem) => Ok(mem_numbers(&mem)),
+        Err(fault) => Err(fault),
     }
 }
 
-/// Reads a tag's code. Refused 1 to 5, by the lowest that applies.
+fn mem_word(layout: Layout, parts: &MemNumbers) -> Result<u64, Fault>
+    ensures ok { IfOk result (λ w. IsMemOf layout parts.now w) }
+    ensures err { IfErr result (λ f. AreNoMem layout parts.now f) }
+{
+    match mem_parts_refusal(layout, parts) {
+        Some(refusal) => Err(Fault::Word(refusal)),
+        None => Ok(mem_code(layout, parts)),
+    }
+}
+
+/// Reads a tag's code in layout 2. Refused 1 to 5, by the lowest that applies.
 #[unsafe(no_mangle)]
 pub extern "C" fn sci_read_tag(word: u64, tag: &mut TagNumbers) -> u8
-    ensures { Tells result ((t : a_tag.Tag) × IsTag word t × (tag.new ≡ tag_numbers t)) (λ f. IsNoTag word f × (tag.new ≡ tag.old)) }
+    ensures { Tells result (IsTagOf Two tag.new word) (λ f. IsNoTag Two word f × (tag.new ≡ tag.old)) }
 {
-    match tag_of(word) {
+    match tag_of(Layout::Two, word) {
         Ok(numbers) => {
             *tag = numbers;
             0
@@ -93,30 +91,13 @@ pub extern "C" fn sci_read_tag(word: u64, tag: &mut TagNumbers) -> u8
     }
 }
 
-fn tag_sum(tag: &TagNumbers) -> Result<u64, Fault>
-    ensures ok { IfOk result (λ w. IsTagSum tag.now w) }
-    ensures err { IfErr result (λ f. IsNoTagSum tag.now f) }
-{
-    if tag.kind > 9 {
-        return Err(Fault::Word(WordRefusal::UnknownKind));
-    }
-    if tag.held > 1 {
-        return Err(Fault::Word(WordRefusal::SpareBits));
-    }
-    let low = u64::from(tag.kind) + 16 * u64::from(tag.held);
-    let word = low + 65536 * u64::from(tag.forw) + 4294967296 * u64::from(tag.back);
-    match read_tag(word) {
-        Ok(_) => Ok(word),
-        Err(refusal) => Err(Fault::Word(refusal)),
-    }
-}
-
-/// Writes a tag's code. Refused 1 to 5, where its parts are those of no tag, by the lowest that applies; 2 is a held bit above 1.
+/// Writes a tag's code in layout 2: that of which `sci_read_tag` reads these parts. Refused 1 to 5, where its parts are those of no
+/// tag, by the lowest that applies; 2 is a held bit above 1.
 #[unsafe(no_mangle)]
 pub extern "C" fn sci_write_tag(tag: &TagNumbers, word: &mut u64) -> u8
-    ensures { Tells result (IsTagSum tag.now word.new) (λ f. IsNoTagSum tag.now f × (word.new ≡ word.old)) }
+    ensures { Tells result (IsTagOf Two tag.now word.new) (λ f. AreNoTag Two tag.now f × (word.new ≡ word.old)) }
 {
-    match tag_sum(tag) {
+    match tag_word(Layout::Two, tag) {
         Ok(code) => {
             *word = code;
             0
@@ -125,26 +106,12 @@ pub extern "C" fn sci_write_tag(tag: &TagNumbers, word: &mut u64) -> u8
     }
 }
 
-fn mem_of(word: u64) -> Result<MemNumbers, Fault>
-    ensures ok { IfOk result (λ n. (m : a_mem.Mem) × IsMem word m × (n ≡ mem_numbers m)) }
-    ensures err { IfErr result (λ f. IsNoMem word f) }
-{
-    match read_mem(word) {
-        Ok(mem) => Ok(MemNumbers {
-            state: state_number(mem.state),
-            lent: bit(mem.lent),
-            forw: link_number(mem.forw),
-        }),
-        Err(refusal) => Err(Fault::Word(refusal)),
-    }
-}
-
-/// Reads a memory word's code. Refused 1 to 4, by the lowest that applies.
+/// Reads a memory word's code in layout 2. Refused 1 to 4, by the lowest that applies.
 #[unsafe(no_mangle)]
 pub extern "C" fn sci_read_mem(word: u64, mem: &mut MemNumbers) -> u8
-    ensures { Tells result ((m : a_mem.Mem) × IsMem word m × (mem.new ≡ mem_numbers m)) (λ f. IsNoMem word f × (mem.new ≡ mem.old)) }
+    ensures { Tells result (IsMemOf Two mem.new word) (λ f. IsNoMem Two word f × (mem.new ≡ mem.old)) }
 {
-    match mem_of(word) {
+    match mem_of(Layout::Two, word) {
         Ok(numbers) => {
             *mem = numbers;
             0
@@ -153,31 +120,71 @@ pub extern "C" fn sci_read_mem(word: u64, mem: &mut MemNumbers) -> u8
     }
 }
 
-fn mem_sum(mem: &MemNumbers) -> Result<u64, Fault>
-    ensures ok { IfOk result (λ w. IsMemSum mem.now w) }
-    ensures err { IfErr result (λ f. IsNoMemSum mem.now f) }
+/// Writes a memory word's code in layout 2: that of which `sci_read_mem` reads these parts. Refused 1 to 4, where its parts are those
+/// of no memory word, by the lowest that applies; 2 is a lent bit above 1.
+#[unsafe(no_mangle)]
+pub extern "C" fn sci_write_mem(mem: &MemNumbers, word: &mut u64) -> u8
+    ensures { Tells result (IsMemOf Two mem.now word.new) (λ f. AreNoMem Two mem.now f × (word.new ≡ word.old)) }
 {
-    if mem.state > 2 {
-        return Err(Fault::Word(WordRefusal::UnknownKind));
-    }
-    if mem.lent > 1 {
-        return Err(Fault::Word(WordRefusal::SpareBits));
-    }
-    let low = u64::from(mem.state) + 16 * u64::from(mem.lent);
-    let word = low + 65536 * u64::from(mem.forw);
-    match read_mem(word) {
-        Ok(_) => Ok(word),
-        Err(refusal) => Err(Fault::Word(refusal)),
+    match mem_word(Layout::Two, mem) {
+        Ok(code) => {
+            *word = code;
+            0
+        }
+        Err(fault) => fault.number(),
     }
 }
 
-/// Writes a memory word's code. Refused 1 to 4, where its parts are those of no memory word, by the lowest that applies; 2 is a lent
-/// bit above 1.
+/// Reads a tag's code in layout 1, that of old dumps. Refused 1 to 5, by the lowest that applies.
 #[unsafe(no_mangle)]
-pub extern "C" fn sci_write_mem(mem: &MemNumbers, word: &mut u64) -> u8
-    ensures { Tells result (IsMemSum mem.now word.new) (λ f. IsNoMemSum mem.now f × (word.new ≡ word.old)) }
+pub extern "C" fn sci_read_tag_layout1(word: u64, tag: &mut TagNumbers) -> u8
+    ensures { Tells result (IsTagOf One tag.new word) (λ f. IsNoTag One word f × (tag.new ≡ tag.old)) }
 {
-    match mem_sum(mem) {
+    match tag_of(Layout::One, word) {
+        Ok(numbers) => {
+            *tag = numbers;
+            0
+        }
+        Err(fault) => fault.number(),
+    }
+}
+
+/// Writes a tag's code in layout 1: that of which `sci_read_tag_layout1` reads these parts. Refused 1 to 5, where its parts are those
+/// of no tag, by the lowest that applies; 2 is a held bit above 1, or a link to a node from 255 on.
+#[unsafe(no_mangle)]
+pub extern "C" fn sci_write_tag_layout1(tag: &TagNumbers, word: &mut u64) -> u8
+    ensures { Tells result (IsTagOf One tag.now word.new) (λ f. AreNoTag One tag.now f × (word.new ≡ word.old)) }
+{
+    match tag_word(Layout::One, tag) {
+        Ok(code) => {
+            *word = code;
+            0
+        }
+        Err(fault) => fault.number(),
+    }
+}
+
+/// Reads a memory word's code in layout 1. Refused 1 to 4, by the lowest that applies.
+#[unsafe(no_mangle)]
+pub extern "C" fn sci_read_mem_layout1(word: u64, mem: &mut MemNumbers) -> u8
+    ensures { Tells result (IsMemOf One mem.new word) (λ f. IsNoMem One word f × (mem.new ≡ mem.old)) }
+{
+    match mem_of(Layout::One, word) {
+        Ok(numbers) => {
+            *mem = numbers;
+            0
+        }
+        Err(fault) => fault.number(),
+    }
+}
+
+/// Writes a memory word's code in layout 1: that of which `sci_read_mem_layout1` reads these parts. Refused 1 to 4, where its parts
+/// are those of no memory word, by the lowest that applies; 2 is a lent bit above 1, or a link to a node from 255 on.
+#[unsafe(no_mangle)]
+pub extern "C" fn sci_write_mem_layout1(mem: &MemNumbers, word: &mut u64) -> u8
+    ensures { Tells result (IsMemOf One mem.now word.new) (λ f. AreNoMem One mem.now f × (word.new ≡ word.old)) }
+{
+    match mem_word(Layout::One, mem) {
         Ok(code) => {
             *word = code;
             0
