@@ -1,22 +1,12 @@
 //! A log from a reader: its lines one after another, in one buffer.
 
 ghost use Rattle.std.specs.Prelude.{◌≡◌, OnOk, IfErr, IfSome};
-ghost use Rattle.std.specs.Str.Lines.{strip_carriage_return};
 ghost use Rattle.sci_follow.specs.Streams.{FollowsAll, StopsWith, without_end};
 
 use crate::logs::{Log, LogFault};
+use sci_script::without_return;
 use std::alloc::Global;
 use std::io::{BufRead, ErrorKind};
-
-/// A line without the one carriage return at its end.
-fn without_return(line: &[u8]) -> &[u8]
-    ensures { result.now ≡ strip_carriage_return line.now }
-{
-    match line {
-        [front @ .., b'\r'] => front,
-        _ => line,
-    }
-}
 
 /// A line without its line feed, and without a carriage return in front of that.
 fn without_end(line: &[u8]) -> &[u8]
