@@ -72,7 +72,7 @@ def calls_of(crate):
             if is_handed_on and (is_public or (is_trait and indent)):
                 text_of = signature(text, item.end())
                 call = f"{owner if indent else module}::{name}" if indent or module else name
-                found[call] = tuple(bool(re.search(it, text_of)) for it in (r"\b(Global|AllocGlobal)\b", r"\bWait\b", r"&mut self\b"))
+                found[call] = tuple(bool(re.search(it, text_of)) for it in (r"\b(Global|AllocGlobal)\b", r"(?<!<)\bWait\b", r"&mut self\b"))
     return found
 
 

@@ -73,6 +73,7 @@ RUNS = [
     ("follow", LOG, 1, REFUSED, nothing),
     ("follow", LOG.replace("Done 1 7", "Done 2 7"), 1, REFUSED, nothing),
     ("outcomes --most 100", "memory 1 1\nload 0 0 0\n", 4, REFUSED, nothing),
+    ("play --most 100", "memory 1 1\nload 0 0 0\n", 4, REFUSED, nothing),
     ("run", COUNT, 1, OR_NO_THREAD, nothing),
     ("run", STENCIL, 1, OR_NO_THREAD, nothing),
     ("run", RING, 1, OR_NO_THREAD, nothing),

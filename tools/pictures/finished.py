@@ -2,7 +2,7 @@
 
 import re
 
-from pages import ROOT, page_of
+from pages import EXAMPLES, ROOT, page_of, page_of_race
 
 PAGES = ROOT / "docs" / "pages"
 LINKED = re.compile(r"\]\((\w+)\.html\)")
@@ -14,7 +14,8 @@ def run(program, browser, room, is_check):
     there = {it.stem for it in PAGES.glob("*.html")}
     faults = []
     for name in wanted:
-        file, text = PAGES / f"{name}.html", page_of(program, name)
+        file = PAGES / f"{name}.html"
+        text = page_of(program, name) if (EXAMPLES / f"{name}.txt").exists() else page_of_race(program, name)
         if not is_check:
             file.write_text(text, encoding="utf-8")
         elif name in there and file.read_text(encoding="utf-8") != text:

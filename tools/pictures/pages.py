@@ -13,13 +13,18 @@ def page_of(program, name):
     return subprocess.run(words, check=True, stdout=subprocess.PIPE).stdout.decode()
 
 
-def page_of_text(program, text):
-    """Returns the page of a script."""
-    return subprocess.run([program, "draw"], check=True, input=text.encode(), stdout=subprocess.PIPE).stdout.decode()
+def page_of_race(program, name):
+    """Returns the page of the states of an example's open calls."""
+    return page_of_text(program, (EXAMPLES / f"{name}.race").read_text(encoding="utf-8"), "play")
+
+
+def page_of_text(program, text, command="draw"):
+    """Returns the page that a command makes of a script."""
+    return subprocess.run([program, command], check=True, input=text.encode(), stdout=subprocess.PIPE).stdout.decode()
 
 
 def browse(browser, room, words):
     """Runs the browser, and returns what it wrote to its standard output and error."""
-    front = [browser, "--headless", "--no-sandbox", "--disable-gpu", "--hide-scrollbars", "--window-size=1280,900", f"--user-data-dir={room}/browser"]
+    front = [browser, "--headless", "--no-sandbox", "--disable-gpu", "--disable-ipc-flooding-protection", "--hide-scrollbars", "--window-size=1280,900", f"--user-data-dir={room}/browser"]
     done = subprocess.run([*front, *words], check=True, stdout=subprocess.PIPE, stderr=subprocess.PIPE, timeout=300)
     return done.stdout.decode(), done.stderr.decode(errors="replace")

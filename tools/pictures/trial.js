@@ -37,6 +37,7 @@ function look(turn) {
   const isMany = row !== null && row.querySelectorAll("td.k:not(.k-INVALID)").length > 17;
   expect((drawn === null) === isMany, `turn ${turn} has ${isMany ? "a" : "no"} picture`);
   if (row) inSight(row, turn);
+  if (row) counted(row, turn);
   if (drawn) measure(drawn, turn);
   if (drawn) arrows(row, drawn, turn);
 }
@@ -46,6 +47,28 @@ function arrows(row, drawn, turn) {
   const waits = row === null ? [] : [...row.querySelectorAll(".below .wait")].filter(it => /\d/.test(it.textContent));
   const drawnWaits = drawn.querySelectorAll("path.waits").length - 1;
   expect(drawnWaits === waits.length, `turn ${turn} has ${drawnWaits} arrows for ${waits.length} that wait`);
+  const titles = all("#grid th").map(it => it.textContent), places = new Map();
+  for (const box of drawn.querySelectorAll("g[class^='k-']")) places.set(/memory|node \d+/.exec(box.querySelector(".head").textContent)[0], box.querySelector(".box"));
+  const ends = [...drawn.querySelectorAll("path.waits")].map(it => it.getAttribute("d").match(/-?[\d.]+/g).map(Number));
+  for (const it of waits) {
+    const from = places.get(titles[it.closest("td").cellIndex]), to = places.get("node " + /\d+/.exec(it.textContent)[0]);
+    expect(ends.some(way => isAt(from, way[0], way[1]) && isAt(to, way[way.length - 2], way[way.length - 1])), `turn ${turn} has no arrow for ${it.textContent}`);
+  }
+}
+
+// Whether a point is at a box.
+function isAt(box, x, y) {
+  const [left, top, width, height] = ["x", "y", "width", "height"].map(name => Number(box.getAttribute(name)));
+  return x > left - 6 && x < left + width + 6 && y > top - 6 && y < top + height + 6;
+}
+
+// Bytes count in valid copies, and nowhere else but in memory that isn't GONE; what is only kept in hand is told apart.
+function counted(row, turn) {
+  for (const cell of row.querySelectorAll("td.k")) {
+    const bytes = cell.querySelector(".below s"), kind = /k-(\w+)/.exec(cell.className)[1], isValid = /^(FRESH|DIRTY|VALID|CONVERT|PURGING|HOME)$/.test(kind);
+    const right = isValid ? ["good", "hand", "stale"].slice(0, cell.cellIndex === 3 ? 3 : 1) : /QUEUED|LEAVING/.test(kind) ? ["hand", "stale"] : ["stale", "hand"];
+    expect(bytes.textContent === "" || right.includes(bytes.className), `at turn ${turn} ${cell.textContent} has bytes that are ${bytes.className}`);
+  }
 }
 
 function inSight(row, turn) {
@@ -94,7 +117,7 @@ function scripts() {
   const comment = /^# .*?(\n# .*?)*?\.$/m.exec(trialScript)[0].replace(/\n?# /g, " ").trim();
   expect(one("h1").textContent === comment, `its title is ${one("h1").textContent}`);
   const beside = all("#grid .command").map(it => it.textContent).filter(it => it).join("; ").split("; ");
-  const acts = trialScript.split("\n").filter(it => /^(load|store|add|evict|turn|done) /.test(it));
+  const acts = trialScript.split("\n").filter(it => /^(load|store|add|evict|turn|done|rest|end)\b/.test(it));
   expect(acts.length === 0 || beside.join() === acts.join(), `beside its turns stands ${beside.slice(0, 3)}`);
 }
 

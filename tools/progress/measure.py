@@ -1,10 +1,13 @@
-"""What is left to do on a line, as crates/sci_core/specs/Costs.antt has it: `differing` compares the two."""
+"""What is left to do on a line, and how far it is from rest, as crates/sci_core/specs/Costs.antt and crates/sci_ops/specs/Ranking.antt
+have it: `differing` compares the numbers, and the steps that stir."""
 import pathlib
 import re
 
 from states import part
 
-COSTS = pathlib.Path(__file__).resolve().parents[2] / 'crates/sci_core/specs/Costs.antt'
+CRATES = pathlib.Path(__file__).resolve().parents[2] / 'crates'
+COSTS, RANKING = CRATES / 'sci_core/specs/Costs.antt', CRATES / 'sci_ops/specs/Ranking.antt'
+STIRS = re.compile(r'(?m)^stirs \(Pending\.(\w+).* = true$')
 LINE = re.compile(r'(?m)^(of_kind|of_step|cost) \(?(?:(?:Kind|Pending|Event)\.)?(\w+)(.*) = (\d+)$')
 
 OF_KIND = {'Fresh': 3, 'Dirty': 3, 'Valid': 3}
@@ -13,7 +16,7 @@ OF_STEP = {'Idle': 0, 'Holding': 1, 'Queueing': 8, 'Fetching': 7, 'InQueue': 6, 
 # before its flag is set, and behind it
 OF_FLAG = {'Converting': (6, 5), 'Rolling': (3, 2)}
 COST = {'Queue': 9, 'Hold': 2, 'Convert': 4, 'BeginPurge': 2, 'Roll': 1, 'Leave': 6, 'Requeue': 1, 'Adopt': 1, 'Look': 1}
-STALES = ('Queueing', 'Leaving', 'Promoted', 'Converting', 'Purging', 'Advancing', 'Clearing')
+STIRRING = ('Queueing', 'Leaving', 'Promoted', 'Converting', 'Purging', 'Advancing', 'Clearing')
 
 
 def differing():
@@ -25,7 +28,8 @@ def differing():
     here = {(name, case, None): number for name, table in (('of_kind', OF_KIND), ('of_step', OF_STEP), ('cost', COST)) for case, number in table.items()}
     here |= {('of_step', case, flag): numbers[flag == 'true'] for case, numbers in OF_FLAG.items() for flag in ('false', 'true')}
     here |= {('of_kind', '_', None): 0, ('cost', '_', None): 0}
-    return sorted(map(str, said.items() ^ here.items()))
+    stirring = set(STIRS.findall(RANKING.read_text(encoding='utf-8'))) ^ set(STIRRING)
+    return sorted(map(str, said.items() ^ here.items())) + sorted(stirring)
 
 
 def of_step(step):
@@ -49,4 +53,4 @@ def stale(state):
 
 def ranking(state):
     """What each turn of a node that isn't Idle lowers, if it doesn't wait: at most n * n + 9 * n."""
-    return measure(state) + len(state.tags) * sum(step.phase in STALES for step in state.steps) + stale(state)
+    return measure(state) + len(state.tags) * sum(step.phase in STIRRING for step in state.steps) + stale(state)

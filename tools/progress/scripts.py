@@ -1,11 +1,14 @@
 """Scripts by chance, and what the program must print of them by the rows and the table of turns."""
 import random
+import re
 import subprocess
 
 from states import opened
-from turns import GOALS, WAITS, turn
+from turns import ENDS, GOALS, WAITS, mover, turn, waits_for
 
 COMMANDS = {'load': 'load {} 0 0', 'write': 'add {} 0 0 1', 'evict': 'evict {} 0'}
+TURN = re.compile(r'# node (\d+) line \d+ [^:]*: (\w+)[^;]*; ([^;]*); [^;]*?(?:; for node (\d+))?$')
+NAMES = {'only': ENDS}      # a turn without an exchange that doesn't wait `only looked`
 LAST = {'load': ('Settle', 'Unhold'), 'write': ('Written',), 'evict': ('Left', 'Rolled', 'ends')}
 
 
@@ -13,7 +16,7 @@ class Play:
     """A script as it grows, with the state that it leads to and what it prints. Word 0 is as often added to as the line's stamp says."""
 
     def __init__(self, nodes):
-        self.state, self.stamp, self.goals = opened(nodes), 0, {}
+        self.state, self.stamp, self.goals, self.turns = opened(nodes), 0, {}, []
         self.script, self.printed, self.states = [f'memory {nodes} 1'], [], set()
 
     def begin(self, node, goal):
@@ -21,16 +24,51 @@ class Play:
         self.goals[node] = goal
         self.script.append(COMMANDS[goal].format(node))
 
-    def take(self, node):
-        """One turn of the node's call."""
-        goal = self.goals[node]
+    def step(self, node, goal):
+        """One turn towards a goal. What it came to."""
         event, self.state = turn(self.state, node, goal)
         self.states.add(self.state)
-        self.script.append(f'turn {node}')
-        if event == WAITS:
-            self.printed.append(f'node {node} waits')
-        elif event in LAST[goal]:
+        self.turns.append((node, event, waits_for(self.state, node) if event == WAITS else None))
+        return event
+
+    def take(self, node):
+        """One turn of the node's call, which may be its last. What it came to."""
+        event = self.step(node, self.goals[node])
+        if event in LAST[self.goals[node]]:
             self.end(node, self.goals.pop(node))
+        return event
+
+    def turn(self, node):
+        """The command of that name."""
+        self.script.append(f'turn {node}')
+        if self.take(node) == WAITS:
+            self.printed.append(f'node {node} waits')
+
+    def done(self, node):
+        """The command of that name, of a call that doesn't wait."""
+        while node in self.goals:
+            assert self.take(node) != WAITS
+
+    def calm(self):
+        """To rest, by turns of movers, as loads take them: at most n * n + 9 * n of n nodes."""
+        before, nodes = len(self.turns), len(self.state.tags)
+        while (node := mover(self.state)) is not None:
+            self.step(node, 'load')
+        assert self.state.at_rest() and len(self.turns) - before <= nodes * nodes + 9 * nodes
+
+    def rest(self):
+        """The command of that name."""
+        self.script.append('rest')
+        self.calm()
+
+    def finish(self):
+        """The command `end`: no call waits, and each ends within 3 * n + 16 turns."""
+        self.script.append('end')
+        self.calm()
+        for node in sorted(self.goals):
+            before = len(self.turns)
+            self.done(node)
+            assert len(self.turns) - before <= 3 * len(self.state.tags) + 16
 
     def end(self, node, goal):
         """The answer of a call that has ended."""
@@ -40,26 +78,50 @@ class Play:
 
 
 def by_chance(nodes, turns, seed):
-    """A script of so many turns."""
+    """A script of so many commands, the last of which is `rest` or `end`; so are some on the way."""
     chance, play = random.Random(seed), Play(nodes)
     for _ in range(turns):
         node = chance.randrange(nodes)
+        if chance.random() < 0.02:
+            chance.choice((play.rest, play.finish))()
         if node not in play.goals:
             play.begin(node, chance.choice(GOALS))
-        play.take(node)
+        play.turn(node)
+    chance.choice((play.rest, play.finish))()
     return play
 
 
+def said(program, form, text):
+    """What the program prints of a script in this form, line by line, and its status."""
+    ran = subprocess.run([program, form], input=text, capture_output=True, text=True, check=False)
+    return ran.stdout.splitlines(), ran.returncode
+
+
+def turn_told(found):
+    """The node, its exchange, WAITS or ENDS, and whom it waits for, of a turn's line in a trace."""
+    return int(found[1]), NAMES.get(found[2], found[2]), found[4] and int(found[4])
+
+
+def agrees_on(program, play):
+    """Whether the program prints what it must of a script, and takes the same turns, those towards rest too: each of that node, with
+    that exchange, or a wait for that node. Behind the last of them every step is Idle."""
+    text = ''.join(f'{line}\n' for line in play.script)
+    traced, status = said(program, 'trace', text)
+    told = [found for row in traced if (found := TURN.match(row))]
+    steps = {found[1]: found[3] for found in told}
+    if [turn_told(found) for found in told] != play.turns or set(steps.values()) != {'Idle'}:
+        return False
+    return (play.printed, 0) == said(program, 'script', text) and not status
+
+
 def agrees(program, nodes=3, turns=200, scripts=100):
-    """Whether the program prints what it must, of so many scripts."""
+    """Whether the program does what it must, of so many scripts."""
     states = set()
     for seed in range(scripts):
         play = by_chance(nodes, turns, seed)
         states |= play.states
-        text = ''.join(f'{line}\n' for line in play.script)
-        said = subprocess.run([program, 'script'], input=text, capture_output=True, text=True, check=False)
-        if said.returncode or said.stdout.splitlines() != play.printed:
-            print(f'progress: the program prints something else of script {seed}:\n{text}')
+        if not agrees_on(program, play):
+            print(f'progress: the program does something else of script {seed}:', *play.script, sep='\n')
             return False
     print(f'progress: the program agrees on {scripts} scripts of {turns} turns, which lead through {len(states)} states')
     return True

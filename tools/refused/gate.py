@@ -54,11 +54,17 @@ def by_all(call):
     return lambda given, jobs: call(given, most or jobs)
 
 
+def nearly_all(waiting):
+    """Returns whether four of five wait."""
+    waiting = [*waiting]
+    return 5 * sum(waiting) >= 4 * len(waiting)
+
+
 def hastened(tasks):
     """Returns the proofs that all others wait for, but those below them, each by more jobs: beside such a one there would be next to
     nothing to do."""
     proofs = {key: it for key, it in tasks.items() if key[1] == "proof"}
-    first = [key for key, (waits, *_) in proofs.items() if all(key in it[0] for other, it in proofs.items() if other not in (key, *waits))]
+    first = [key for key, (waits, *_) in proofs.items() if nearly_all(key in it[0] for other, it in proofs.items() if other not in (key, *waits))]
     return {key: (*tasks[key][:3], by_all(tasks[key][3])) for key in first}
 
 

@@ -24,8 +24,9 @@ plain Rust program that reads it, looks at the same rules and makes the lists; t
 
 Then, how long `scisim run` takes over a stencil, by the number of its threads, and over a ring, beside plain Rust with a Mutex round
 each line (mutex) and beside a lean body of the same rows (lean): processor time with all threads on one processor, where it repeats,
-the best of N runs, and from start to end on all processors, the median; in turn. All must print the same. Where valgrind is
-installed, how many instructions a call of the stencil takes, by one thread.
+the best of N runs, and from start to end on all processors, the median; in turn. All read the same settings and must print the
+same: `scisim` reads them by `toml`, as any TOML, and the peers by splitting, which reads only what is written here; how long each
+reads those of the ring is told apart. Where valgrind is installed, how many instructions a call of the stencil takes, by one thread.
 
 Last, how many operations a second threads make, each by a seat of its own, and by the same operation again while it waits:
 additions of 1 to word 0 of a line, and loads of a line. The project's program (tools/speed/operations) is built beside copies of

@@ -16,28 +16,32 @@ CALLS = 4 * TILES * PHASES - 2 * PHASES
 
 
 def stencil(nodes, phases=PHASES):
-    """The settings of a stencil, and the arguments of the peers."""
+    """The settings of a stencil."""
     cells = ", ".join(str(cell) for cell in range(7 * TILES))
-    text = f'work = "stencil"\nnodes = {nodes}\ncapacity = {CAPACITY}\nphases = {phases}\ncells = [{cells}]\n'
-    return text, ["stencil", TILES, phases, nodes]
+    return f'work = "stencil"\nnodes = {nodes}\ncapacity = {CAPACITY}\nphases = {phases}\ncells = [{cells}]\n'
 
 
-def ring():
+def ring(lines=LINES):
+    """The settings of a ring; those of 0 lines are read, and refused."""
     items = ", ".join(str(3 * item) for item in range(ITEMS))
-    text = f'work = "ring"\nlines = {LINES}\ncapacity = {CAPACITY}\nitems = [{items}]\n'
-    return text, ["ring", ITEMS, LINES]
+    return f'work = "ring"\nlines = {lines}\ncapacity = {CAPACITY}\nitems = [{items}]\n'
 
 
-def run(command, processors):
+def commands(program, peer, settings):
+    """The program and the peers over these settings, by name."""
+    return {"scisim": [program, "run", settings]} | ({name: [peer, name, settings] for name in ("lean", "mutex")} if peer else {})
+
+
+def run(command, processors, wanted=0):
     """A run on these processors: seconds from its start to its end, seconds of processor time, and what it prints."""
     words = [str(word) for word in command]
     begun = time.perf_counter()
-    child = subprocess.Popen(words, stdout=subprocess.PIPE, preexec_fn=lambda: os.sched_setaffinity(0, processors))
+    child = subprocess.Popen(words, stdout=subprocess.PIPE, stderr=subprocess.DEVNULL, preexec_fn=lambda: os.sched_setaffinity(0, processors))
     text = child.stdout.read()
     _, status, used = os.wait4(child.pid, 0)
     took = time.perf_counter() - begun
-    if status:
-        sys.exit(f"{' '.join(words)} ended with {status}")
+    if os.waitstatus_to_exitcode(status) != wanted:
+        sys.exit(f"{' '.join(words)} ended with {os.waitstatus_to_exitcode(status)}")
     return took, used.ru_utime + used.ru_stime, text
 
 
@@ -68,15 +72,21 @@ def measure_calls(folder, program, peer):
         return
     totals = {}
     for phases in (0, PHASES):
-        text, words = stencil(1, phases)
         settings = folder / f"settings-{phases}.toml"
-        settings.write_text(text)
-        commands = {"scisim": [program, "run", settings]}
-        if peer:
-            commands |= {"lean": [peer, "lean", *words], "mutex": [peer, "mutex", *words]}
-        totals[phases] = {name: instructions(command) for name, command in commands.items()}
+        settings.write_text(stencil(1, phases))
+        totals[phases] = {name: instructions(command) for name, command in commands(program, peer, settings).items()}
     each = {name: (totals[PHASES][name] - totals[0][name]) / CALLS for name in totals[0]}
     print("\ninstructions a call of the stencil, one thread: " + ", ".join(f"{name} {count:.0f}" for name, count in each.items()), flush=True)
+
+
+def measure_reading(folder, program, peer, runs, processors):
+    """Milliseconds in which the ring's settings are read: by the program, which refuses them then, and by the peers."""
+    settings = folder / "refused.toml"
+    settings.write_text(ring(0))
+    taken = [min(run([program, "run", settings], processors, 1)[1] for _ in range(runs))]
+    if peer:
+        taken.append(min(run([peer, "read", settings], processors)[1] for _ in range(runs)))
+    print("of the ring, its settings read: " + ", ".join(f"{1000 * one:.1f}" for one in taken) + (" by the peers" if peer else ""), flush=True)
 
 
 def measure_all(folder, program, peer, runs):
@@ -86,16 +96,14 @@ def measure_all(folder, program, peer, runs):
     everywhere = os.sched_getaffinity(0)
     ways = [("one", {min(everywhere)}, lambda pairs: min(used for _, used in pairs))]
     ways.append(("all", everywhere, lambda pairs: statistics.median(took for took, _ in pairs)))
-    for name, nodes, (text, words) in [*(("stencil", nodes, stencil(nodes)) for nodes in (1, 2, 4)), ("ring", 2, ring())]:
+    for name, nodes, text in [*(("stencil", nodes, stencil(nodes)) for nodes in (1, 2, 4)), ("ring", 2, ring())]:
         settings = folder / "settings.toml"
         settings.write_text(text)
-        commands = {"scisim": [program, "run", settings]}
-        if peer:
-            commands |= {"lean": [peer, "lean", *words], "mutex": [peer, "mutex", *words]}
         for way, processors, pick in ways:
-            best = {name: 1000 * pick(pairs) for name, pairs in measure(commands, runs, processors).items()}
+            best = {one: 1000 * pick(pairs) for one, pairs in measure(commands(program, peer, settings), runs, processors).items()}
             row = f"{name:9}{nodes:>8}{way:>5}{best['scisim']:>9.1f}"
             if peer:
                 row += f"{best['lean']:>9.1f}{best['mutex']:>9.1f}{best['scisim'] / best['lean']:>15.2f}{best['scisim'] / best['mutex']:>16.2f}"
             print(row, flush=True)
+    measure_reading(folder, program, peer, runs, {min(everywhere)})
     measure_calls(folder, program, peer)

@@ -27,6 +27,7 @@ import dumps
 import histories
 import logs
 import outcomes
+import reasons
 import runs
 import scripts
 import settings
@@ -38,7 +39,7 @@ from kinds import CLOSED, FOLDER, FULL, UNREAD
 from kinds import Begins, Broken, Crowded, Drawn, Filled, Lawful, Little, Page, Traced, WholePage
 
 PROGRAM = os.path.realpath(sys.argv[1] if sys.argv[1:] else HOME / "crates/sci_sim/out/sci_sim")
-TABLES = [scripts, caches, sizes, cuts, shortages, traces, dumps, histories, logs, outcomes, runs, settings]
+TABLES = [scripts, reasons, caches, sizes, cuts, shortages, traces, dumps, histories, logs, outcomes, runs, settings]
 # The files that lie where the program runs; `folder` is a folder.
 FILES = scripts.FILES | dumps.FILES | histories.FILES | outcomes.FILES | runs.FILES
 # How long a file may be that an output fills.
@@ -192,6 +193,16 @@ def shortened(room):
     return [([it[0]], it[1], shortages.faults(serve, low, *it)) for it in shortages.SERVED]
 
 
+def mixed(room):
+    """What is wrong with the order of a talk's answers and reasons, which both go to one file."""
+    with open(f"{room}/both", "w+b") as both:
+        given = bytes_of(reasons.SAID)
+        status = subprocess.run([PROGRAM, "talk", "--why"], input=given, stdout=both, stderr=both, cwd=room, timeout=120).returncode
+        both.seek(0)
+        said = both.read().decode()
+    return [] if (status, said) == (0, reasons.MIXED) else [f"with both streams in one file it says {said!r}"]
+
+
 def main():
     passed, failed = 0, 0
     cases = [it for table in TABLES for it in table.CASES]
@@ -202,6 +213,7 @@ def main():
         told = [(arguments, given, fails((arguments, given, *rest), room)) for arguments, given, *rest in cases]
         told += [(["script", "trace", "draw"], script, differs(script, room)) for script in scripts.ALIKE + traces.ALIKE]
         told += shortened(room)
+        told += [(["talk", "--why"], reasons.SAID, mixed(room))]
         told += [(arguments, given, passes((arguments, given, *rest), room)) for arguments, given, *rest in wrongs.CASES]
         told += wrongs.short()
     for arguments, given, wrong in told:

@@ -1,4 +1,4 @@
-"""What `outcomes` lists of the calls that a script leaves open."""
+"""What `outcomes` lists of the calls that a script leaves open, and when `play` writes a page of their states."""
 
 from kinds import AT_LIMIT, CLOSED, FOLDER, FULL, READ, UNREAD, USAGE, WRITE
 from kinds import Begins, Broken, Filled, Little, refused
@@ -9,8 +9,16 @@ MANY = "scisim: too many states\n"
 # A node names one line: before it loads the other, it is to leave the first.
 VICTIM = "memory 1 2\ncapacity 1\nload 0 0 0\ndone 0\nload 0 1 3\n"
 STORE_AND_LOADS = "memory 3 1\nstore 0 0 0 5\nload 1 0 0\nload 2 0 0\n"
-LOADS_OF_FIVE = "memory 5 1\n" + "".join(f"load {node} 0 0\n" for node in range(5))
+LOADS_OF_FIVE, LOADS_OF_SIX = (f"memory {count} 1\n" + "".join(f"load {node} 0 0\n" for node in range(count)) for count in (5, 6))
 SHARERS = "memory 3 1\n" + "".join(f"load {node} 0 0\ndone {node}\n" for node in range(3))
+
+
+# Six loads have 488,518 states: without --most it is the 100,001st that is one too many, before 80,000 are visited.
+def visited(command):
+    return "".join(f"scisim: {command}: {count} states\n" for count in (20000, 40000, 60000))
+
+
+PAGE = "<!DOCTYPE html>\n<html lang=\"en\">\n"
 
 FILES = {"race": LOAD, "-race": LOAD}
 
@@ -40,6 +48,7 @@ CASES = [
     (["outcomes"], SHARERS + "store 0 0 0 5\nevict 1 0\nevict 2 0\n", 0, Begins("states 627\noutcomes 1\n\n"), ""),
     (["outcomes"], LOADS_OF_FIVE, 0, Begins("states 36167\noutcomes 120\n\n"), "scisim: outcomes: 20000 states\n"),
     (["outcomes", "--most", "638"], STORE_AND_LOADS, 1, "", MANY),
+    (["outcomes"], LOADS_OF_SIX, 1, "", visited("outcomes") + MANY),
     (["outcomes"], "", 1, "", refused("16 at line 1")),
     (["outcomes"], "memory 1 1\nload 0 0 0\nload 0 0 0\n", 1, "", refused("16 at line 3")),
     (["outcomes"], "memory 2 1\nload 0 0 0\nturn 0\nturn 0\nload 1 0 0\ndone 1\n", 1, "", refused("18 at line 6")),
@@ -56,5 +65,23 @@ CASES = [
     (["outcomes"], LOAD, 1, Filled(LOADED[:-1]), WRITE),
     (["outcomes", "--most", "4"], LOAD, 1, "", CLOSED),
     (["outcomes", "race", "race"], LOAD, 2, "", USAGE),
+    (["play"], LOAD, 0, Begins(PAGE), ""),
+    (["play", "race"], "", 0, Begins(PAGE), ""),
+    (["play", "--most", "5"], LOAD, 0, Begins(PAGE), ""),
+    (["play", "--most", "4"], LOAD, 1, "", MANY),
+    (["play", "--most", "x"], LOAD, 2, "", USAGE),
+    (["play"], "memory 1 1\n", 0, Begins(PAGE), ""),
+    (["play"], LOADS_OF_FIVE, 0, Begins(PAGE), "scisim: play: 20000 states\n"),
+    (["play"], LOADS_OF_SIX, 1, "", visited("play") + MANY),
+    (["play"], "", 1, "", refused("16 at line 1")),
+    (["play"], "memory 1 1\nload 0 0 0\nload 0 0 0\n", 1, "", refused("16 at line 3")),
+    (["play"], AT_LIMIT + " ", 1, "", refused("23")),
+    (["play"], Little(SHARERS + "store 0 0 0 5\nstore 1 0 0 6\nstore 2 0 0 7\n"), 1, "", refused("7")),
+    (["play", "missing"], LOAD, 1, "", READ),
+    (["play"], CLOSED, 1, "", READ),
+    (["play"], LOAD, 1, CLOSED, WRITE),
+    (["play"], LOAD, 1, FULL, WRITE),
+    (["play", "race", "race"], LOAD, 2, "", USAGE),
+    (["play", "--help"], "", 0, Begins("Writes a page on which you pick whose turn it is\n\nUsage: scisim play [OPTIONS] [FILE]\n"), ""),
     (["outcomes", "--help"], "", 0, Begins("Lists every outcome of the calls that a script leaves open\n\nUsage: scisim outcomes [OPTIONS] [FILE]\n"), ""),
 ]

@@ -62,6 +62,7 @@ Scripts:
   trace     Runs a script, and says of each turn what it did
   draw      Runs a script, and writes a page that shows each turn
   outcomes  Lists every outcome of the calls that a script leaves open
+  play      Writes a page on which you pick whose turn it is
   talk      Answers a script's commands one by one
 
 Workloads:
@@ -121,6 +122,15 @@ CASES = [
     (["script"], "memory 1 1\nload 0 0 0\nload 0 0 0", 1, "", refused("16 at line 3")),
     (["script"], "memory 1 1\nlist 0\nopen 0 0 0 0 0 0 0 0 0 0", 1, "", refused("16 at line 3")),
     (["script"], UNENDED, 1, "node 0 wrote stamp 1\n", refused("18 at line 7")),
+    (
+        ["script"],
+        UNENDED.replace("done 1\n", "rest\nend\nrest\nend\n"),
+        0,
+        "node 0 wrote stamp 1\nnode 0 wrote stamp 2\nnode 1 read 6 stamp 2\n",
+        "",
+    ),
+    (["script"], "memory 1 1\nrest 0", 1, "", refused("16 at line 2")),
+    (["script"], "memory 1 1\nlist 0\nend 0", 1, "", refused("16 at line 3")),
     (["script"], "memory 1 2\ncapacity 1\nresidents 0\n", 0, "node 0 residents\n", ""),
     (["script"], "memory 1 2\ncapacity 0\n", 1, "", refused("17 at line 2")),
     (["script", "limit"], "", 1, "", refused("16 at line 2")),
@@ -137,7 +147,7 @@ CASES = [
     (["script", "missing"], "", 1, "", CLOSED),
     (["script", "row", "row"], ROW, 2, "", USAGE),
     (["script", "--nonsense"], ROW, 2, "", USAGE),
-    (["script", "--help"], "", 0, Begins("Runs a script and prints its text\n\nUsage: scisim script [FILE]\n"), ""),
+    (["script", "--help"], "", 0, Begins("Runs a script and prints its text\n\nUsage: scisim script [OPTIONS] [FILE]\n"), ""),
 ]
 
 SCRIPTS = [it for it in CASES if it[0][:1] == ["script"] and it[0] != ["script", "--help"]]
@@ -163,7 +173,7 @@ CASES += [
     (["draw"], "memory 1 1\n", 0, WholePage(""), ""),
     (["draw"], "memory 1 1\nlist 0\n", 0, WholePage("line 0 HOME\n"), ""),
     (["draw"], ONE_TURN, 0, Begins("<!DOCTYPE html>\n"), ""),
-    (["draw", "--help"], "", 0, Begins("Runs a script, and writes a page that shows each turn\n\nUsage: scisim draw [FILE]\n"), ""),
+    (["draw", "--help"], "", 0, Begins("Runs a script, and writes a page that shows each turn\n\nUsage: scisim draw [OPTIONS] [FILE]\n"), ""),
 ]
 
 TALKED = (
@@ -187,7 +197,7 @@ CASES += [
     (["talk"], ROW, 0, Filled(TALKED), ""),
     (["talk"], ROW, 1, Filled(TALKED[:-1]), WRITE),
     (["talk", "row"], ROW, 2, "", USAGE),
-    (["talk", "--help"], "", 0, Begins("Answers a script's commands one by one\n\nUsage: scisim talk\n"), ""),
+    (["talk", "--help"], "", 0, Begins("Answers a script's commands one by one\n\nUsage: scisim talk [OPTIONS]\n"), ""),
 ]
 
 # Scripts that end in each way: `trace` and `draw` do with them what `script` does.

@@ -1,15 +1,15 @@
 //! Four nodes add on one line: over a whole line, turn about, and over a line on separate words, in threads.
 #![tactic(auto)]
 
-ghost use Rattle.std.specs.Prelude.{◌≡◌, All, IfOk, IsTrue};
+ghost use Rattle.std.specs.Prelude.{◌≡◌, All, IsTrue};
 ghost use Rattle.sci_core.specs.declared.pending.Pending.TheVariants.{Idle};
 ghost use Rattle.sci_fine.specs.Seats.{IsSeatOf};
 
 use crossbeam_utils::Backoff;
-use sci_core::{AnyWords, Closed, Line, OpenRefusal, Pending, Whole};
+use sci_core::{AnyWords, Closed, Line, Pending, Whole};
 use sci_fine::{FineLine, FinePort, Seat};
 use sci_ops::{Answer, Op, Turn};
-use sci_words::{MemState, NodeId};
+use sci_words::NodeId;
 use std::alloc::Global;
 use std::process::ExitCode;
 use std::sync::Wait;
@@ -113,50 +113,19 @@ fn all_add<R: Threads + Wait + Sync>(
 fn are_idle(seats: &[Seat<AnyWords>]) -> bool
     ensures { IsTrue result → All (λ s. s.standing.pending ≡ Idle) seats.now }
 {
-    for seat in seats {
-        if !matches!(seat.pending(), Pending::Idle) {
-            return false;
-        }
-    }
-    true
-}
-
-/// A line, and a seat of it for each node.
-fn opened(alloc: Global) -> Result<(FineLine<AnyWords>, Vec<Seat<AnyWords>>), OpenRefusal>
-    ensures { IfOk result (λ r. All (λ s. IsSeatOf r.0 s) r.1.items) }
-{
-    let (line, seats) = FineLine::new(alloc, NODES, 0, Line::ZERO, AnyWords)?;
-    Ok((line, seats))
-}
-
-/// The line at rest.
-fn close(alloc: Global, line: FineLine<AnyWords>, seats: Vec<Seat<AnyWords>>) -> Option<Closed>
-    requires seats { All (λ s. IsSeatOf line s) seats.items }
-    requires rest { All (λ s. s.standing.pending ≡ Idle) seats.items }
-{
-    line.finish(alloc, seats).ok()
+    seats
+        .iter()
+        .all(|seat| matches!(seat.pending(), Pending::Idle))
 }
 
 /// The line at rest after the additions of all nodes.
 fn over_fine<R: Threads + Wait + Sync>(rt: &R, alloc: Global) -> Option<Closed> {
-    let (line, mut seats) = opened(alloc).ok()?;
+    let (line, mut seats) = FineLine::new(alloc, NODES, 0, Line::ZERO, AnyWords).ok()?;
     all_add(rt, &line, seats.as_mut_slice());
     if !are_idle(&seats) {
         return None;
     }
-    close(alloc, line, seats)
-}
-
-/// Word 0 of a line at rest: the head has it where memory's may be stale.
-fn word_of(closed: &Closed) -> u64 {
-    let head = match (closed.mem.state, closed.mem.forw) {
-        (MemState::Gone, Some(head)) => closed.lines.get(usize::from(head.get())),
-        _ => None,
-    };
-    match head {
-        Some(line) => line.words[0],
-        None => closed.memory.words[0],
-    }
+    line.finish(alloc, seats).ok()
 }
 
 fn main(rt: HostRuntime) -> ExitCode {
@@ -166,7 +135,7 @@ fn main(rt: HostRuntime) -> ExitCode {
     let Some(closed) = over_fine(&rt, rt.alloc()) else {
         return ExitCode::from(1);
     };
-    let counted = word_of(&closed);
+    let counted = closed.value().words[0];
     let printed = println!(rt;
         "one after another: node 0 sees {word}, and the list has {entries} nodes\nin threads: {counted}"
     );

@@ -11,5 +11,6 @@ mod waiting;
 
 pub use calls::OpenCall;
 pub use node::Node;
+pub use ports::turn_at;
 pub use refusals::NodeRefusal;
 pub use requests::Request;

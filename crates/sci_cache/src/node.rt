@@ -80,9 +80,10 @@ impl Node {
         self.call.is_some()
     }
 
-    /// The call that is open.
+    /// The call that is open. The line at work is one of the memory's.
     pub fn open_call(&self) -> Option<OpenCall>
-        ensures { result ≡ self.now.call }
+        ensures call { result ≡ self.now.call }
+        ensures below { IfSome result (λ c. line_by c.victim c.line < self.now.lines) }
     {
         let open = self.call;
         open

@@ -10,9 +10,9 @@ use sci_ops::{Op, Turn};
 use sci_port::{At, Bank};
 use sci_words::LineNo;
 
-/// One turn of the operation on the line, over the bank's port to it.
+/// One turn of the operation on the line, over the bank's port to it: `Op::turn`. The other lines' steps stay.
 #[inline(always)]
-pub(crate) fn turn_at<B: Bank>(bank: &mut B, line: LineNo, op: &mut Op) -> Turn
+pub fn turn_at<B: Bank>(bank: &mut B, line: LineNo, op: &mut Op) -> Turn
     requires line { line < (B.way bank.old).lines }
     requires fits { StoresFitting (B.Keep.fits (B.keep bank.old) line) op.old.goal }
     ensures calls { Takes (λ s call t. B.gives s line call t) (turn_of op.old (B.way bank.old).node (B.at_step bank.old line)) bank.old result bank.new }

@@ -7,6 +7,8 @@ use Rattle.sci_core.specs.declared.lines.Line.{Line}
 use Rattle.sci_core.specs.declared.pending.Pending.{Pending}
 use Rattle.sci_port.specs.declared.calls.Call.{Call}
 use Rattle.sci_port.specs.Owes.{Owes}
+use Rattle.sci_port.specs.Readying.{Readying, Readies, no_receipts}
+use Rattle.sci_port.specs.ReceiptList.{ReceivesIfRoom}
 use Rattle.sci_coarse.specs.declared.line.CoarseLine.{CoarseLine}
 use Rattle.sci_coarse.specs.declared.seats.Seat.{Seat}
 use Rattle.sci_coarse.specs.Regions.{Came}
@@ -26,13 +28,24 @@ pub record HasMade {K : Type 0} {g : keeps.Ghosts K} (fits : K → ℕ → List 
   pub came : Came fits s.standing.terms s.token.me.0 call t.token.me.0
   pub owes : Owes s.standing.terms.nodes (fits s.standing.terms.keep s.standing.terms.number) s.node s.standing.pending call t.standing.pending
 
+-- and its receipts have what the call leaves in them, where there is room
+abbrev pub HasReceived : {K : Type 0} {g : keeps.Ghosts K} → Seat K g → Call → Seat K g → Type 0
+HasReceived s call t = ReceivesIfRoom s.standing.pending call s.receipts t.receipts
+
+-- the seat's receipts were readied, and nothing else
+pub record HasReadied {K : Type 0} {g : keeps.Ghosts K} (s : Seat K g) (r : Readying) (t : Seat K g) : Type 0 where
+  pub token : t.token ≡ s.token
+  pub node : t.node ≡ s.node
+  pub standing : t.standing ≡ s.standing
+  pub receipts : Readies r s.receipts t.receipts
+
 -- the seat at k is that of the node k + from on this line, and Idle
 abbrev pub AreIdleFrom : {K : Type 0} {g : keeps.Ghosts K} → CoarseLine K → ℕ → List (Seat K g) → Type 0
 AreIdleFrom {K} {g} l from seats = (k : ℕ) (s : Seat K g) → get_elem? seats k ≡ some s → IsSeatOf l s × (s.node ≡ k + from) × (s.standing.pending ≡ Pending.Idle)
 
--- no seat has made a call
+-- no seat has made a call, and none has receipts
 abbrev pub AreNew : {K : Type 0} {g : keeps.Ghosts K} → List (Seat K g) → Type 0
-AreNew {K} {g} seats = (k : ℕ) (s : Seat K g) → get_elem? seats k ≡ some s → HasMadeNone s.token.me.0
+AreNew {K} {g} seats = (k : ℕ) (s : Seat K g) → get_elem? seats k ≡ some s → HasMadeNone s.token.me.0 × (s.receipts ≡ no_receipts)
 
 -- the line has n nodes, this number, this opening, and this fact
 pub record HasTerms {K : Type 0} (l : CoarseLine K) (n m : ℕ) (line : Line) (k : K) : Type 0 where
@@ -40,10 +53,6 @@ pub record HasTerms {K : Type 0} (l : CoarseLine K) (n m : ℕ) (line : Line) (k
   pub number : l.terms.number ≡ m
   pub opening : l.terms.opening ≡ line
   pub keep : l.terms.keep ≡ k
-
--- each seat is one of this very line, and Idle
-abbrev pub AreIdle : {K : Type 0} {g : keeps.Ghosts K} → CoarseLine K → List (Seat K g) → Type 0
-AreIdle {K} {g} l seats = (k : ℕ) (s : Seat K g) → get_elem? seats k ≡ some s → IsSeatOf l s × (s.standing.pending ≡ Pending.Idle)
 
 -- the seat is that of the node k, at a line of this number
 abbrev pub SitsAt : {K : Type 0} {g : keeps.Ghosts K} → ℕ → ℕ → Seat K g → Type 0

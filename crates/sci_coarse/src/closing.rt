@@ -1,9 +1,9 @@
 //! How a line is closed, and its seats with it.
-ghost use Rattle.std.specs.Prelude.{◌≡◌, ℕ, ◌↔◌, ◌<◌, ◌≤◌, Some, false, IsTrue, IfOk, IfErr, [], vec_len, vec_capacity};
+ghost use Rattle.std.specs.Prelude.{◌≡◌, ℕ, ◌↔◌, ◌<◌, ◌≤◌, Some, false, All, IsTrue, IfOk, IfErr, [], vec_len, vec_capacity};
 ghost use Rattle.sci_core.specs.declared.pending.Pending.TheVariants.{Idle};
 ghost use Rattle.sci_core.specs.Whole.{nodes_of, state_of};
 ghost use Rattle.sci_coarse.specs.Rule.{IsOn, IsLawfulWhole};
-ghost use Rattle.sci_coarse.specs.Seats.{AreIdle, AreIdleFrom, IsOnePerNode, IsRightRefusal, SitsAt};
+ghost use Rattle.sci_coarse.specs.Seats.{AreIdleFrom, IsOnePerNode, IsRightRefusal, IsSeatOf, SitsAt};
 ghost use Rattle.sci_coarse.specs.Ends.{IsEnd, IsRun, KeepsLogs};
 
 use crate::line::CoarseLine;
@@ -58,7 +58,8 @@ impl<K: Keeps> CoarseLine<K> {
     /// Idle. The refusals: 9 where they are not one per node in order with this line's number, then 7 where memory ran out.
     /// Both hand the line and the seats back.
     pub fn finish(self, alloc: Global, seats: Vec<Seat<K>>) -> Result<Closed, FinishRefusal<K>>
-        requires { AreIdle self seats.items }
+        requires seats { All (λ s. IsSeatOf self s) seats.items }
+        requires rest { All (λ s. s.standing.pending ≡ Idle) seats.items }
         ensures seats { IfOk result (λ _. IsOnePerNode self seats.items) }
         ensures ok { IfOk result (λ c. IsEnd K.fits self.terms seats.items c) }
         ensures err { IfErr result (λ e. (e.line ≡ self) × (e.seats ≡ seats) × IsRightRefusal self seats.items e.refusal) }
@@ -94,12 +95,14 @@ impl<K: Keeps> CoarseLine<K> {
             token: mut root,
             node: _,
             standing: _,
+            receipts: _,
         } = seats.remove(0);
         while let Some(seat) = seats.pop() {
             let Seat {
                 token,
                 node: _,
                 standing: _,
+                receipts: _,
             } = seat;
             self.table.shared.join_seat::<Together>(&mut root, token);
         }

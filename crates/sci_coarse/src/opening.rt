@@ -1,9 +1,10 @@
 //! How a line is made, with its seats.
-ghost use Rattle.std.specs.Prelude.{◌≡◌, ◌<◌, ◌≤◌, ◌⊎◌, ◌↔◌, ℕ, Some, false, [], IfOk, vec_len, vec_capacity};
+ghost use Rattle.std.specs.Prelude.{◌≡◌, ◌<◌, ◌≤◌, ◌⊎◌, ◌↔◌, ℕ, Some, false, [], All, IfOk, vec_len, vec_capacity};
 ghost use Rattle.sci_core.specs.declared.pending.Pending.TheVariants.{Idle};
 ghost use Rattle.sci_core.specs.declared.whole.TheConstants.{MOST_NODES};
+ghost use Rattle.sci_port.specs.Readying.{no_receipts};
 ghost use Rattle.sci_coarse.specs.Rule.{IsLawfulWhole, opened_on};
-ghost use Rattle.sci_coarse.specs.Seats.{AreIdleFrom, AreNew, HasTerms};
+ghost use Rattle.sci_coarse.specs.Seats.{AreIdleFrom, AreNew, HasTerms, IsSeatOf};
 ghost use Rattle.sci_coarse.specs.Views.{first_view};
 
 use crate::line::CoarseLine;
@@ -12,11 +13,12 @@ use crate::standing::Standing;
 use crate::views::{Apart, Terms};
 use atomic_table::Table;
 use sci_core::{Keeps, Line, MOST_NODES, OpenRefusal, Whole};
+use sci_port::Receipts;
 use sci_words::{LineNo, NodeId};
 use std::alloc::{AllocError, Global};
 
-// A seat in no step.
-fn idle_seat<K: Keeps>(token: Token<K>, node: NodeId, terms: Terms<K>) -> Seat<K>
+// A seat in no step, without receipts.
+fn idle_seat<K: Keeps>(alloc: Global, token: Token<K>, node: NodeId, terms: Terms<K>) -> Seat<K>
     requires of { token.me.0.of ≡ Some terms }
     requires view { (token.me.0.node ≡ node) × (token.me.0.pending ≡ Idle) × (token.me.0.joined ≡ terms.nodes) × (token.me.0.holds ≡ false) }
     requires hand { token.me.1 ≡ [] }
@@ -24,11 +26,13 @@ fn idle_seat<K: Keeps>(token: Token<K>, node: NodeId, terms: Terms<K>) -> Seat<K
     ensures token { result.token ≡ token }
     ensures node { result.node ≡ node }
     ensures standing { (result.standing.terms ≡ terms) × (result.standing.pending ≡ Idle) }
+    ensures receipts { result.receipts ≡ no_receipts }
 {
     Seat {
         token,
         node,
         standing: Standing::idle(terms),
+        receipts: Receipts::new(alloc),
     }
 }
 
@@ -44,7 +48,7 @@ fn node_of(number: u16) -> NodeId
 }
 
 impl<K: Keeps> CoarseLine<K> {
-    /// A line that nobody has used, HOME, with `line` in every slot, and its seats, node i's at place i. The refusals: 6 for
+    /// A line that nobody has used, HOME, with `line` in every slot, and its seats, node i's at place i, without receipts. The refusals: 6 for
     /// 0 or more than 1,024 nodes, then 7 where memory ran out.
     pub fn new(
         alloc: Global,
@@ -58,6 +62,8 @@ impl<K: Keeps> CoarseLine<K> {
         ensures terms { IfOk result (λ r. HasTerms r.0 nodes number line keep) }
         ensures seats { IfOk result (λ r. (vec_len r.1 ≡ nodes) × AreIdleFrom r.0 0 r.1.items) }
         ensures new { IfOk result (λ r. AreNew r.1.items) }
+        ensures own { IfOk result (λ r. All (λ s. IsSeatOf r.0 s) r.1.items) }
+        ensures rest { IfOk result (λ r. All (λ s. s.standing.pending ≡ Idle) r.1.items) }
     {
         if nodes == 0 || nodes > MOST_NODES {
             return Err(OpenRefusal::BadNodes);
@@ -72,7 +78,7 @@ impl<K: Keeps> CoarseLine<K> {
         let Ok((line, root)) = CoarseLine::open(alloc, terms) else {
             return Err(OpenRefusal::OutOfMemory);
         };
-        line.seat_all(root, &mut seats);
+        line.seat_all(alloc, root, &mut seats);
         Ok((line, seats))
     }
 
@@ -107,7 +113,7 @@ impl<K: Keeps> CoarseLine<K> {
     }
 
     // Makes all seats, in room that was taken before.
-    fn seat_all(&self, mut root: Token<K>, seats: &mut Vec<Seat<K>>)
+    fn seat_all(&self, alloc: Global, mut root: Token<K>, seats: &mut Vec<Seat<K>>)
         requires of { root.table_id ≡ self.now.table.shared.table_id }
         requires view { root.me ≡ (first_view self.now.terms, []) }
         requires room { (seats.old.items ≡ []) × (vec_len seats.old ≡ 0) × (self.now.terms.nodes ≤ vec_capacity seats.old) }
@@ -117,9 +123,9 @@ impl<K: Keeps> CoarseLine<K> {
     {
         for number in 1..self.terms.nodes {
             let token = self.table.shared.split_seat::<Apart>(&mut root);
-            seats.push_reserved(idle_seat(token, node_of(number), self.terms));
+            seats.push_reserved(idle_seat(alloc, token, node_of(number), self.terms));
         }
-        let first = idle_seat(root, node_of(0), self.terms);
+        let first = idle_seat(alloc, root, node_of(0), self.terms);
         if seats.insert(0, first).is_err() {
             unreachable!();
         }

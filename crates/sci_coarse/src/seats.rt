@@ -3,17 +3,19 @@ ghost use Rattle.std.specs.Prelude.{◌≡◌, ◌<◌, Some, false, []};
 
 use crate::standing::Standing;
 use crate::views::View;
-use sci_core::{Keeps, Pending, Whole};
+use sci_core::{Keeps, Pending, Receipt, Whole};
+use sci_port::Receipts;
 use sci_words::{LineNo, NodeId};
 
 pub(crate) type Token<K> = atomic_table::Seat<Whole<K>, View<K>>;
 
-/// One node's seat at one line: the right to take its steps there. A line has one for each node.
+/// One node's seat at one line: the right to take its steps there, and the node's receipts. A line has one for each node.
 #[derive(Drop)]
 pub struct Seat<K: Keeps> {
     pub(crate) token: Token<K>,
     pub(crate) node: NodeId,
     pub(crate) standing: Standing<K>,
+    pub(crate) receipts: Receipts,
     ghost of: { token.me.0.of ≡ Some standing.terms },
     ghost seen: { (token.me.0.node ≡ node) × (token.me.0.pending ≡ standing.pending) × (token.me.0.joined ≡ standing.terms.nodes) × (token.me.0.holds ≡ false) },
     ghost hand: { token.me.1 ≡ [] },
@@ -40,5 +42,12 @@ impl<K: Keeps> Seat<K> {
         ensures { result ≡ self.now.standing.pending }
     {
         self.standing.pending()
+    }
+
+    /// The node's receipts there, in order: what its steps showed it and what it wrote, as far as there was room for them.
+    pub fn receipts(&self) -> &[Receipt]
+        ensures { result.now ≡ self.now.receipts.list }
+    {
+        self.receipts.as_slice()
     }
 }

@@ -14,6 +14,7 @@ pub fn take_for_good<K: Keeps>(line: &CoarseLine<K>, seat: Seat<K>) -> bool
         mut token,
         node: _,
         standing: _,
+        receipts: _,
     } = seat;
     line.take(&mut token)
 }

@@ -36,3 +36,4 @@ pub mod Filling
 pub mod Moving
 pub mod Making
 pub mod Resting
+pub mod Values

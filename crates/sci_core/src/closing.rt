@@ -1,14 +1,16 @@
 //! A line once nobody uses it any more.
-ghost use Rattle.std.specs.Prelude.{◌≡◌, ℕ, ◌<◌, ◌≤◌, [], IfOk, length, map, vec_capacity};
+ghost use Rattle.std.specs.Prelude.{◌≡◌, ◌≢◌, ℕ, ◌<◌, ◌≤◌, [], List, IfOk, Contains, length, map, slice_index_or, vec_capacity};
+ghost use Rattle.sci_words.specs.declared.memory.MemState.TheVariants.{Gone};
 ghost use Rattle.sci_core.specs.declared.pending.Pending.TheVariants.{Idle};
-ghost use Rattle.sci_core.specs.Closed.{IsExactClosed, IsReadOff};
+ghost use Rattle.sci_core.specs.Closed.{IsExactBy, IsExactClosed, IsReadOff, value_of};
+ghost use Rattle.sci_core.specs.State.{blank};
 ghost use Rattle.sci_core.specs.Step.{line_in};
 ghost use Rattle.sci_core.specs.Whole.{nodes_of, state_of};
 
 use crate::keeps::Keeps;
 use crate::lines::Line;
 use crate::whole::Whole;
-use sci_words::{Mem, Tag};
+use sci_words::{Mem, NodeId, Tag};
 use std::alloc::{AllocError, Global};
 use std::marker::Model;
 
@@ -30,6 +32,32 @@ impl Model for Closed {
     ghost view = { λ c. record { mem = c.mem; memory = c.memory; tags = c.tags.items; lines = c.lines.items } };
 
     ghost invariant = { λ c. IsClosed record { mem = c.mem; memory = c.memory; tags = c.tags.items; lines = c.lines.items } };
+}
+
+impl Closed {
+    // What stands in the node's slot; zeros where there is no such node.
+    fn line_of(&self, node: NodeId) -> Line
+        ensures { result ≡ slice_index_or self.now.lines node blank }
+    {
+        match self.lines.get(usize::from(node.get())) {
+            Some(line) => *line,
+            None => Line::ZERO,
+        }
+    }
+
+    /// What the line holds, its words and their stamp: the bytes of the list's first node, or memory's where there is no list; zeros where
+    /// memory's word names no node of the line. In an exact sharing list each node has it, and memory, but under GONE. All else
+    /// that stands in a slot may be stale.
+    pub fn value(&self) -> Line
+        ensures value { result ≡ value_of self.now }
+        ensures shared { (nodes : List ℕ) → IsExactBy self.now nodes → (i : ℕ) → Contains nodes i → slice_index_or self.now.lines i blank ≡ result }
+        ensures memory { IsExactClosed self.now → self.now.mem.state ≢ Gone → self.now.memory ≡ result }
+    {
+        match self.mem.forw {
+            None => self.memory,
+            Some(head) => self.line_of(head),
+        }
+    }
 }
 
 // Copies, in room that was taken before.

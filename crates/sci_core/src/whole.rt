@@ -95,6 +95,11 @@ impl<K: Keeps> Whole<K> {
         })
     }
 
+    /// The allocator that its memory came from.
+    pub fn allocator(&self) -> Global {
+        *self.tags.allocator()
+    }
+
     /// How many nodes there are, 1 to 1,024. What stands is lawful, here and between any two calls.
     pub fn nodes(&self) -> u16
         ensures nodes { result ≡ nodes_of self.now }

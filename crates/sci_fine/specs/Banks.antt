@@ -8,17 +8,17 @@ use Rattle.atomic_table.specs.Seated.{table_id_coded}
 use Rattle.sci_core.specs.declared.keeps.Keeps as keeps
 use Rattle.sci_port.specs.Seated.{Seated}
 use Rattle.sci_port.specs.SeatBanks as shared
-use Rattle.sci_port.specs.SeatBanks.{IsShared, LineTerms, Seating, content_coded}
+use Rattle.sci_port.specs.SeatBanks.{IsKept, IsShared, LineTerms, Seating, content_coded}
 use Rattle.sci_fine.specs.declared.line.FineLine.{FineLine}
 use Rattle.sci_fine.specs.declared.seats.Seat.{Seat}
 use Rattle.sci_fine.specs.declared.views.Terms.{Terms}
-use Rattle.sci_fine.specs.Seats.{IsSeatOf, HasMade}
+use Rattle.sci_fine.specs.Seats.{IsSeatOf, HasMade, HasReadied, HasReceived}
 
 abbrev pub terms_of : {K : Type 0} → Terms K → LineTerms K
 terms_of t = record { nodes = t.nodes; number = t.number; keep = t.keep }
 
 abbrev pub seating_of : {K : Type 0} {g : keeps.Ghosts K} → Seat K g → Seating K
-seating_of s = record { terms = terms_of s.standing.terms; node = s.standing.node; pending = s.standing.pending }
+seating_of s = record { terms = terms_of s.standing.terms; node = s.standing.node; pending = s.standing.pending; receipts = s.receipts }
 
 -- the line numbered k, of so many nodes and under this fact
 abbrev pub IsLine : {K : Type 0} → ℕ → K → ℕ → FineLine K → Type 0
@@ -55,11 +55,23 @@ seat_of_prop c l s = ×_prop (Coded-set table_id_coded s.token.table_id l.table.
 
 -- what every line that threads share owes of its seats
 pub laws_of_seats : {K : Type 0} {g : keeps.Ghosts K} (fits : K → ℕ → List ℕ → Type 0)
-    → IsShared fits (λ (l : FineLine K). terms_of l.terms) (λ (s : Seat K g). seating_of s) (λ (l : FineLine K) (s : Seat K g). IsSeatOf l s) (λ s call t. HasMade fits s call t)
+    → IsShared fits (λ (l : FineLine K). terms_of l.terms) (λ (s : Seat K g). seating_of s) (λ (l : FineLine K) (s : Seat K g). IsSeatOf l s) (λ s call t. HasMade fits s call t × HasReceived s call t)
 laws_of_seats {K} {g} fits = record {
   same_terms = λ l s of. ap (λ (t : Terms K). terms_of t) of.1;
   below = λ l s of. subst (λ (n : ℕ). s.standing.node < n) (ap (λ (t : Terms K). t.nodes) of.1) s.below;
-  stays = λ l s call t of made. (made.same.0 ∙ of.0, made.same.3 ∙ of.1);
-  same_node = λ s call t made. made.same.2;
-  owes = λ s call t made. made.owes;
+  stays = λ l s call t of made. (made.0.same.0 ∙ of.0, made.0.same.3 ∙ of.1);
+  same_node = λ s call t made. made.0.same.2;
+  owes = λ s call t made. made.0.owes;
+}
+
+-- and of their receipts
+pub kept_of_seats : {K : Type 0} {g : keeps.Ghosts K} (fits : K → ℕ → List ℕ → Type 0)
+    → IsKept (λ (s : Seat K g). seating_of s) (λ (l : FineLine K) (s : Seat K g). IsSeatOf l s) (λ s call t. HasMade fits s call t × HasReceived s call t) (λ s r t. HasReadied s r t)
+kept_of_seats {K} {g} fits = record {
+  receives = λ s call t made. made.1;
+  stays = λ l s r t of made. (ap (λ z. z.table_id) made.token ∙ of.0, ap (λ z. z.terms) made.standing ∙ of.1);
+  same_terms = λ s r t made. ap (λ z. terms_of z.terms) made.standing;
+  same_node = λ s r t made. ap (λ z. z.node) made.standing;
+  same_step = λ s r t made. ap (λ z. z.pending) made.standing;
+  leaves = λ s r t made. made.receipts;
 }

@@ -1,12 +1,13 @@
 //! The line as a node's bank takes it, by the node's seats.
-ghost use Rattle.sci_fine.specs.Banks.{laws_of_seats, seat_of_prop, seating_of, terms_of};
-ghost use Rattle.sci_fine.specs.Seats.{IsSeatOf, HasMade};
+ghost use Rattle.sci_fine.specs.Banks.{kept_of_seats, laws_of_seats, seat_of_prop, seating_of, terms_of};
+ghost use Rattle.sci_fine.specs.Seats.{IsSeatOf, HasMade, HasReadied, HasReceived};
 
 use crate::line::FineLine;
 use crate::seats::Seat;
 use sci_core::{Event, Keeps, Outcome, Pending, Stage};
-use sci_port::{SeatBank, SharedLine};
+use sci_port::{Receipts, SeatBank, SharedLine};
 use sci_words::{LineNo, Mem, NodeId, Tag};
+use std::alloc::AllocError;
 
 /// A node's ports to the lines of a memory, by its seat at each. A call on a line is that of the line's port, and leaves every
 /// other seat as it is.
@@ -29,9 +30,13 @@ impl<K: Keeps> SharedLine for FineLine<K> {
 
     ghost is_fact = { λ c l s. seat_of_prop c l s };
 
-    ghost makes = { λ s call t. HasMade K.fits s call t };
+    ghost makes = { λ s call t. HasMade K.fits s call t × HasReceived s call t };
+
+    ghost readies = { λ s r t. HasReadied s r t };
 
     ghost laws = { laws_of_seats K.fits };
+
+    ghost kept = { kept_of_seats K.fits };
 
     fn nodes(&self) -> u16 {
         self.terms.nodes
@@ -77,5 +82,17 @@ impl<K: Keeps> SharedLine for FineLine<K> {
     #[inline(always)]
     fn step(&self, seat: &mut Seat<K>, event: Event) -> Outcome {
         seat.step(self, &event)
+    }
+
+    fn seat_reserve(seat: &mut Seat<K>, n: usize) -> Result<(), AllocError> {
+        seat.receipts.reserve(n)
+    }
+
+    fn seat_receipts(seat: &Seat<K>) -> &Receipts {
+        &seat.receipts
+    }
+
+    fn seat_aim(seat: &mut Seat<K>, passing: bool) {
+        seat.receipts.aim(passing);
     }
 }

@@ -1,10 +1,10 @@
 //! How a line is closed, and its seats with it.
-ghost use Rattle.std.specs.Prelude.{◌≡◌, ℕ, ◌↔◌, ◌+◌, ◌<◌, ◌≤◌, Some, List, ◌∷◌, length, IsTrue, IfOk, IfErr, vec_len, vec_capacity};
+ghost use Rattle.std.specs.Prelude.{◌≡◌, ℕ, ◌↔◌, ◌+◌, ◌<◌, ◌≤◌, Some, List, ◌∷◌, length, All, IsTrue, IfOk, IfErr, vec_len, vec_capacity};
 ghost use Rattle.sci_core.specs.declared.whole.TheConstants.{MOST_NODES};
 ghost use Rattle.sci_port.specs.declared.calls.Call as a_call;
 ghost use Rattle.std.specs.Slots.{slots_items, slots_len, IsFull};
 ghost use Rattle.sci_core.specs.declared.pending.Pending.TheVariants.{Idle};
-ghost use Rattle.sci_fine.specs.Seats.{AreIdle, AreIdleFrom, IsOnePerNode, IsRightRefusal, SitsAt, logs_of};
+ghost use Rattle.sci_fine.specs.Seats.{AreIdleFrom, IsOnePerNode, IsRightRefusal, IsSeatOf, SitsAt, logs_of};
 ghost use Rattle.sci_fine.specs.Rule.{lies_at};
 ghost use Rattle.sci_fine.specs.Ends.{IsEnd, IsAtRest};
 
@@ -97,7 +97,8 @@ impl<K: Keeps> FineLine<K> {
     /// Idle. The refusals: 9 where they are not one per node in order with this line's number, then 7 where memory ran out.
     /// Both hand the line and the seats back.
     pub fn finish(self, alloc: Global, seats: Vec<Seat<K>>) -> Result<Closed, FinishRefusal<K>>
-        requires { AreIdle self seats.items }
+        requires seats { All (λ s. IsSeatOf self s) seats.items }
+        requires rest { All (λ s. s.standing.pending ≡ Idle) seats.items }
         ensures seats { IfOk result (λ _. IsOnePerNode self seats.items) }
         ensures ok { IfOk result (λ c. IsEnd K.fits self.terms (logs_of seats.items) c) }
         ensures err { IfErr result (λ e. (e.line ≡ self) × (e.seats ≡ seats) × IsRightRefusal self seats.items e.refusal) }
@@ -132,9 +133,14 @@ impl<K: Keeps> FineLine<K> {
         let Seat {
             token: mut root,
             standing: _,
+            receipts: _,
         } = seats.remove(0);
         while let Some(seat) = seats.pop() {
-            let Seat { token, standing: _ } = seat;
+            let Seat {
+                token,
+                standing: _,
+                receipts: _,
+            } = seat;
             self.table.shared.join_seat::<Together>(&mut root, token);
         }
         root

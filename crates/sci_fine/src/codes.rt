@@ -39,6 +39,7 @@ pub(crate) fn slot_of(place: &Place) -> usize
     }
 }
 
+#[inline(always)]
 fn code_of_tag(tag: &Tag) -> u64
     requires { IsTrue (tag_well_formed tag.now) }
     ensures code { result ≡ tag_code tag.now }
@@ -47,6 +48,7 @@ fn code_of_tag(tag: &Tag) -> u64
     write_tag(*tag)
 }
 
+#[inline(always)]
 fn code_of_mem(mem: &Mem) -> u64
     requires { IsTrue (mem_well_formed mem.now) }
     ensures code { result ≡ mem_code mem.now }
@@ -56,6 +58,7 @@ fn code_of_mem(mem: &Mem) -> u64
 }
 
 // The number of the word of a change, and its codes before and after.
+#[inline(always)]
 pub(crate) fn codes(change: &Change) -> (usize, u64, u64)
     requires formed { FindsWellFormed change.now × LeavesWellFormed change.now }
     ensures number { result.0 ≡ place_of change.now }

@@ -1,12 +1,13 @@
 //! How a line is made, with its seats.
-ghost use Rattle.std.specs.Prelude.{◌≡◌, ◌<◌, ◌≤◌, ◌⊎◌, ◌↔◌, ℕ, ◌+◌, Some, None, [], IfOk, replicate, set, vec_len, vec_capacity};
+ghost use Rattle.std.specs.Prelude.{◌≡◌, ◌<◌, ◌≤◌, ◌⊎◌, ◌↔◌, ℕ, ◌+◌, Some, None, [], All, IfOk, replicate, set, vec_len, vec_capacity};
 ghost use Rattle.sci_words.specs.Codes.{tag_code, mem_code};
 ghost use Rattle.sci_words.specs.declared.memory.MemState.TheVariants.{Home};
 ghost use Rattle.sci_core.specs.State.{invalid, memory_word};
 ghost use Rattle.sci_core.specs.declared.pending.Pending.TheVariants.{Idle};
 ghost use Rattle.sci_core.specs.declared.whole.TheConstants.{MOST_NODES};
+ghost use Rattle.sci_port.specs.Readying.{no_receipts};
 ghost use Rattle.sci_fine.specs.Rule.{lies_at};
-ghost use Rattle.sci_fine.specs.Seats.{AreIdleFrom, AreNew, HasTerms};
+ghost use Rattle.sci_fine.specs.Seats.{AreIdleFrom, AreNew, HasTerms, IsSeatOf};
 ghost use Rattle.sci_fine.specs.Views.{first_view};
 
 use crate::codes::lies_at;
@@ -16,11 +17,12 @@ use crate::standing::Standing;
 use crate::views::{Apart, Terms};
 use atomic_table::Table;
 use sci_core::{Keeps, Line, MOST_NODES, OpenRefusal};
+use sci_port::Receipts;
 use sci_words::{Kind, LineNo, Mem, MemState, NodeId, Tag, write_mem, write_tag};
 use std::alloc::{AllocError, Global};
 
-// A seat in no step.
-fn idle_seat<K: Keeps>(token: Token<K>, node: NodeId, terms: Terms<K>) -> Seat<K>
+// A seat in no step, without receipts.
+fn idle_seat<K: Keeps>(alloc: Global, token: Token<K>, node: NodeId, terms: Terms<K>) -> Seat<K>
     requires of { token.me.0.of ≡ Some terms }
     requires view { (token.me.0.node ≡ node) × (token.me.0.pending ≡ Idle) × (token.me.0.joined ≡ terms.nodes) × (token.me.0.logs ≡ []) }
     requires hand { token.me.1 ≡ [] }
@@ -28,10 +30,12 @@ fn idle_seat<K: Keeps>(token: Token<K>, node: NodeId, terms: Terms<K>) -> Seat<K
     requires fits { K.fits terms.keep terms.number terms.opening.words }
     ensures token { result.token ≡ token }
     ensures standing { (result.standing.terms ≡ terms) × (result.standing.node ≡ node) × (result.standing.pending ≡ Idle) }
+    ensures receipts { result.receipts ≡ no_receipts }
 {
     Seat {
         token,
         standing: Standing::idle(terms, node),
+        receipts: Receipts::new(alloc),
     }
 }
 
@@ -69,7 +73,7 @@ fn home_words(alloc: Global, nodes: u16) -> Result<Vec<u64>, AllocError>
 }
 
 impl<K: Keeps> FineLine<K> {
-    /// A line that nobody has used, HOME, with `line` in every slot, and its seats, node i's at place i. The refusals: 6 for
+    /// A line that nobody has used, HOME, with `line` in every slot, and its seats, node i's at place i, without receipts. The refusals: 6 for
     /// 0 or more than 1,024 nodes, then 7 where memory ran out.
     pub fn new(
         alloc: Global,
@@ -83,6 +87,8 @@ impl<K: Keeps> FineLine<K> {
         ensures terms { IfOk result (λ r. HasTerms r.0 nodes number line keep) }
         ensures seats { IfOk result (λ r. (vec_len r.1 ≡ nodes) × AreIdleFrom r.0 0 r.1.items) }
         ensures new { IfOk result (λ r. AreNew r.1.items) }
+        ensures own { IfOk result (λ r. All (λ s. IsSeatOf r.0 s) r.1.items) }
+        ensures rest { IfOk result (λ r. All (λ s. s.standing.pending ≡ Idle) r.1.items) }
     {
         if nodes == 0 || nodes > MOST_NODES {
             return Err(OpenRefusal::BadNodes);
@@ -97,7 +103,7 @@ impl<K: Keeps> FineLine<K> {
         let Ok((line, root)) = FineLine::open(alloc, terms) else {
             return Err(OpenRefusal::OutOfMemory);
         };
-        line.seat_all(root, &mut seats);
+        line.seat_all(alloc, root, &mut seats);
         Ok((line, seats))
     }
 
@@ -116,7 +122,7 @@ impl<K: Keeps> FineLine<K> {
     }
 
     // Makes all seats, in room that was taken before.
-    fn seat_all(&self, mut root: Token<K>, seats: &mut Vec<Seat<K>>)
+    fn seat_all(&self, alloc: Global, mut root: Token<K>, seats: &mut Vec<Seat<K>>)
         requires of { root.table_id ≡ self.now.table.shared.table_id }
         requires view { root.me ≡ (first_view self.now.terms, []) }
         requires fits { K.fits self.now.terms.keep self.now.terms.number self.now.terms.opening.words }
@@ -127,9 +133,9 @@ impl<K: Keeps> FineLine<K> {
     {
         for number in 1..self.terms.nodes {
             let token = self.table.shared.split_seat::<Apart>(&mut root);
-            seats.push_reserved(idle_seat(token, node_of(number), self.terms));
+            seats.push_reserved(idle_seat(alloc, token, node_of(number), self.terms));
         }
-        let first = idle_seat(root, node_of(0), self.terms);
+        let first = idle_seat(alloc, root, node_of(0), self.terms);
         if seats.insert(0, first).is_err() {
             unreachable!();
         }

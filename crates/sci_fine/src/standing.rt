@@ -34,6 +34,7 @@ impl<K: Keeps> Model for Standing<K> {
 }
 
 // Writes over a slot, if it holds another line: a write disturbs who reads the slots beside it.
+#[inline(always)]
 fn write_over(slot: &mut Line, line: &Line)
     ensures { slot.new ≡ line.now }
 {
@@ -75,6 +76,7 @@ impl<K: Keeps> Standing<K> {
         self.stage
     }
 
+    #[inline(always)]
     pub(crate) fn pending(&self) -> Pending
         ensures value { result ≡ self.now.pending }
         ensures standing { IsStanding self.now.terms.nodes (K.fits self.now.terms.keep self.now.terms.number) self.now.node result }
@@ -92,6 +94,7 @@ impl<K: Keeps> Standing<K> {
     }
 
     // Writes the line that an allowed event gives back.
+    #[inline(always)]
     pub(crate) fn give(&self, event: &Event, slot: &mut Line)
         requires { has_row self.now.terms.nodes self.now.node self.now.pending event.now ≡ true }
         ensures { GivesLine (row_of self.now.node self.now.pending event.now).carry slot.new }

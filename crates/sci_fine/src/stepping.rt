@@ -3,7 +3,8 @@ ghost use Rattle.std.specs.Prelude.{◌≡◌, ◌<◌, Some, true};
 ghost use Rattle.sci_core.specs.Answers.{is_allowed, FitsEvent};
 ghost use Rattle.sci_core.specs.Table.{has_row};
 ghost use Rattle.sci_port.specs.declared.calls.Call.TheVariants.{Own, MemWas, TagWas, Stepped};
-ghost use Rattle.sci_fine.specs.Seats.{IsSeatOf, HasMade};
+ghost use Rattle.sci_port.specs.ReceiptList.{HasRoom, Receives};
+ghost use Rattle.sci_fine.specs.Seats.{IsSeatOf, HasMade, HasReceived};
 ghost use Rattle.sci_fine.specs.Steps.{IsLook};
 
 use crate::codes::{codes, number_of};
@@ -19,6 +20,7 @@ impl<K: Keeps> Seat<K> {
     pub(crate) fn mem(&mut self, line: &FineLine<K>) -> Mem
         requires of { IsSeatOf line.now self.old }
         ensures made { HasMade K.fits self.old (MemWas (Some result)) self.new }
+        ensures receives { HasReceived self.old (MemWas (Some result)) self.new }
     {
         let found = line.load(&mut self.token, 0);
         match read_mem(found) {
@@ -32,6 +34,7 @@ impl<K: Keeps> Seat<K> {
         requires of { IsSeatOf line.now self.old }
         requires node { node < self.old.standing.terms.nodes }
         ensures made { HasMade K.fits self.old (TagWas node (Some result)) self.new }
+        ensures receives { HasReceived self.old (TagWas node (Some result)) self.new }
     {
         let found = line.load(&mut self.token, number_of(node));
         match read_tag(found) {
@@ -46,6 +49,7 @@ impl<K: Keeps> Seat<K> {
         requires of { IsSeatOf line.now self.old }
         requires note { IsLook N.call }
         ensures made { HasMade K.fits self.old (N.call result) self.new }
+        ensures kept { self.new.receipts ≡ self.old.receipts }
     {
         let number = number_of(self.standing.node());
         let found = line.look::<N>(&mut self.token, number);
@@ -62,6 +66,7 @@ impl<K: Keeps> Seat<K> {
     pub(crate) fn own(&mut self, line: &FineLine<K>) -> Tag
         requires of { IsSeatOf line.now self.old }
         ensures made { HasMade K.fits self.old (Own (Some result)) self.new }
+        ensures receives { HasReceived self.old (Own (Some result)) self.new }
     {
         self.look::<AsLoad>(line)
     }
@@ -73,6 +78,7 @@ impl<K: Keeps> Seat<K> {
         requires allowed { has_row self.old.standing.terms.nodes self.old.standing.node self.old.standing.pending event.now ≡ true }
         requires fits { FitsEvent (K.fits self.old.standing.terms.keep self.old.standing.terms.number) event.now }
         ensures made { HasMade K.fits self.old (Stepped event.now result) self.new }
+        ensures kept { self.new.receipts ≡ self.old.receipts }
     {
         let outline = self.standing.outline(event);
         let (number, old, new) = codes(&outline.change);
@@ -84,19 +90,51 @@ impl<K: Keeps> Seat<K> {
         Outcome::Done(line.pick_up(&mut self.token, &mut self.standing, event, &outline))
     }
 
-    // An event of the node that its pending step allows.
+    // An event of the node that its pending step allows, without its receipt.
     #[inline(always)]
-    pub(crate) fn step(&mut self, line: &FineLine<K>, event: &Event) -> Outcome
+    fn make(&mut self, line: &FineLine<K>, event: &Event) -> Outcome
         requires of { IsSeatOf line.now self.old }
         requires allowed { is_allowed self.old.standing.terms.nodes self.old.standing.node self.old.standing.pending event.now ≡ true }
         requires fits { FitsEvent (K.fits self.old.standing.terms.keep self.old.standing.terms.number) event.now }
         ensures made { HasMade K.fits self.old (Stepped event.now result) self.new }
+        ensures kept { self.new.receipts ≡ self.old.receipts }
     {
         if let Event::Look = event {
             let _ = self.look::<AsStep>(line);
             Outcome::Done(None)
         } else {
             self.exchange(line, event)
+        }
+    }
+
+    // The same, with its receipt.
+    fn make_kept(&mut self, line: &FineLine<K>, event: Event) -> Outcome
+        requires of { IsSeatOf line.now self.old }
+        requires allowed { is_allowed self.old.standing.terms.nodes self.old.standing.node self.old.standing.pending event ≡ true }
+        requires fits { FitsEvent (K.fits self.old.standing.terms.keep self.old.standing.terms.number) event }
+        requires room { HasRoom event self.old.receipts }
+        ensures made { HasMade K.fits self.old (Stepped event result) self.new }
+        ensures received { Receives self.old.standing.pending (Stepped event result) self.old.receipts self.new.receipts }
+    {
+        let before = self.standing.pending();
+        let outcome = self.make(line, &event);
+        self.receipts.keep(&before, &event, &outcome);
+        outcome
+    }
+
+    // An event of the node that its pending step allows: its receipt is kept where there is room for one.
+    #[inline(always)]
+    pub(crate) fn step(&mut self, line: &FineLine<K>, event: &Event) -> Outcome
+        requires of { IsSeatOf line.now self.old }
+        requires allowed { is_allowed self.old.standing.terms.nodes self.old.standing.node self.old.standing.pending event.now ≡ true }
+        requires fits { FitsEvent (K.fits self.old.standing.terms.keep self.old.standing.terms.number) event.now }
+        ensures made { HasMade K.fits self.old (Stepped event.now result) self.new }
+        ensures receives { HasReceived self.old (Stepped event.now result) self.new }
+    {
+        if self.receipts.keeps(event) {
+            self.make_kept(line, *event)
+        } else {
+            self.make(line, event)
         }
     }
 }

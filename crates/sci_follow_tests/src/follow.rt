@@ -98,7 +98,7 @@ pub(crate) fn two_loads() -> [Entry; 9] {
 }
 
 /// Behind so many of these entries another one, and what is said of that.
-type Changed = (usize, Entry, Result<(), Deviation>);
+pub(crate) type Changed = (usize, Entry, Result<(), Deviation>);
 
 /// Entries left out, doubled, and of another node.
 fn out_of_turn() -> [Changed; 8] {
@@ -136,7 +136,7 @@ fn other_outcomes() -> [Changed; 8] {
 }
 
 /// Entries that tell less, and looks between the events.
-fn lawful() -> [Changed; 6] {
+pub(crate) fn lawful() -> [Changed; 6] {
     [
         (0, entry(0, Event::Look, Claim::Done), Ok(())),
         (2, entry(1, Event::Look, Claim::Done), Ok(())),

@@ -8,6 +8,8 @@ mod follow;
 #[cfg(test)]
 mod reads;
 #[cfg(test)]
+mod runs;
+#[cfg(test)]
 mod serving;
 #[cfg(test)]
 mod texts;

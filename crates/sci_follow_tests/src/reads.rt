@@ -176,7 +176,7 @@ fn others() -> [Row; 8] {
     ]
 }
 
-fn no_lines() -> [&'static str; 16] {
+fn no_lines() -> [&'static str; 20] {
     [
         "",
         "Look",
@@ -194,6 +194,10 @@ fn no_lines() -> [&'static str; 16] {
         "Hold(0000ffffffff0000) Missed 0000FFFFFFFF0000",
         "Hold(0000ffffffff000a) Done",
         "Settle Done 9 1 2 3 4 5 6 7",
+        "Settle Done 9 1 2 3 4 5 6 7 18446744073709551616",
+        "Settle Done 9 1 2 3 4 5 6 7 100000000000000000008",
+        "Settle Done 340282366920938463463374607431768211465 1 2 3 4 5 6 7 8",
+        "Queue(100000000000000000004) Done",
     ]
 }
 

@@ -30,7 +30,7 @@ const RUN: [&str; 19] = [
 ];
 
 /// The run with this text in the place of one of its lines.
-fn edited(alloc: Global, at: usize, with: &str) -> Result<String, AllocError> {
+pub(crate) fn edited(alloc: Global, at: usize, with: &str) -> Result<String, AllocError> {
     let mut text = String::new(alloc);
     for (place, line) in RUN.iter().enumerate() {
         if place == at {
@@ -44,7 +44,7 @@ fn edited(alloc: Global, at: usize, with: &str) -> Result<String, AllocError> {
 }
 
 /// Which line of text, counted from 0, what stands in its place, and what is told of the log.
-type Row = (usize, &'static str, Result<(), LogFault>);
+pub(crate) type Row = (usize, &'static str, Result<(), LogFault>);
 
 fn no(line: u64, why: Deviation) -> Result<(), LogFault> {
     Err(LogFault::Departs(line, why))
@@ -234,7 +234,8 @@ fn faulty() -> [Row; 8] {
     ]
 }
 
-fn lawful() -> [Row; 8] {
+/// Logs that are accepted.
+pub(crate) fn lawful() -> [Row; 8] {
     let missed =
         "node 1 line 0 AttachFresh(0 0000ffff00010002) Missed 0000ffffffff0002\nnode 1 line 0 AttachFresh(0 0000ffffffff0002) Done\n";
     let late =

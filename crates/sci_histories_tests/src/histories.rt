@@ -66,7 +66,7 @@ const H5_OF_LINE_1: Said = Ok(Verdict::Illegal {
 });
 
 /// What stands behind `closed 0 ` of that line, and what is said of it. Its writes: 6 makes 1 of the zeros, 7 makes 2 of the 1.
-const LINES: [(&str, Said); 21] = [
+const LINES: [(&str, Said); 24] = [
     ("5 0 0 0 0 0 0 0 0\n", LEGAL),
     (
         "5 0 0 0 0 0 0 0 0\nread 1 5 0 0 0 0 0 0 0 0\nread 1 5 0 0 0 0 0 0 0 0\n",
@@ -124,6 +124,19 @@ const LINES: [(&str, Said); 21] = [
     (
         "6 1 0 0 0 0 0 0 0\nread 0 6 0 0 0 0 0 0 0 0\nwrote 1 6 1 0 0 0 0 0 0 0 over 0 0 0 0 0 0 0 0\n",
         H5,
+    ),
+    // stamps that are too great, of 20, 21 and 39 digits: in 64 bits the first is 0, in 128 the last is 5
+    (
+        "18446744073709551616 0 0 0 0 0 0 0 0\n",
+        Err(DumpRefusal::DumpFault(3)),
+    ),
+    (
+        "100000000000000000005 0 0 0 0 0 0 0 0\n",
+        Err(DumpRefusal::DumpFault(3)),
+    ),
+    (
+        "340282366920938463463374607431768211461 0 0 0 0 0 0 0 0\n",
+        Err(DumpRefusal::DumpFault(3)),
     ),
     // a receipt of a lower node than the one before, at its line
     (

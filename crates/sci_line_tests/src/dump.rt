@@ -238,7 +238,7 @@ fn cut_at_each_byte(rt: HostRuntime) -> Result<(), Fail> {
 }
 
 /// Texts that are no dumps, and the line of the first fault.
-const FAULTS: [(&str, &str, u64); 17] = [
+const FAULTS: [(&str, &str, u64); 18] = [
     ("scidump 1 3 1", "scidump 3 3 1", 1),
     ("scidump 1 3 1", "scidump 2 3 1", 2),
     ("scidump 1 3 1", "scidump 1 65 1", 1),
@@ -257,6 +257,11 @@ const FAULTS: [(&str, &str, u64); 17] = [
     (
         "0000000000020007 0",
         "0000000000020007 18446744073709551616",
+        4,
+    ),
+    (
+        "0000000000020007 0",
+        "0000000000020007 100000000000000000000",
         4,
     ),
     ("end\n", "end\n\n", 7),

@@ -9,7 +9,7 @@ mod replays;
 use crate::checks::{same, same_at};
 use sci_core::{AnyWords, Line, OpenRefusal, Whole};
 use sci_ops::*;
-use sci_port::Solo;
+use sci_port::{Receipts, Solo};
 use sci_words::NodeId;
 use std::alloc::Global;
 use std::marker::Brand;
@@ -136,7 +136,8 @@ fn take_alone<L: Ledger>(
     if node.get() >= whole.nodes() {
         return None;
     }
-    let mut solo = Solo::new(whole, node);
+    let mut receipts = Receipts::new(whole.allocator());
+    let mut solo = Solo::new(whole, &mut receipts, node);
     Some(op.alone(&mut solo, steps))
 }
 

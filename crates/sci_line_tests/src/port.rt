@@ -71,7 +71,8 @@ fn step(
     if node.get() >= whole.nodes() {
         return None;
     }
-    record_of(&mut Solo::new(whole, node), trace, event)
+    let mut receipts = Receipts::new(whole.allocator());
+    record_of(&mut Solo::new(whole, &mut receipts, node), trace, event)
 }
 
 /// A line of two nodes, and a trace with so much room.
@@ -188,7 +189,8 @@ fn shows_a_look(rt: &impl Abort, trace: &Trace, node: NodeId) -> Result<(), Fail
 fn loads(rt: &impl Abort, whole: &mut Whole<AnyWords>, trace: &mut Trace) {
     let first = node(2);
     if first.get() < whole.nodes() {
-        words_stand(rt, &mut Solo::new(whole, first), trace);
+        let mut receipts = Receipts::new(whole.allocator());
+        words_stand(rt, &mut Solo::new(whole, &mut receipts, first), trace);
     }
 }
 

@@ -1,7 +1,8 @@
 pub mod Answering
+pub mod Less
+pub mod Noted
 pub mod Carried
 pub mod Took
-pub mod Noted
 pub mod Short
 pub mod Staged
 pub mod Storing

@@ -2,6 +2,7 @@
 pub mod Finding
 pub mod Reading
 pub mod Going
+pub mod Waiting
 pub mod Ranking
 pub mod Falling
 pub mod Keeping

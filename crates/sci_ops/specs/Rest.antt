@@ -1,5 +1,5 @@
 -- Turns that nobody comes between, and how a line is brought to rest. This project's profile.
-use Rattle.std.specs.Prelude.{◌≡◌, ◌≢◌, ℕ, ◌<◌, suc, Bool, true, false, Option, Some, None, List, slice_index_or}
+use Rattle.std.specs.Prelude.{◌≡◌, ◌≢◌, ℕ, ◌+◌, ◌<◌, suc, Bool, true, false, Option, Some, None, List, slice_index_or}
 use Rattle.sci_words.specs.declared.tags.Tag.{Tag}
 use Rattle.sci_words.specs.declared.memory.Mem.{Mem}
 use Rattle.sci_core.specs.declared.lines.Line.{Line}
@@ -40,19 +40,22 @@ pub data Rests (n : ℕ) (fits : List ℕ → Type 0) (s : State) : ℕ → Stat
   at_first : Rests n fits s 0 s
   one_more : {k : ℕ} {mid t : State} {turn : Turn} → Rests n fits s k mid → (me : ℕ) → me < n → IsMover n mid me → (turn ≢ Turn.Waiting) → TakesTurn n fits me (begun Goal.Load) mid turn t → Rests n fits s (suc k) t
 
--- the operation of node i is taken to its end from this state to that one; one that has ended stays as it is
-abbrev pub EndsOne : ℕ → (List ℕ → Type 0) → ℕ → Operation → Option Answer → State → Operation → State → Type 0
-EndsOne n fits i op (Some answer) s new t = (new ≡ op) × (t ≡ s)
-EndsOne n fits i op None s new t = (turns : ℕ) × (answer : Answer) × Ends n fits i op s turns answer t × (new ≡ after_turn op (Turn.Done answer))
+-- the operation of node i is taken to its end in so many turns, from this state to that one; one that has ended stays as it is
+abbrev pub EndsOne : ℕ → (List ℕ → Type 0) → ℕ → Operation → Option Answer → State → ℕ → Operation → State → Type 0
+EndsOne n fits i op (Some answer) s turns new t = (turns ≡ 0) × (new ≡ op) × (t ≡ s)
+EndsOne n fits i op None s turns new t = (answer : Answer) × Ends n fits i op s turns answer t × (new ≡ after_turn op (Turn.Done answer))
 
 -- the operation of a node in a list
 abbrev pub op_at : List Operation → ℕ → Operation
 op_at ops i = slice_index_or ops i (begun Goal.Load)
 
--- the operations of the first m nodes are taken to their ends, one after another
-pub record EndsEach (n : ℕ) (fits : List ℕ → Type 0) (m : ℕ) (ops new : List Operation) (s t : State) : Type 0 where
-  -- the line before the operation of each node
+-- the operations of the first m nodes are taken to their ends, one after another, in so many turns together
+pub record EndsEach (n : ℕ) (fits : List ℕ → Type 0) (m : ℕ) (ops new : List Operation) (s : State) (turns : ℕ) (t : State) : Type 0 where
+  -- the line before the operation of each node, and how many turns were taken before it
   pub at : ℕ → State
+  pub taken : ℕ → ℕ
   pub first : at 0 ≡ s
+  pub none : taken 0 ≡ 0
   pub last : at m ≡ t
-  pub each : (i : ℕ) → i < m → EndsOne n fits i (op_at ops i) (op_at ops i).answer (at i) (op_at new i) (at (suc i))
+  pub all : taken m ≡ turns
+  pub each : (i : ℕ) → i < m → (k : ℕ) × (taken (suc i) ≡ taken i + k) × EndsOne n fits i (op_at ops i) (op_at ops i).answer (at i) k (op_at new i) (at (suc i))

@@ -5,7 +5,6 @@ mod alone;
 mod answers;
 mod found;
 mod goals;
-mod kept;
 mod ops;
 mod refusals;
 mod to_rest;

@@ -1,12 +1,14 @@
 //! Operations.
 ghost use Rattle.std.specs.Prelude.{◌≡◌, ◌≢◌, ◌<◌, ◌≤◌, ◌↔◌, true, None, IfOk, IsErr};
 ghost use Rattle.sci_core.specs.declared.pending.Pending.TheVariants.{Idle};
-ghost use Rattle.sci_core.specs.Progress.{IsMover};
+ghost use Rattle.sci_core.specs.Progress.{IsMover, Moves};
+ghost use Rattle.sci_core.specs.Step.{looked};
 ghost use Rattle.sci_core.specs.Whole.{IsSameLine, nodes_of, state_of};
 ghost use Rattle.sci_ops.specs.declared.goals.Write as a_write;
 ghost use Rattle.sci_ops.specs.Alone.{TakesTurn};
 ghost use Rattle.sci_ops.specs.Answers.{AnswersAt};
 ghost use Rattle.sci_ops.specs.Change.{StoresFitting};
+ghost use Rattle.sci_ops.specs.Kept.{KeepsAnswer};
 ghost use Rattle.sci_ops.specs.Plan.{Takes, LoadsAtMost};
 ghost use Rattle.sci_ops.specs.Ranking.{ranking};
 ghost use Rattle.sci_ops.specs.Rest.{due_turn, is_exchange, ComesTo};
@@ -18,7 +20,7 @@ use crate::goals::{Goal, WordNo, Write};
 use crate::refusals::BadWord;
 use crate::turns::turn_towards;
 use sci_core::{Keeps, Whole};
-use sci_port::{Port, Solo};
+use sci_port::{Port, Receipts, Solo};
 use sci_words::NodeId;
 use std::marker::Model;
 
@@ -110,12 +112,15 @@ impl Op {
     /// answer is what the last of these calls gave. Seen: a load; Settle or Unhold was done, and answered this line. Wrote: a
     /// write; from Purging of a line with these words and a stamp one less, what the write makes of them was written. Spent: a
     /// write; from Purging of a line whose stamp is `u64::MAX`, nothing was. Out: an eviction; the node's own tag was Invalid, or
-    /// Left or Rolled made it so. A turn after the end gives the answer again, and asks nothing of the port.
+    /// Left or Rolled made it so. A turn after the end gives the answer again, and asks nothing of the port. Where the port has room for
+    /// one more receipt, and for a load the mark isn't set, what ends a load or a write is its last receipt, behind those that there
+    /// were: of a load the line that it saw, of a write the words that it replaced, those that it wrote, and their stamp.
     #[inline(always)]
     pub fn turn<P: Port>(&mut self, port: &mut P) -> Turn
         requires fits { StoresFitting (P.Keep.fits (P.keep port.old) (P.way port.old).number) self.old.goal }
         ensures calls { Takes P.gives (turn_of self.old (P.way port.old).node (P.at_step port.old)) port.old result port.new }
         ensures answers { AnswersAt P.gives P.at_step self.old (P.way port.old).node port.old result port.new }
+        ensures last { KeepsAnswer self.old result (P.told port.old) (P.told port.new) }
         ensures loads { LoadsAtMost 3 (turn_of self.old (P.way port.old).node (P.at_step port.old)) }
         ensures op { self.new ≡ after_turn self.old result }
         ensures same_way { P.way port.new ≡ P.way port.old }
@@ -133,12 +138,13 @@ impl Op {
 
     /// One turn of a node on a line that is lent to it: `turn` over its `Solo`. Nobody comes between its loads and its
     /// exchange, so it never misses: it makes the exchange that the table of turns has on the line as it stands, and waits only
-    /// where the table says so. A node that moves, as `Whole::mover` gives one, makes an exchange. An exchange of a node that
-    /// isn't Idle leads nearer to rest, and no turn of it farther (`ranking` in `specs/Ranking.antt`). An answer is true of the
+    /// where the table says so. A node that moves, as `Whole::mover` gives one, makes an exchange. A node that isn't Idle and doesn't
+    /// move, as one of which `Whole::waits_for` names another, waits, and all stays but for its look at its own tag. An exchange of a
+    /// node that isn't Idle leads nearer to rest, and no turn of it farther (`ranking` in `specs/Ranking.antt`). An answer is true of the
     /// line before and after the turn. Seen: the line's value, and the node is a valid sharer of it. Wrote: the words before
     /// are those of the value before, whose stamp is one less, the value after is what the write makes of them, with the stamp,
     /// and the node is the only valid sharer before and after. Spent: the stamp of the value is `u64::MAX`, the value stays,
-    /// and the node is the only valid sharer before and after. Out: the node's tag is Invalid.
+    /// and the node is the only valid sharer before and after. Out: the node's tag is Invalid. No `Receipts` keep what it shows.
     pub fn turn_on<K: Keeps>(&mut self, whole: &mut Whole<K>, node: NodeId) -> Turn
         requires node { node < nodes_of whole.old }
         requires fits { StoresFitting (K.fits whole.old.keep whole.old.number) self.old.goal }
@@ -146,11 +152,13 @@ impl Op {
         ensures calls { TakesTurn (nodes_of whole.old) (K.fits whole.old.keep whole.old.number) node self.old (state_of whole.old) result (state_of whole.new) }
         ensures in_one_go { ComesTo (due_turn self.old node (state_of whole.old)) result }
         ensures mover { self.old.answer ≡ None → IsMover (nodes_of whole.old) (state_of whole.old) node → (is_exchange (due_turn self.old node (state_of whole.old)) ≡ true) × (result ≢ Turn.Waiting) }
+        ensures waits { self.old.answer ≡ None → (state_of whole.old).steps node ≢ Idle → (Moves (nodes_of whole.old) (state_of whole.old) node → ⊥) → (result ≡ Turn.Waiting) × (state_of whole.new ≡ looked (state_of whole.old) node) }
         ensures nearer { (state_of whole.old).steps node ≢ Idle → is_exchange (due_turn self.old node (state_of whole.old)) ≡ true → ranking (nodes_of whole.old) (state_of whole.new) < ranking (nodes_of whole.old) (state_of whole.old) }
         ensures no_farther { (state_of whole.old).steps node ≢ Idle → ranking (nodes_of whole.old) (state_of whole.new) ≤ ranking (nodes_of whole.old) (state_of whole.old) }
         ensures answers { IsTrueTurn (nodes_of whole.old) (K.fits whole.old.keep whole.old.number) self.old node (state_of whole.old) result (state_of whole.new) }
         ensures op { self.new ≡ after_turn self.old result }
     {
-        self.turn(&mut Solo::new(whole, node))
+        let mut receipts = Receipts::new(whole.allocator());
+        self.turn(&mut Solo::new(whole, &mut receipts, node))
     }
 }

@@ -12,7 +12,7 @@ ghost use Rattle.sci_ops.specs.Rest.{Rests, EndsOne, EndsEach, op_at};
 use crate::alone::Steps;
 use crate::ops::Op;
 use sci_core::{Keeps, Whole};
-use sci_port::Solo;
+use sci_port::{Receipts, Solo};
 use sci_words::NodeId;
 use std::sync::ledger::Ledger;
 
@@ -46,7 +46,7 @@ fn ended<K: Keeps, L: Ledger>(
     requires node { node < nodes_of whole.old }
     requires fits { StoresFitting (K.fits whole.old.keep whole.old.number) op.goal }
     requires rest { IsAtRest (state_of whole.old) }
-    ensures ends { EndsOne (nodes_of whole.old) (K.fits whole.old.keep whole.old.number) node op op.answer (state_of whole.old) result (state_of whole.new) }
+    ensures ends { (k : _) × (steps.new ≡ steps.old + k) × EndsOne (nodes_of whole.old) (K.fits whole.old.keep whole.old.number) node op op.answer (state_of whole.old) k result (state_of whole.new) }
     ensures rest { IsAtRest (state_of whole.new) }
     ensures bound { steps.new ≤ steps.old + (3 * nodes_of whole.old + 16) }
     ensures same { IsSameLine whole.old whole.new }
@@ -55,17 +55,18 @@ fn ended<K: Keeps, L: Ledger>(
         return op;
     }
     let mut left = op;
-    let _ = left.alone(&mut Solo::new(whole, node), steps);
+    let mut receipts = Receipts::new(whole.allocator());
+    let _ = left.alone(&mut Solo::new(whole, &mut receipts, node), steps);
     left
 }
 
 /// `rest`, and then each operation that hasn't ended is taken to its end alone, in the order of their nodes: of n nodes at most
-/// n * n + 9 * n turns, and then 3 * n + 16 for each node, counted as steps. `ops` has the operation of each node. One that has ended
+/// n * n + 9 * n turns, and then 3 * n + 16 for each node, each counted as one step. `ops` has the operation of each node. One that has ended
 /// stays as it is. No `Receipts` keep what these turns show.
 pub fn end<K: Keeps, L: Ledger>(whole: &mut Whole<K>, ops: &mut [Op], steps: &mut Steps<L>)
     requires count { length ops.old ≡ nodes_of whole.old }
     requires fit { (i : ℕ) → StoresFitting (K.fits whole.old.keep whole.old.number) (op_at ops.old i).goal }
-    ensures ends { (mid : _) × (k : _) × Rests (nodes_of whole.old) (K.fits whole.old.keep whole.old.number) (state_of whole.old) k mid × IsAtRest mid × EndsEach (nodes_of whole.old) (K.fits whole.old.keep whole.old.number) (nodes_of whole.old) ops.old ops.new mid (state_of whole.new) }
+    ensures ends { (mid : _) × (k turns : _) × (steps.new ≡ steps.old + k + turns) × Rests (nodes_of whole.old) (K.fits whole.old.keep whole.old.number) (state_of whole.old) k mid × IsAtRest mid × EndsEach (nodes_of whole.old) (K.fits whole.old.keep whole.old.number) (nodes_of whole.old) ops.old ops.new mid turns (state_of whole.new) }
     ensures rest { IsAtRest (state_of whole.new) }
     ensures bound { steps.new ≤ steps.old + (nodes_of whole.old * nodes_of whole.old + 9 * nodes_of whole.old) + nodes_of whole.old * (3 * nodes_of whole.old + 16) }
     ensures count { length ops.new ≡ length ops.old }

@@ -1,5 +1,6 @@
 //! The command `outcomes` over a reader and a writer: what is written, worked out by hand.
 mod growths;
+mod plays;
 
 use crate::races::LOADED;
 use sci_outcomes::Unwatched;

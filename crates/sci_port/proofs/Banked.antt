@@ -18,6 +18,7 @@ use Rattle.sci_port.specs.Banks.{BankWay, LentLines, AreLinesOf, IsLineOf, Gives
 use Rattle.sci_port.specs.declared.calls.Call.{Call}
 use Rattle.sci_port.specs.declared.calls.Call.TheVariants.{MemWas, Own, Stepped, TagWas}
 use Rattle.sci_port.specs.Owes.{IsSoundStep, Owes}
+use Rattle.sci_port.specs.Solo as lent
 use Rattle.sci_port.specs.Solo.{Gives}
 use Rattle.sci_port.specs.Way.{Way, way_to}
 use Rattle.sci_port.proofs.Lent.{is_sound, look_owed}
@@ -80,8 +81,8 @@ module _ {K : Type 0} (fits : K → ℕ → List ℕ → Type 0) (s : LentLines 
       (refl, (form, subst (λ (w : WholeLine K). tag_links_below (nodes_of w) t ≡ true) here links))
 
   -- what the port to one line of the node gives there
-  abbrev pub LentGives : Call → WholeLine K → ℕ → WholeLine K → ℕ → GName → GName → Type 0
-  LentGives call x me v you g h = (way_to h v you ≡ way_to g x me) × (v.keep ≡ x.keep) × Gives (nodes_of x) (fits x.keep x.number) (state_of x) me call (state_of v) × Owes (nodes_of x) (fits x.keep x.number) me ((state_of x).steps me) call ((state_of v).steps you)
+  abbrev LentGives : Call → WholeLine K → ℕ → WholeLine K → ℕ → GName → GName → Type 0
+  LentGives call x me v you g h = lent.LentGives fits x me call v you g h
 
   module _ (call : Call) (i : ℕ) (y x v : WholeLine K) (me you : ℕ) (g h : GName) (il : i ≡ line) (xy : x ≡ get_or s.wholes i y) (mine : me ≡ s.node) (given : LentGives call x me v you g h) where
     abbrev t : LentLines K

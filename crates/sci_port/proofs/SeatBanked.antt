@@ -13,10 +13,6 @@ use Rattle.sci_port.specs.Seated.{CallsOn}
 use Rattle.sci_port.specs.SeatBanks.{AreLines, AreSeatsAt, AreSeatsOf, IsOnePerLine, IsSeatAt, IsShared, LineTerms, MakesCall, Seating, seated}
 use Rattle.sci_port.proofs.Seated.{at_place, read_at, calls_on}
 
--- a fact before two more
-pub with_it : {A B C : Type 0} → A → B × C → A × B × C
-with_it a h = (a, h.0, h.1)
-
 module _ {K L S : Type 0} {terms : L → LineTerms K} {seating : S → Seating K} (lines : List L) (seats : List S) (are : AreLines terms lines) (one : IsOnePerLine seating lines seats) where
   pub first_fact : (d l : L) → l ≡ get_or lines 0 d → (terms l).keep ≡ are.keep
   first_fact d l is = (are.each 0 l (at_index lines 0 l are.some_are (is ∙ get_or_default lines 0 d l are.some_are))).fact

@@ -7,6 +7,8 @@ use Rattle.sci_core.specs.declared.lines.Line.{Line}
 use Rattle.sci_core.specs.declared.pending.Pending.{Pending}
 use Rattle.sci_port.specs.declared.calls.Call.{Call}
 use Rattle.sci_port.specs.Owes.{Owes}
+use Rattle.sci_port.specs.Readying.{Readying, Readies}
+use Rattle.sci_port.specs.ReceiptList.{ReceiptList, ReceivesIfRoom}
 use Rattle.sci_port.specs.Seated.{Seated}
 
 -- what is fixed of a line: how many nodes it has, its number, and the fact that its words have
@@ -15,11 +17,12 @@ pub record LineTerms (K : Type 0) : Type 0 where
   pub number : ℕ
   pub keep : K
 
--- a seat: the terms of its line, its node, and the node's pending step there
+-- a seat: the terms of its line, its node, the node's pending step there, and its receipts
 pub record Seating (K : Type 0) : Type 0 where
   pub terms : LineTerms K
   pub node : ℕ
   pub pending : Pending
+  pub receipts : ReceiptList
 
 -- what holds of a line's seats and their calls: a seat of the line is on its terms and of one of its nodes, and a call leaves it a
 -- seat of the line, and its node's, and is as every port owes
@@ -29,6 +32,16 @@ pub record IsShared {K L S : Type 0} (fits : K → ℕ → List ℕ → Type 0) 
   pub stays : (l : L) (s : S) (call : Call) (t : S) → is_seat l s → makes s call t → is_seat l t
   pub same_node : (s : S) (call : Call) (t : S) → makes s call t → (seating t).node ≡ (seating s).node
   pub owes : (s : S) (call : Call) (t : S) → makes s call t → Owes (seating s).terms.nodes (fits (seating s).terms.keep (seating s).terms.number) (seating s).node (seating s).pending call (seating t).pending
+
+-- what holds of their receipts: a call leaves in them what it is to leave where there is room for it, and else all as it was; one
+-- that readies them leaves the seat one of its line's, on its terms, its node's and at its step
+pub record IsKept {K L S : Type 0} (seating : S → Seating K) (is_seat : L → S → Type 0) (makes : S → Call → S → Type 0) (readies : S → Readying → S → Type 0) : Type 0 where
+  pub receives : (s : S) (call : Call) (t : S) → makes s call t → ReceivesIfRoom (seating s).pending call (seating s).receipts (seating t).receipts
+  pub stays : (l : L) (s : S) (r : Readying) (t : S) → is_seat l s → readies s r t → is_seat l t
+  pub same_terms : (s : S) (r : Readying) (t : S) → readies s r t → (seating t).terms ≡ (seating s).terms
+  pub same_node : (s : S) (r : Readying) (t : S) → readies s r t → (seating t).node ≡ (seating s).node
+  pub same_step : (s : S) (r : Readying) (t : S) → readies s r t → (seating t).pending ≡ (seating s).pending
+  pub leaves : (s : S) (r : Readying) (t : S) → readies s r t → Readies r (seating s).receipts (seating t).receipts
 
 -- the line numbered k, of so many nodes and under this fact
 pub record IsLine {K : Type 0} (nodes : ℕ) (keep : K) (k : ℕ) (t : LineTerms K) : Type 0 where
@@ -82,6 +95,18 @@ pub record MakesCall {S : Type 0} (makes : S → Call → S → Type 0) (before 
   pub later : S
   pub at : get_elem? before line ≡ some seat
   pub made : makes seat call later
+  pub seats : after ≡ slice_set before line later
+
+-- the receipts of each seat
+abbrev pub receipts_of : {K S : Type 0} → (S → Seating K) → List S → List ReceiptList
+receipts_of {K} {S} seating seats = map (λ (s : S). (seating s).receipts) seats
+
+-- the receipts of the seat at the line's place were readied, and every other seat is as it was
+pub record MakesReady {S : Type 0} (readies : S → Readying → S → Type 0) (before : List S) (line : ℕ) (r : Readying) (after : List S) : Type 0 where
+  pub seat : S
+  pub later : S
+  pub at : get_elem? before line ≡ some seat
+  pub made : readies seat r later
   pub seats : after ≡ slice_set before line later
 
 -- a line's content, as a ghost value is kept

@@ -3,7 +3,8 @@ use Rattle.std.specs.Prelude.{◌≡◌, ℕ, List}
 use Rattle.std.specs.Borrow.{GName}
 use Rattle.std.proofs.Common.{sym, ◌∙◌}
 use Rattle.sci_port.specs.declared.calls.Call.{Call}
-use Rattle.sci_port.specs.SeatBanks.{IsShared, LineTerms, Seating}
+use Rattle.sci_port.specs.SeatBanks.{IsKept, IsShared, LineTerms, Seating}
+use Rattle.sci_port.specs.Readying.{Readying}
 use Rattle.sci_port.specs.Way.{Way}
 
 -- the way to the line of a seat, by this reference to the seat
@@ -19,3 +20,8 @@ module _ {K L S : Type 0} {fits : K → ℕ → List ℕ → Type 0} {terms : L 
   -- and so on its way
   pub same_way : {a b : GName} → b ≡ a → way_by b (seating t) ≡ way_by a (seating s)
   same_way name i = record { node = laws.same_node s call t made i; nodes = (same_terms i).nodes; number = (same_terms i).number; reference = name i }
+
+-- nor does a call that readies the receipts leave that way
+pub ready_way : {K L S : Type 0} {seating : S → Seating K} {is_seat : L → S → Type 0} {makes : S → Call → S → Type 0} {readies : S → Readying → S → Type 0} (kept : IsKept seating is_seat makes readies)
+    (s : S) (r : Readying) (t : S) → readies s r t → {a b : GName} → b ≡ a → way_by b (seating t) ≡ way_by a (seating s)
+ready_way kept s r t made name i = record { node = kept.same_node s r t made i; nodes = (kept.same_terms s r t made i).nodes; number = (kept.same_terms s r t made i).number; reference = name i }

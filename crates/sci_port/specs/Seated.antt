@@ -29,3 +29,10 @@ module _ {K : Type 0} where
     pub nodes : (m : ℕ) → nodes_on t m ≡ nodes_on s m
     pub others : (m : ℕ) → m ≢ line → step_on t m ≡ step_on s m
     pub owes : Owes (nodes_on s line) (fits s.keep line) s.node (step_on s line) call (step_on t line)
+
+  -- a call that readies receipts: all of this stays
+  pub record ReadiesOn (s t : Seated K) : Type 0 where
+    pub way : seated_way t ≡ seated_way s
+    pub fact : t.keep ≡ s.keep
+    pub nodes : (m : ℕ) → nodes_on t m ≡ nodes_on s m
+    pub steps : (m : ℕ) → step_on t m ≡ step_on s m

@@ -1,5 +1,5 @@
 //! One node's ways to the lines of a memory.
-ghost use Rattle.std.specs.Prelude.{◌≡◌, ◌≢◌, ◌<◌, ℕ, IfSome, true};
+ghost use Rattle.std.specs.Prelude.{◌≡◌, ◌≢◌, ◌<◌, ℕ, IfSome, true, is_ok};
 ghost use Rattle.sci_core.specs.declared.events.Event.{Event};
 ghost use Rattle.sci_core.specs.declared.pending.Pending.{Pending};
 ghost use Rattle.sci_core.specs.Answers.{is_allowed, FitsEvent};
@@ -10,11 +10,15 @@ ghost use Rattle.sci_port.specs.Banks.{BankWay};
 ghost use Rattle.sci_port.specs.declared.calls.Call.{Call};
 ghost use Rattle.sci_port.specs.declared.calls.Call.TheVariants.{Own, MemWas, TagWas, Stepped};
 ghost use Rattle.sci_port.specs.Owes.{IsSoundStep, look_by, TakesRow, AnswerFits, Owes};
+ghost use Rattle.sci_port.specs.Readying.{Aims, ChangesAt, Readies, Readying, Reserves};
+ghost use Rattle.sci_port.specs.Readying.Readying.{Aimed, Reserved};
+ghost use Rattle.sci_port.specs.ReceiptList.{ReceiptList, ReceivesIfRoom, last_passed};
 
 use sci_core::{Event, Keeps, Outcome, Pending, Stage};
 use sci_words::{LineNo, Mem, NodeId, Tag};
+use std::alloc::AllocError;
 
-/// One node's ports to all lines of a memory, by the line's number. No call takes memory or waits.
+/// One node's ports to all lines of a memory, by the line's number. No call waits, and none but `reserve` takes memory.
 ///
 /// What each call may answer, and how the bank stands after it, is the implementation's own to say, by `gives`. Whatever it
 /// says, a call on a line is as a port to that line owes it, and leaves the pending steps of the other lines as they are.
@@ -33,8 +37,14 @@ pub trait Bank {
     /// The node's pending step on a line.
     ghost at_step: { Self → ℕ → Pending };
 
+    /// The node's receipts on a line.
+    ghost told: { Self → ℕ → ReceiptList };
+
     /// From a bank as it stands, a call on a line may give this answer and leave the bank so.
     ghost gives: { Self → ℕ → Call → Self → Type 0 };
+
+    /// The same of the calls that ready a line's receipts, which reach no line.
+    ghost readies: { Self → ℕ → Readying → Self → Type 0 };
 
     /// The node, below the number of nodes of each line.
     fn node(&self) -> NodeId
@@ -75,6 +85,7 @@ pub trait Bank {
         ensures same_nodes { (m : ℕ) → nodes_on self.new m ≡ nodes_on self.old m }
         ensures same_fact { keep self.new ≡ keep self.old }
         ensures others { (m : ℕ) → m ≢ line → at_step self.new m ≡ at_step self.old m }
+        ensures same_receipts { (m : ℕ) → told self.new m ≡ told self.old m }
         ensures look { at_step self.new line ≡ look_by (at_step self.old line) result }
         ensures own { IfSome result (λ t. IsOwnWord (at_step self.old line) t) }
         ensures form { IfSome result (λ t. IsTag (nodes_on self.old line) t) };
@@ -87,6 +98,7 @@ pub trait Bank {
         ensures same_nodes { (m : ℕ) → nodes_on self.new m ≡ nodes_on self.old m }
         ensures same_fact { keep self.new ≡ keep self.old }
         ensures same_steps { (m : ℕ) → at_step self.new m ≡ at_step self.old m }
+        ensures same_receipts { (m : ℕ) → told self.new m ≡ told self.old m }
         ensures form { IfSome result (λ m. IsMem (nodes_on self.old line) m) };
 
     /// A node's tag on the line. None: the line was not to be had.
@@ -98,9 +110,11 @@ pub trait Bank {
         ensures same_nodes { (m : ℕ) → nodes_on self.new m ≡ nodes_on self.old m }
         ensures same_fact { keep self.new ≡ keep self.old }
         ensures same_steps { (m : ℕ) → at_step self.new m ≡ at_step self.old m }
+        ensures same_receipts { (m : ℕ) → told self.new m ≡ told self.old m }
         ensures form { IfSome result (λ t. IsTag (nodes_on self.old line) t) };
 
-    /// One event on the line that the node's pending step there allows.
+    /// One event on the line that the node's pending step there allows. Where there is room for its receipt it is kept, and else
+    /// none is.
     fn step(&mut self, line: LineNo, event: Event) -> Outcome
         requires line { line < (way self.old).lines }
         requires allowed { is_allowed (nodes_on self.old line) (way self.old).node (at_step self.old line) event ≡ true }
@@ -111,7 +125,39 @@ pub trait Bank {
         ensures same_fact { keep self.new ≡ keep self.old }
         ensures others { (m : ℕ) → m ≢ line → at_step self.new m ≡ at_step self.old m }
         ensures row { TakesRow (nodes_on self.old line) (way self.old).node (at_step self.old line) event result (at_step self.new line) }
-        ensures content { AnswerFits (Self.Keep.fits (keep self.old) line) result };
+        ensures content { AnswerFits (Self.Keep.fits (keep self.old) line) result }
+        ensures receipts { ChangesAt (ReceivesIfRoom (at_step self.old line) (Stepped event result)) (told self.old) line (told self.new) };
+
+    /// Room for n more receipts on the line, at least; it never falls. `AllocError`: memory was refused, and the receipts are as
+    /// before. No step.
+    fn reserve(&mut self, line: LineNo, n: usize) -> Result<(), AllocError>
+        requires { line < (way self.old).lines }
+        ensures readies { readies self.old line (Reserved n (is_ok result)) self.new }
+        ensures same_way { way self.new ≡ way self.old }
+        ensures same_nodes { (m : ℕ) → nodes_on self.new m ≡ nodes_on self.old m }
+        ensures same_fact { keep self.new ≡ keep self.old }
+        ensures same_steps { (m : ℕ) → at_step self.new m ≡ at_step self.old m }
+        ensures reserves { ChangesAt (Reserves n (is_ok result)) (told self.old) line (told self.new) };
+
+    /// For how many more receipts on the line there is room.
+    fn room(&self, line: LineNo) -> usize
+        requires { line < (way self.now).lines }
+        ensures { result ≡ (told self.now line).room };
+
+    /// The last receipt on the line is a Passed.
+    fn last_passed(&self, line: LineNo) -> bool
+        requires { line < (way self.now).lines }
+        ensures { result ≡ last_passed (told self.now line).list };
+
+    /// Sets whether the next settle on the line is only passed (`Passed`), or is a `Read`. No step.
+    fn aim(&mut self, line: LineNo, passing: bool)
+        requires { line < (way self.old).lines }
+        ensures readies { readies self.old line (Aimed passing) self.new }
+        ensures same_way { way self.new ≡ way self.old }
+        ensures same_nodes { (m : ℕ) → nodes_on self.new m ≡ nodes_on self.old m }
+        ensures same_fact { keep self.new ≡ keep self.old }
+        ensures same_steps { (m : ℕ) → at_step self.new m ≡ at_step self.old m }
+        ensures aims { ChangesAt (Aims passing) (told self.old) line (told self.new) };
 
     /// What a call gives is on the same ways, under the same fact, leaves the steps of the other lines, and is as every port
     /// to the line owes.
@@ -124,4 +170,11 @@ pub trait Bank {
     ghost others: { (s : Self) (line : ℕ) (call : Call) (t : Self) → gives s line call t → (m : ℕ) → m ≢ line → at_step t m ≡ at_step s m };
 
     ghost owes: { (s : Self) (line : ℕ) (call : Call) (t : Self) → gives s line call t → Owes (nodes_on s line) (Self.Keep.fits (keep s) line) (way s).node (at_step s line) call (at_step t line) };
+
+    /// And it leaves the line's receipts as a step is to leave them where there is room, and else as they were, and the other
+    /// lines' as they were.
+    ghost receives: { (s : Self) (line : ℕ) (call : Call) (t : Self) → gives s line call t → ChangesAt (ReceivesIfRoom (at_step s line) call) (told s) line (told t) };
+
+    /// A call that readies a line's receipts is on the same ways, under the same fact and at the same steps, and does no more.
+    ghost readied: { (s : Self) (line : ℕ) (r : Readying) (t : Self) → readies s line r t → (way t ≡ way s) × ((m : ℕ) → nodes_on t m ≡ nodes_on s m) × (keep t ≡ keep s) × ((m : ℕ) → at_step t m ≡ at_step s m) × ChangesAt (Readies r) (told s) line (told t) };
 }

@@ -1,11 +1,13 @@
 //! A port that keeps its node's receipts.
 ghost use Rattle.std.specs.Prelude.{◌≡◌};
+ghost use Rattle.sci_port.specs.Readying.{Readies};
 ghost use Rattle.sci_port.specs.ReceiptList.{ReceivesIfRoom};
 
 use crate::port::Port;
 use crate::receipts::Receipts;
 use sci_core::{Event, Outcome, Pending, Stage};
 use sci_words::{LineNo, Mem, NodeId, Tag};
+use std::alloc::AllocError;
 
 /// A port that is lent, of any kind of line, with its node's receipts there, which are lent too. Its answers are those of the port,
 /// and each step leaves in the receipts what it showed, as `Receipts::receive` says, where there is room for it; where there is none
@@ -37,13 +39,21 @@ impl<P: Port> Port for Receipted<'_, '_, P> {
 
     ghost at_step = { λ s. P.at_step s.port.now };
 
+    ghost told = { λ s. s.receipts.now };
+
     ghost gives = { λ s call t. P.gives s.port.now call t.port.now × ReceivesIfRoom (P.at_step s.port.now) call s.receipts.now t.receipts.now × (t.port.ghost_name ≡ s.port.ghost_name) × (t.receipts.ghost_name ≡ s.receipts.ghost_name) };
+
+    ghost readies = { λ s r t. (t.port ≡ s.port) × Readies r s.receipts.now t.receipts.now × (t.receipts.ghost_name ≡ s.receipts.ghost_name) };
 
     ghost same_way = { λ s call t h. P.same_way s.port.now call t.port.now h.0 };
 
     ghost same_fact = { λ s call t h. P.same_fact s.port.now call t.port.now h.0 };
 
     ghost owes = { λ s call t h. P.owes s.port.now call t.port.now h.0 };
+
+    ghost receives = { λ s call t h. h.1 };
+
+    ghost readied = { λ s r t h. (λ i. P.way (h.0 i).now, λ i. P.keep (h.0 i).now, λ i. P.at_step (h.0 i).now, h.1) };
 
     fn node(&self) -> NodeId {
         self.port.node()
@@ -89,5 +99,21 @@ impl<P: Port> Port for Receipted<'_, '_, P> {
         let outcome = self.port.step(event);
         self.receipts.keep(&before, &asked, &outcome);
         outcome
+    }
+
+    fn reserve(&mut self, n: usize) -> Result<(), AllocError> {
+        self.receipts.reserve(n)
+    }
+
+    fn room(&self) -> usize {
+        self.receipts.room()
+    }
+
+    fn last_passed(&self) -> bool {
+        self.receipts.last_passed()
+    }
+
+    fn aim(&mut self, passing: bool) {
+        self.receipts.aim(passing);
     }
 }

@@ -1,10 +1,11 @@
 //! The receipts of a node on a line.
-ghost use Rattle.std.specs.Prelude.{◌≡◌, ℕ, ◌+◌, ◌<◌, ◌≤◌, [], true, false, IsOk, OnOk, OnErr};
+ghost use Rattle.std.specs.Prelude.{◌≡◌, ℕ, ◌+◌, ◌<◌, ◌≤◌, [], true, false, IsOk, IfOk, OnOk, OnErr, length, replicate};
 ghost use Rattle.sci_core.specs.Answers.{is_allowed};
 ghost use Rattle.sci_core.specs.declared.pending.Pending.{Pending};
 ghost use Rattle.sci_core.specs.declared.receipts.Receipt.TheVariants.{Read, Passed, Wrote};
 ghost use Rattle.sci_port.specs.declared.calls.Call.TheVariants.{Stepped};
 ghost use Rattle.sci_port.specs.KeepsTo.{is_passed};
+ghost use Rattle.sci_port.specs.Readying.{no_receipts};
 ghost use Rattle.sci_port.specs.ReceiptList.{Appends, CountsOver, HasRoom, Receives, Replaces, Settles, WritesOver, keeps, last_passed, line_before, replaces};
 
 use sci_core::{Event, Line, Outcome, Pending, Receipt};
@@ -57,6 +58,19 @@ impl Receipts {
             list: Vec::new(alloc),
             passing: false,
         }
+    }
+
+    /// For each of so many lines no receipts, as `new` makes them. `AllocError`: memory was refused.
+    pub fn of_lines(alloc: Global, lines: usize) -> Result<Vec<Receipts>, AllocError>
+        ensures count { IfOk result (λ all. length all.items ≡ lines) }
+        ensures none { IfOk result (λ all. all.items ≡ replicate lines no_receipts) }
+    {
+        let mut all = Vec::with_capacity(alloc, lines)?;
+        for line in 0..lines {
+            let _ = line;
+            all.push_reserved(Receipts::new(alloc));
+        }
+        Ok(all)
     }
 
     /// Room for n more, at least; it never falls. Where it was there already, this takes no memory. `AllocError`: memory was

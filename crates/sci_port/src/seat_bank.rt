@@ -2,13 +2,16 @@
 ghost use Rattle.std.specs.Prelude.{◌≡◌, ◌<◌, ◌↔◌, IsTrue, IfOk, IfErr};
 ghost use Rattle.std.specs.Coded.{Coded-set};
 ghost use Rattle.std.proofs.Props.{props};
-ghost use Rattle.sci_port.specs.SeatBanks.{AreLines, AreSeatsAt, AreSeatsOf, IsOnePerLine, MakesCall, SitsOn, seated};
-ghost use Rattle.sci_port.specs.Seated.{CallsOn, nodes_on, seated_way, step_on};
+ghost use Rattle.sci_port.specs.Readying.{ChangesAt, Readies, receipts_at};
+ghost use Rattle.sci_port.specs.ReceiptList.{ReceivesIfRoom};
+ghost use Rattle.sci_port.specs.SeatBanks.{AreLines, AreSeatsAt, AreSeatsOf, IsOnePerLine, MakesCall, MakesReady, SitsOn, receipts_of, seated};
+ghost use Rattle.sci_port.specs.Seated.{CallsOn, ReadiesOn, nodes_on, seated_way, step_on};
 
 use crate::bank::Bank;
 use crate::shared::SharedLine;
 use sci_core::{Event, Outcome, Pending, Stage};
 use sci_words::{LineNo, Mem, NodeId, Tag};
+use std::alloc::AllocError;
 
 /// A node's ports to the lines of a memory, by its seat at each. A call on a line is that of the line's port, and leaves every
 /// other seat as it is.
@@ -111,7 +114,11 @@ impl<L: SharedLine> Bank for SeatBank<'_, L> {
 
     ghost at_step = { λ s line. step_on (seated L.terms L.seating s.keep s.node s.lines.now s.seats.items) line };
 
-    ghost gives = { λ s line call t. (t.lines ≡ s.lines) × MakesCall L.makes s.seats.items line call t.seats.items × CallsOn L.Keep.fits (seated L.terms L.seating s.keep s.node s.lines.now s.seats.items) line call (seated L.terms L.seating t.keep t.node t.lines.now t.seats.items) };
+    ghost told = { λ s line. receipts_at (receipts_of L.seating s.seats.items) line };
+
+    ghost gives = { λ s line call t. (t.lines ≡ s.lines) × MakesCall L.makes s.seats.items line call t.seats.items × CallsOn L.Keep.fits (seated L.terms L.seating s.keep s.node s.lines.now s.seats.items) line call (seated L.terms L.seating t.keep t.node t.lines.now t.seats.items) × ChangesAt (ReceivesIfRoom (step_on (seated L.terms L.seating s.keep s.node s.lines.now s.seats.items) line) call) (λ m. receipts_at (receipts_of L.seating s.seats.items) m) line (λ m. receipts_at (receipts_of L.seating t.seats.items) m) };
+
+    ghost readies = { λ s line r t. (t.lines ≡ s.lines) × MakesReady L.readies s.seats.items line r t.seats.items × ReadiesOn (seated L.terms L.seating s.keep s.node s.lines.now s.seats.items) (seated L.terms L.seating t.keep t.node t.lines.now t.seats.items) × ChangesAt (Readies r) (λ m. receipts_at (receipts_of L.seating s.seats.items) m) line (λ m. receipts_at (receipts_of L.seating t.seats.items) m) };
 
     ghost same_way = { λ s line call t h. h.2.way };
 
@@ -122,6 +129,10 @@ impl<L: SharedLine> Bank for SeatBank<'_, L> {
     ghost others = { λ s line call t h. h.2.others };
 
     ghost owes = { λ s line call t h. h.2.owes };
+
+    ghost receives = { λ s line call t h. h.3 };
+
+    ghost readied = { λ s line r t h. (h.2.way, h.2.nodes, h.2.fact, h.2.steps, h.3) };
 
     fn node(&self) -> NodeId {
         self.node
@@ -177,5 +188,25 @@ impl<L: SharedLine> Bank for SeatBank<'_, L> {
         let at = &self.lines[usize::from(line)];
         let seats = self.seats.as_mut_slice();
         at.step(&mut seats[usize::from(line)], event)
+    }
+
+    fn reserve(&mut self, line: LineNo, n: usize) -> Result<(), AllocError> {
+        let seats = self.seats.as_mut_slice();
+        L::seat_reserve(&mut seats[usize::from(line)], n)
+    }
+
+    fn room(&self, line: LineNo) -> usize {
+        let seats = &self.seats;
+        L::seat_receipts(&seats[usize::from(line)]).room()
+    }
+
+    fn last_passed(&self, line: LineNo) -> bool {
+        let seats = &self.seats;
+        L::seat_receipts(&seats[usize::from(line)]).last_passed()
+    }
+
+    fn aim(&mut self, line: LineNo, passing: bool) {
+        let seats = self.seats.as_mut_slice();
+        L::seat_aim(&mut seats[usize::from(line)], passing);
     }
 }

@@ -1,11 +1,12 @@
 //! A node's way to a line that threads share, by its seat there.
 ghost use Rattle.std.specs.Prelude.{◌≡◌};
-ghost use Rattle.sci_port.specs.SeatPorts.{same_terms, same_way, way_by};
+ghost use Rattle.sci_port.specs.SeatPorts.{ready_way, same_terms, same_way, way_by};
 
 use crate::port::Port;
 use crate::shared::SharedLine;
 use sci_core::{Event, Outcome, Pending, Stage};
 use sci_words::{LineNo, Mem, NodeId, Tag};
+use std::alloc::AllocError;
 use std::marker::PhantomData;
 
 /// A seat's port to its line. Each call is the line's, by that seat.
@@ -43,13 +44,21 @@ impl<L: SharedLine> Port for SeatPort<'_, L> {
 
     ghost at_step = { λ s. (L.seating s.seat.now).pending };
 
+    ghost told = { λ s. (L.seating s.seat.now).receipts };
+
     ghost gives = { λ s call t. (t.line ≡ s.line) × (t.seat.ghost_name ≡ s.seat.ghost_name) × L.makes s.seat.now call t.seat.now };
+
+    ghost readies = { λ s r t. (t.line ≡ s.line) × (t.seat.ghost_name ≡ s.seat.ghost_name) × L.readies s.seat.now r t.seat.now };
 
     ghost same_way = { λ s call t h. same_way L.laws s.line.now s.seat.now s.of call t.seat.now h.2 h.1 };
 
     ghost same_fact = { λ s call t h. λ i. (same_terms L.laws s.line.now s.seat.now s.of call t.seat.now h.2 i).keep };
 
     ghost owes = { λ s call t h. L.laws.owes s.seat.now call t.seat.now h.2 };
+
+    ghost receives = { λ s call t h. L.kept.receives s.seat.now call t.seat.now h.2 };
+
+    ghost readied = { λ s r t h. (ready_way L.kept s.seat.now r t.seat.now h.2 h.1, λ i. (L.kept.same_terms s.seat.now r t.seat.now h.2 i).keep, L.kept.same_step s.seat.now r t.seat.now h.2, L.kept.leaves s.seat.now r t.seat.now h.2) };
 
     fn node(&self) -> NodeId {
         L::seat_node(self.seat)
@@ -89,5 +98,21 @@ impl<L: SharedLine> Port for SeatPort<'_, L> {
     #[inline(always)]
     fn step(&mut self, event: Event) -> Outcome {
         self.line.step(self.seat, event)
+    }
+
+    fn reserve(&mut self, n: usize) -> Result<(), AllocError> {
+        L::seat_reserve(self.seat, n)
+    }
+
+    fn room(&self) -> usize {
+        L::seat_receipts(self.seat).room()
+    }
+
+    fn last_passed(&self) -> bool {
+        L::seat_receipts(self.seat).last_passed()
+    }
+
+    fn aim(&mut self, passing: bool) {
+        L::seat_aim(self.seat, passing);
     }
 }

@@ -8,7 +8,7 @@ use sci_coarse::CoarseLine;
 use sci_core::{AnyWords, Line, Receipt, Whole};
 use sci_fine::FineLine;
 use sci_ops::{Op, Turn};
-use sci_port::{Port, Receipts, Solo};
+use sci_port::{Port, Receipted, Receipts, Solo};
 use sci_words::NodeId;
 use std::alloc::Global;
 use std::process::Abort;
@@ -18,9 +18,9 @@ const ZEROS: [u64; 8] = [0; 8];
 
 const SEVEN: [u64; 8] = [7, 0, 0, 0, 0, 0, 0, 0];
 
-// One turn over the port. Whether the operation has ended.
-fn ends<P: Port<Keep = AnyWords>>(port: &mut P, receipts: &mut Receipts, op: &mut Op) -> bool {
-    matches!(op.turn_kept(port, receipts), Turn::Done(_))
+// One turn over the port, with its receipts. Whether the operation has ended.
+fn ends<P: Port<Keep = AnyWords>>(port: &mut P, op: &mut Op) -> bool {
+    matches!(op.turn(port), Turn::Done(_))
 }
 
 /// Turns to the operation's end. None: it has not ended after 100.
@@ -30,7 +30,7 @@ pub(crate) fn carry_out<P: Port<Keep = AnyWords>>(
     op: &mut Op,
 ) -> Option<()> {
     for _ in 0..100 {
-        if ends(port, receipts, op) {
+        if ends(&mut Receipted::new(port, receipts), op) {
             return Some(());
         }
     }
@@ -46,10 +46,11 @@ pub(crate) fn begins(is_first: bool) -> Option<Op> {
     }
 }
 
-// Node 0 stores; another node loads.
+// Node 0 stores, and only passes on its way; another node loads.
 fn store_or_load<P: Port<Keep = AnyWords>>(port: &mut P, receipts: &mut Receipts) -> Option<()> {
     let is_first = port.node().get() == 0;
     let mut op = begins(is_first)?;
+    receipts.aim(is_first);
     carry_out(port, receipts, &mut op)
 }
 
@@ -110,7 +111,8 @@ fn on_whole(
     if node.get() >= whole.nodes() {
         return Err("no such node on the line")?;
     }
-    keeps(rt, alloc, &mut Solo::new(whole, node))
+    let mut none = Receipts::new(alloc);
+    keeps(rt, alloc, &mut Solo::new(whole, &mut none, node))
 }
 
 #[test]
@@ -120,8 +122,8 @@ fn receipts_on_a_line_that_is_lent(rt: HostRuntime) -> Result<(), Fail> {
     on_whole(&rt, rt.alloc(), &mut whole, 1)
 }
 
-// A line of two nodes on separate words, with its seats.
-fn fine_pair(
+/// A line of two nodes on separate words, with its seats.
+pub(crate) fn fine_pair(
     alloc: Global,
 ) -> Option<
     (
@@ -140,8 +142,8 @@ fn fine_pair(
     Some((line, zero, one))
 }
 
-// A line of two nodes under a lock word, with its seats.
-fn coarse_pair(
+/// A line of two nodes under a lock word, with its seats.
+pub(crate) fn coarse_pair(
     alloc: Global,
 ) -> Option<
     (
@@ -186,7 +188,8 @@ fn none_are_kept_without_room(rt: HostRuntime) -> Result<(), Fail> {
     if node.get() >= whole.nodes() {
         return Err("no such node on the line")?;
     }
-    let receipts = kept(rt.alloc(), &mut Solo::new(&mut whole, node), 0)?;
+    let mut none = Receipts::new(rt.alloc());
+    let receipts = kept(rt.alloc(), &mut Solo::new(&mut whole, &mut none, node), 0)?;
     same(&rt, &receipts.len(), &0);
     Ok(())
 }

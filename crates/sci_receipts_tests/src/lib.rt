@@ -7,3 +7,5 @@ mod checks;
 mod kept;
 #[cfg(test)]
 mod memory;
+#[cfg(test)]
+mod own;

@@ -29,7 +29,8 @@ fn rounds_on(whole: &mut Whole<AnyWords>, receipts: &mut Receipts) -> Option<u32
     if node.get() >= whole.nodes() {
         return None;
     }
-    let mut solo = Solo::new(whole, node);
+    let mut none = Receipts::new(whole.allocator());
+    let mut solo = Solo::new(whole, &mut none, node);
     let _ = Receipted::new(&mut solo, receipts);
     rounds(&mut solo, receipts)
 }

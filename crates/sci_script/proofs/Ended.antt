@@ -8,19 +8,25 @@ use Rattle.sci_script.specs.Resting.{EndsIfOpen, EndsCalls}
 use Rattle.sci_script.specs.Shared.{Shared, shared_is_open}
 
 -- an answer at a place behind changes none before
-kept : (m k : ℕ) (s : Shared) (answers : List (Option Answer)) (a : Option Answer) (t : Shared) → m ≤ k → EndsCalls m s answers t → EndsCalls m s (set answers k a) t
-kept zero k s answers a t le h = h
-kept (suc m) k s answers a t le h = (
+kept : (m k : ℕ) (s : Shared) (turns : ℕ) (answers : List (Option Answer)) (a : Option Answer) (t : Shared) → m ≤ k → EndsCalls m s turns answers t → EndsCalls m s turns (set answers k a) t
+kept zero k s turns answers a t le h = h
+kept (suc m) k s turns answers a t le h = (
   h.0,
-  kept m k s answers a h.0 (omega (arith, le)) h.1,
-  subst (λ (x : Option Answer). EndsIfOpen (shared_is_open h.0 m) m h.0 x t) (sym (get_or-set_other answers k m a None (λ q. omega (arith, le, q)))) h.2,
+  h.1,
+  h.2,
+  h.3,
+  kept m k s h.1 answers a h.0 (omega (arith, le)) h.4,
+  subst (λ (x : Option Answer). EndsIfOpen (shared_is_open h.0 m) m h.0 h.2 x t) (sym (get_or-set_other answers k m a None (λ q. omega (arith, le, q)))) h.5,
 )
 
-pub ends_more : (m : ℕ) (s mid t : Shared) (answers : List (Option Answer)) (a : Option Answer) → m < length answers → EndsCalls m s answers mid → EndsIfOpen (shared_is_open mid m) m mid a t → EndsCalls (suc m) s (set answers m a) t
-ends_more m s mid t answers a below before one = (
+pub ends_more : (m : ℕ) (s mid t : Shared) (turns k : ℕ) (answers : List (Option Answer)) (a : Option Answer) → m < length answers → EndsCalls m s turns answers mid → EndsIfOpen (shared_is_open mid m) m mid k a t → EndsCalls (suc m) s (turns + k) (set answers m a) t
+ends_more m s mid t turns k answers a below before one = (
   mid,
-  kept m m s answers a mid (omega arith) before,
-  subst (λ (x : Option Answer). EndsIfOpen (shared_is_open mid m) m mid x t) (sym (get_or-set_same answers m a None below)) one,
+  turns,
+  k,
+  refl,
+  kept m m s turns answers a mid (omega arith) before,
+  subst (λ (x : Option Answer). EndsIfOpen (shared_is_open mid m) m mid k x t) (sym (get_or-set_same answers m a None below)) one,
 )
 
 -- the nodes so far have none open

@@ -12,6 +12,7 @@ pub mod RestedLines
 pub mod Lent
 pub mod AloneCalls
 pub mod Ended
+pub mod Calming
 pub mod PassedLines
 pub mod Through
 pub mod Extended
@@ -20,3 +21,8 @@ pub mod Unheard
 pub mod Dealt
 pub mod Arguments
 pub mod Stuck
+pub mod Renumbered
+pub mod Saying
+pub mod Hearing
+pub mod Explaining
+pub mod Printing

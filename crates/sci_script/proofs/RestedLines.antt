@@ -1,11 +1,13 @@
 -- Lines that are brought to rest, one after another.
-use Rattle.std.proofs.Common.{◌≡◌, ◌∙◌, ℕ, ◌+◌, ◌*◌, ◌<◌, ◌≤◌, List, length, get_or, set, All, refl, sym, ap, subst, ⊎_elim, inl, inr, arith}
+use Rattle.std.proofs.Common.{◌≡◌, ◌∙◌, ℕ, suc, ◌+◌, ◌*◌, ◌<◌, ◌≤◌, List, length, get_or, set, All, refl, sym, ap, subst, ⊎_elim, inl, inr, arith}
 use Rattle.std.proofs.lemmas.Bool.{cases_eq, cases_lt}
 use Rattle.std.proofs.lemmas.List.{get_or_read, get_or_default, get_or-set_same, get_or-set_other, get_or_past}
 use Rattle.sci_core.specs.declared.keeps.AnyWords.{AnyWords}
 use Rattle.sci_core.specs.Progress.{IsAtRest}
 use Rattle.sci_core.specs.Whole.{WholeLine, IsSameLine, nodes_of, state_of}
 use Rattle.sci_port.specs.Banks.{AreLinesOf, IsLineOf}
+use Rattle.sci_core.specs.State.{update}
+use Rattle.sci_ops.proofs.Ending.Counting.{updated, not_updated}
 use Rattle.sci_ops.proofs.Resting.Turning.{same_line}
 use Rattle.sci_script.specs.Nodes.{whole_of}
 use Rattle.sci_script.specs.Resting.{ComesToRest, ComeToRest}
@@ -34,17 +36,32 @@ module _ (n : ℕ) (first items : List (WholeLine AnyWords)) (k p : ℕ) (w v : 
   pub left_after : ((j : ℕ) → k ≤ j → whole_of items j ≡ whole_of first j) → (j : ℕ) → k + 1 ≤ j → whole_of (set items p v) j ≡ whole_of first j
   left_after left j le = other j (λ q. omega (arith, le, q)) ∙ left j (omega (arith, le))
 
-  pub rested_after : ComeToRest n k first items → ((j : ℕ) → k ≤ j → whole_of items j ≡ whole_of first j) → nodes_of w ≡ n → ComesToRest (nodes_of w) (state_of w) (state_of v) → ComeToRest n (k + 1) first (set items p v)
-  rested_after before left wide came j lt =
-      let at : ComesToRest n (state_of w) (state_of v) = subst (λ (m : ℕ). ComesToRest m (state_of w) (state_of v)) wide came in
+  pub rested_after : (turns j : ℕ) → ComeToRest n k first turns items → ((l : ℕ) → k ≤ l → whole_of items l ≡ whole_of first l) → nodes_of w ≡ n → ComesToRest (nodes_of w) (state_of w) j (state_of v) → ComeToRest n (k + 1) first (turns + j) (set items p v)
+  rested_after turns j before left wide came =
+      let at : ComesToRest n (state_of w) j (state_of v) = subst (λ (m : ℕ). ComesToRest m (state_of w) j (state_of v)) wide came in
       let was : w ≡ whole_of first k = here ∙ left k (omega arith) in
-      let is : ComesToRest n (state_of (whole_of first k)) (state_of (whole_of (set items p v) k)) =
-      subst (λ (x : WholeLine AnyWords). ComesToRest n (state_of (whole_of first k)) (state_of x)) (sym now)
-      (subst (λ (x : WholeLine AnyWords). ComesToRest n (state_of x) (state_of v)) was at) in
-      ⊎_elim
-      (λ q. subst (λ (m : ℕ). ComesToRest n (state_of (whole_of first m)) (state_of (whole_of (set items p v) m))) (sym q) is)
-      (λ d. subst (λ (x : WholeLine AnyWords). ComesToRest n (state_of (whole_of first j)) (state_of x)) (sym (other j d)) (before j (omega (arith, lt, d))))
-      (cases_eq j k)
+      let is : ComesToRest n (state_of (whole_of first k)) j (state_of (whole_of (set items p v) k)) =
+      subst (λ (x : WholeLine AnyWords). ComesToRest n (state_of (whole_of first k)) j (state_of x)) (sym now)
+      (subst (λ (x : WholeLine AnyWords). ComesToRest n (state_of x) j (state_of v)) was at) in
+      let taken : ℕ → ℕ = update before.taken (k + 1) (turns + j) in
+      let kept : (i : ℕ) → i < k + 1 → taken i ≡ before.taken i = λ i l. not_updated before.taken (k + 1) (turns + j) i (λ q. omega (arith, q, l)) in
+      let next : suc k ≡ k + 1 = omega arith in
+      let last : taken (suc k) ≡ turns + j = ap taken next ∙ updated before.taken (k + 1) (turns + j) in
+      record {
+        taken = taken;
+        none = kept 0 (omega arith) ∙ before.none;
+        all = updated before.taken (k + 1) (turns + j);
+        lines = λ l lt. ⊎_elim
+            (λ q. subst (λ (m : ℕ). (a : ℕ) × (taken (suc m) ≡ taken m + a) × ComesToRest n (state_of (whole_of first m)) a (state_of (whole_of (set items p v) m))) (sym q)
+            (j, last ∙ ap (λ (a : ℕ). a + j) (sym (kept k (omega arith) ∙ before.all)), is))
+            (λ d.
+            let one = before.lines l (omega (arith, lt, d)) in (
+              one.0,
+              kept (suc l) (omega (arith, lt, d)) ∙ one.1 ∙ ap (λ (a : ℕ). a + one.0) (sym (kept l lt)),
+              subst (λ (x : WholeLine AnyWords). ComesToRest n (state_of (whole_of first l)) one.0 (state_of x)) (sym (other l d)) one.2,
+            ))
+            (cases_eq l k);
+      }
 
 -- lines that stay the same but for their states are still those of a bank, and as wide
 module _ (first items : List (WholeLine AnyWords)) (count : length items ≡ length first) (same : (j : ℕ) → IsSameLine (whole_of first j) (whole_of items j)) where
@@ -69,9 +86,9 @@ module _ (first items : List (WholeLine AnyWords)) (count : length items ≡ len
       subst (λ (x : WholeLine AnyWords). nodes_of x ≡ n) (get_or_default items line no_line d lt) at
 
 -- each line that there is comes to rest, and where none is, all is at rest
-pub all_at_rest : (n m : ℕ) (first items : List (WholeLine AnyWords)) → length items ≡ m → ComeToRest n m first items → (line : ℕ) → IsAtRest (state_of (whole_of items line))
-all_at_rest n m first items count rested line =
+pub all_at_rest : (n m : ℕ) (first items : List (WholeLine AnyWords)) (turns : ℕ) → length items ≡ m → ComeToRest n m first turns items → (line : ℕ) → IsAtRest (state_of (whole_of items line))
+all_at_rest n m first items turns count rested line =
     elim (cases_lt line m) [
-      | inl less ↦ (rested line less).rest
+      | inl less ↦ (rested.lines line less).2.rest
       | inr more ↦ subst (λ (x : WholeLine AnyWords). IsAtRest (state_of x)) (sym (get_or_past items line no_line (omega (arith, more, count)))) (λ i. refl)
     ]

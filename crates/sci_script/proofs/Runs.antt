@@ -1,5 +1,5 @@
 -- One more turn, one more entry, one more command.
-use Rattle.std.proofs.Common.{◌≡◌, ℕ, suc, ◌+◌, ◌<◌, ◌≤◌, Bool, true, false, List, length, get_or, take, [], ◌∷◌, ◌++◌, Option, Some, None, Result, IfErr, is_some, inr, refl, sym, ap, subst, ◌∙◌, append_assoc, arith}
+use Rattle.std.proofs.Common.{◌≡◌, ℕ, zero, suc, ◌+◌, ◌<◌, ◌≤◌, Bool, true, false, List, length, get_or, take, [], ◌∷◌, ◌++◌, Option, Some, None, Result, IfErr, is_some, inr, refl, sym, ap, subst, ◌∙◌, append_assoc, arith}
 use Rattle.std.proofs.lemmas.List.{append-nil, take_more, take_all}
 use Rattle.std.proofs.lemmas.List.Sums.{AllPass-from_list_all}
 use Rattle.std.proofs.lemmas.Option.{slice_get_read}
@@ -8,13 +8,15 @@ use Rattle.sci_words.specs.declared.tags.Tag.{Tag}
 use Rattle.sci_script.specs.declared.commands.Size.{Size}
 use Rattle.sci_script.specs.declared.commands.Step.{Step}
 use Rattle.sci_script.specs.declared.commands.Command.{Command}
+use Rattle.sci_script.specs.declared.commands.Command.TheVariants.{End}
+use Rattle.sci_script.specs.declared.desk.Toward.{Toward}
 use Rattle.sci_ops.specs.declared.answers.Turn.{Turn}
 use Rattle.sci_script.specs.declared.refusals.ScriptRefusal.{ScriptRefusal}
 use Rattle.sci_script.specs.declared.refusals.ScriptRefusal.TheVariants.{OutOfMemory, BadCommand, BadNumber, NotDone, WriteFailed}
-use Rattle.sci_script.specs.Event.{Event, Turned, SawTag, IsNoEnd}
+use Rattle.sci_script.specs.Event.{Event, Turned, Rested, SawTag, IsNoEnd}
 use Rattle.sci_script.specs.Request.{no_words, words_after}
 use Rattle.sci_script.specs.Size.{AreIn, IsIn, is_in}
-use Rattle.sci_script.specs.Run.{Unended, Repeats, Loads, Walked, IsLost, Prints, PrintsAll, StopsAt, Leaves}
+use Rattle.sci_script.specs.Run.{Unended, Calms, CalmsTo, RestsLines, EndsOpenBy, EndsOpen, EndStops, Repeats, Loads, Walked, IsLost, Prints, PrintsAll, StopsAt, Leaves}
 
 pub unended_none : {S : Type 0} (does : S → Event → S → Type 0) (node : ℕ) (s : S) → Unended does node 0 s s
 unfolding Unended
@@ -31,6 +33,44 @@ repeats_none does event s = refl
 pub repeats_more : {S : Type 0} (does : S → Event → S → Type 0) (event : Event) (n : ℕ) (s mid t : S) → Repeats does event n s mid → does mid event t → Repeats does event (n + 1) s t
 unfolding Repeats
 repeats_more does event n s mid t before now = let e : suc n ≡ n + 1 = omega arith in subst (λ k. Repeats does event k s t) e (mid, before, now)
+
+-- turns that move end no call
+pub moves_unended : {S : Type 0} (does : S → Event → S → Type 0) (node n : ℕ) (s t : S) → Repeats does (Turned node Turn.Moved) n s t → Unended does node n s t
+unfolding Repeats Unended
+moves_unended does node zero s t h = h
+moves_unended does node (suc n) s t h = (h.0, Turn.Moved, moves_unended does node n s h.0 h.1, tt, h.2)
+
+pub calms_none : {S : Type 0} (does : S → Event → S → Type 0) (line : ℕ) (s : S) → Calms does line 0 s s
+unfolding Calms
+calms_none does line s = refl
+
+pub calms_more : {S : Type 0} (does : S → Event → S → Type 0) (line n node : ℕ) (s mid t : S) → Calms does line n s mid → does mid (Rested line (Toward.Turned node)) t → Calms does line (n + 1) s t
+unfolding Calms
+calms_more does line n node s mid t before now = let e : suc n ≡ n + 1 = omega arith in subst (λ (k : ℕ). Calms does line k s t) e (mid, node, before, now)
+
+pub rests_none : {S : Type 0} (does : S → Event → S → Type 0) (s : S) → RestsLines does 0 s s
+unfolding RestsLines
+rests_none does s = refl
+
+pub rests_more : {S : Type 0} (does : S → Event → S → Type 0) (m : ℕ) (s mid t : S) → RestsLines does m s mid → CalmsTo does m Toward.Reached mid t → RestsLines does (m + 1) s t
+unfolding RestsLines
+rests_more does m s mid t before now = let e : suc m ≡ m + 1 = omega arith in subst (λ (k : ℕ). RestsLines does k s t) e (mid, before, now)
+
+pub ends_open_none : {S : Type 0} (is_open : S → ℕ → Bool) (does : S → Event → S → Type 0) (words text : List ℕ) (s : S) → text ≡ [] → EndsOpen is_open does words 0 s text s
+unfolding EndsOpen
+ends_open_none is_open does words text s e = (e, refl)
+
+pub ends_open_more : {S : Type 0} (is_open : S → ℕ → Bool) (does : S → Event → S → Type 0) (words : List ℕ) (m : ℕ) (s mid t : S) (first last text : List ℕ) → EndsOpen is_open does words m s first mid
+    → EndsOpenBy (is_open mid m) does words m mid last t → text ≡ first ++ last → EndsOpen is_open does words (m + 1) s text t
+unfolding EndsOpen
+ends_open_more is_open does words m s mid t first last text before now is = let e : suc m ≡ m + 1 = omega arith in subst (λ (k : ℕ). EndsOpen is_open does words k s text t) e (mid, first, last, before, now, is)
+
+-- a call that isn't taken to its end behind rest and others
+pub end_stops : {S : Type 0} (is_open : S → ℕ → Bool) (does : S → Event → S → Type 0) (words text : List ℕ) (nodes lines number node : ℕ) (s rested mid t : S) (e : ScriptRefusal) → node < nodes → RestsLines does lines s rested
+    → EndsOpen is_open does words node rested text mid → (is_open mid node ≡ true) × EndStops does words number node mid e t → StopsAt is_open does nodes s (record { number = number; command = End nodes lines }) e t
+end_stops is_open does words text nodes lines number node s rested mid t OutOfMemory below rest before h = (node, below, words, text, rested, mid, rest, before, h.0, (words, h.1.0, h.1.1))
+end_stops is_open does words text nodes lines number node s rested mid t (NotDone n) below rest before h = (h.1.0, inr (node, below, words, text, rested, mid, rest, before, h.0, h.1.1))
+end_stops is_open does words text nodes lines number node s rested mid t _ below rest before h = absurd h.1
 
 pub walked_none : {S : Type 0} (does : S → Event → S → Type 0) (line : ℕ) (head : Option ℕ) (s : S) → Walked does line head [] head s s
 unfolding Walked

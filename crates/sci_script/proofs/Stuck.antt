@@ -1,7 +1,6 @@
 -- A turn that waits leaves all as it is but for a look, and so each further turn waits too.
 use Rattle.std.proofs.Common.{◌≡◌, ◌∙◌, ◌+◌, ℕ, zero, suc, Bool, true, false, List, Option, Some, None, Ok, cond, eqb, inl, inr, ⊎_elim, ◌⊎◌, refl, sym, ap, subst, arith}
 use Rattle.std.proofs.lemmas.Bool.Decides.{nat_tests}
-use mathlib.Core.Path.{fun_ext}
 use Rattle.sci_words.specs.declared.tags.Tag.{Tag}
 use Rattle.sci_words.specs.declared.memory.Mem.{Mem}
 use Rattle.sci_core.specs.declared.lines.Line.{Line}
@@ -19,6 +18,7 @@ use Rattle.sci_ops.specs.declared.goals.Goal.{Goal}
 use Rattle.sci_ops.specs.Operation.{Operation}
 use Rattle.sci_ops.specs.Plan.{Plan, own, mem, tag, exchange, ends, ended, turn_after}
 use Rattle.sci_ops.specs.Table.{turn_in, turn_again, turn_of}
+use Rattle.sci_ops.proofs.Resting.Waiting.{looked_twice}
 use Rattle.sci_cache.specs.declared.calls.OpenCall.{OpenCall}
 use Rattle.sci_cache.specs.Nodes.{NodeState, node_after, call_after, residents_after, line_by, op_by, shown_by}
 use Rattle.sci_script.specs.Event.{Event, Turned}
@@ -26,42 +26,6 @@ use Rattle.sci_script.specs.Run.{Unended}
 use Rattle.sci_script.specs.Shared.{Shared, TakesTurn, TakesTurnOf, shared_does}
 use Rattle.sci_script.specs.Turns.{Made, TurnsOn}
 use Rattle.sci_script.proofs.Runs.{unended_more}
-
-back_twice : (told : Bool) (seen : Option (Option ℕ × ℕ)) (t : Tag) (b : Option ℕ) → t.back ≡ b → look_of (look_back told seen t.forw b) t ≡ look_back told seen t.forw b
-back_twice told seen t None e = ap (λ (x : Option ℕ). look_back told seen t.forw x) e
-back_twice told seen t (Some b) e = ap (λ (x : Option ℕ). look_back told (Some (t.forw, b)) t.forw x) e
-
-look_twice : (p : Pending) (t : Tag) → look_of (look_of p t) t ≡ look_of p t
-look_twice Pending.Idle t = refl
-look_twice (Pending.Holding w l) t = refl
-look_twice (Pending.Queueing f) t = refl
-look_twice (Pending.Fetching f d l) t = refl
-look_twice (Pending.InQueue f d copy) t = refl
-look_twice (Pending.Copying x w l) t = refl
-look_twice (Pending.Ready f d l) t = refl
-look_twice (Pending.Converting f turned) t = refl
-look_twice (Pending.Purging l seen) t = refl
-look_twice (Pending.Advancing l x w) t = refl
-look_twice (Pending.Clearing l x w) t = refl
-look_twice (Pending.Leaving d l seen) t = refl
-look_twice (Pending.Promoted d l x) t = refl
-look_twice (Pending.WritingBack l) t = refl
-look_twice (Pending.Parted f) t = refl
-look_twice (Pending.Rolling told seen) t = back_twice told seen t t.back refl
-look_twice (Pending.Unlinked f b) t = refl
-
-over : {A : Type 0} (b : Bool) (x y z : A) → y ≡ x → cond b y (cond b x z) ≡ cond b x z
-over true x y z e = e
-over false x y z e = refl
-
--- one look is as good as two
-looked_twice : (s : State) (me : ℕ) → looked (looked s me) me ≡ looked s me
-looked_twice s me =
-    let once = look_of (s.steps me) (s.tags me) in
-    let twice : look_of (update s.steps me once me) (s.tags me) ≡ once = ap (λ (p : Pending). look_of p (s.tags me)) (update_same s.steps me once) ∙ look_twice (s.steps me) (s.tags me) in
-    let same : ◌≡◌ {A = ℕ → Pending} (update (update s.steps me once) me (look_of (update s.steps me once me) (s.tags me))) (update s.steps me once) =
-    fun_ext (λ i. over (eqb i me) once (look_of (update s.steps me once me) (s.tags me)) (s.steps i) twice) in
-    ap (λ (f : ℕ → Pending). record s { steps = f }) same
 
 back_turns : (goal : Goal) (me : ℕ) (told : Bool) (seen : Option (Option ℕ × ℕ)) (f b : Option ℕ) → turn_in goal me (look_back told seen f b) ≡ turn_in goal me (Pending.Rolling told seen)
 back_turns goal me told seen f None = refl

@@ -7,7 +7,8 @@ use Rattle.sci_port.specs.declared.calls.Call.TheVariants.{MemWas, TagWas}
 use Rattle.sci_ops.specs.declared.answers.Turn.{Turn}
 use Rattle.sci_cache.specs.Nodes.{NodeState, TurnsBy, node_with}
 use Rattle.sci_script.specs.declared.commands.Size.{Size}
-use Rattle.sci_script.specs.Event.{Event, Began, Turned, SawMem, SawTag, SawResidents}
+use Rattle.sci_script.specs.declared.desk.Toward.{Toward}
+use Rattle.sci_script.specs.Event.{Event, Began, Turned, Rested, SawMem, SawTag, SawResidents}
 use Rattle.sci_script.specs.Nodes.{AreNodesOf}
 use Rattle.sci_script.specs.Unused.{no_node}
 
@@ -70,6 +71,7 @@ module _ {B : Type 0} (gives : B → ℕ → Call → B → Type 0) (step : B �
   abbrev pub banked_does : Banked B → Event → Banked B → Type 0
   banked_does s (Began node request) t = t ≡ record s { nodes = slice_set s.nodes node (node_with (node_at s node) request) }
   banked_does s (Turned node turn) t = TurnsNode s node turn t
+  banked_does s (Rested line toward) t = (toward ≡ Toward.Unknown) × (t ≡ s)
   banked_does s (SawMem line mem) t = Asks s 0 line (MemWas mem) t
   banked_does s (SawTag line node tag) t = Asks s 0 line (TagWas node tag) t
   banked_does s (SawResidents node lines) t = (lines ≡ (node_at s node).residents) × (t ≡ s)

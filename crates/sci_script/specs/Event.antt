@@ -5,10 +5,12 @@ use Rattle.sci_words.specs.declared.tags.Tag.{Tag}
 use Rattle.sci_ops.specs.declared.answers.Turn.{Turn}
 use Rattle.sci_ops.specs.declared.answers.Turn.TheVariants.{Moved, Waiting, Done}
 use Rattle.sci_cache.specs.declared.requests.Request.{Request}
+use Rattle.sci_script.specs.declared.desk.Toward.{Toward}
 
 pub data Event : Type 0 where
   Began : (node : ℕ) → (request : Request) → Event
   Turned : (node : ℕ) → (turn : Turn) → Event
+  Rested : (line : ℕ) → (toward : Toward) → Event
   SawMem : (line : ℕ) → (mem : Option Mem) → Event
   SawTag : (line node : ℕ) → (tag : Option Tag) → Event
   SawResidents : (node : ℕ) → (lines : List ℕ) → Event
@@ -24,3 +26,8 @@ abbrev pub IsNoEnd : Turn → Type 0
 IsNoEnd Moved = Unit {0}
 IsNoEnd Waiting = Unit {0}
 IsNoEnd (Done answer) = ⊥
+
+-- a node took a turn towards rest
+abbrev pub IsTurned : Toward → Type 0
+IsTurned (Toward.Turned node) = Unit {0}
+IsTurned _ = ⊥

@@ -10,7 +10,7 @@ use Rattle.sci_script.specs.declared.commands.Step.{Step}
 use Rattle.sci_script.specs.declared.commands.Script.{Script}
 use Rattle.sci_script.specs.declared.commands.Command.{Command}
 use Rattle.sci_script.specs.declared.commands.Request.TheVariants.{Load, Store, Add, Evict}
-use Rattle.sci_script.specs.declared.commands.Command.TheVariants.{Begin, Turn, Done, List as ListLine, Tag as ShowTag, Residents}
+use Rattle.sci_script.specs.declared.commands.Command.TheVariants.{Begin, Turn, Done, Rest, End, List as ListLine, Tag as ShowTag, Residents}
 use Rattle.sci_script.specs.declared.refusals.ScriptRefusal.{ScriptRefusal}
 use Rattle.sci_script.specs.declared.refusals.ScriptRefusal.TheVariants.{OutOfMemory, BadCommand, BadNumber, NotDone, WriteFailed}
 use Rattle.sci_script.specs.Words.{is_plain, is_skipped, words_of, number_of}
@@ -138,6 +138,14 @@ done_at n size (node ∷ []) = do
   Ok (Done node)
 done_at n size _ = Err (BadCommand n)
 
+unfoldable pub rest_at : ℕ → Size → List (List ℕ) → Result Command ScriptRefusal
+rest_at n size [] = Ok (Rest size.lines)
+rest_at n size _ = Err (BadCommand n)
+
+unfoldable pub end_at : ℕ → Size → List (List ℕ) → Result Command ScriptRefusal
+end_at n size [] = Ok (End size.nodes size.lines)
+end_at n size _ = Err (BadCommand n)
+
 unfoldable pub list_at : ℕ → Size → List (List ℕ) → Result Command ScriptRefusal
 list_at n size (line ∷ []) = do
   line ← line_at n size line
@@ -162,9 +170,11 @@ unfoldable pub other_at : ℕ → Size → List ℕ → List (List ℕ) → Resu
 other_at n size name args =
     if bytes_eq name (codes "turn") then turn_at n size args else
     (if bytes_eq name (codes "done") then done_at n size args else
+    (if bytes_eq name (codes "rest") then rest_at n size args else
+    (if bytes_eq name (codes "end") then end_at n size args else
     (if bytes_eq name (codes "list") then list_at n size args else
     (if bytes_eq name (codes "tag") then tag_at n size args else
-    (if bytes_eq name (codes "residents") then residents_at n size args else Err (BadCommand n)))))
+    (if bytes_eq name (codes "residents") then residents_at n size args else Err (BadCommand n)))))))
 
 -- a command
 unfoldable pub command_at : ℕ → Size → List (List ℕ) → Result Command ScriptRefusal

@@ -20,3 +20,5 @@ pub mod Dealt
 pub mod Talks
 pub mod Talkers
 pub mod Waiting
+pub mod Faults
+pub mod Reasons

@@ -1,10 +1,12 @@
 -- Nodes over whole lines. This project's profile.
-use Rattle.std.specs.Prelude.{◌≡◌, ◌≢◌, ℕ, ◌<◌, List, length, Option, Some, None, slice_index_or}
+use Rattle.std.specs.Prelude.{◌≡◌, ◌≢◌, ℕ, ◌<◌, List, [], length, Option, Some, None, slice_index_or}
 use Rattle.sci_core.specs.declared.keeps.AnyWords.{AnyWords}
 use Rattle.sci_core.specs.Whole.{WholeLine, nodes_of, state_of}
 use Rattle.sci_ops.specs.declared.answers.Turn.{Turn}
+use Rattle.sci_ops.specs.declared.goals.Goal.{Goal}
+use Rattle.sci_ops.specs.Table.{begun}
 use Rattle.sci_cache.specs.declared.calls.OpenCall.{OpenCall}
-use Rattle.sci_cache.specs.Nodes.{NodeState, node_after, line_by, op_by, shown_by}
+use Rattle.sci_cache.specs.Nodes.{NodeState, node_state, node_after, line_by, op_by, shown_by}
 use Rattle.sci_script.specs.Turns.{TurnsOn}
 use Rattle.sci_script.specs.Unused.{no_line}
 
@@ -26,3 +28,10 @@ pub record TurnsOver (wholes : List (WholeLine AnyWords)) (n : NodeState) (c : O
 abbrev pub TurnsOverOf : List (WholeLine AnyWords) → NodeState → Option OpenCall → Turn → List (WholeLine AnyWords) → NodeState → Type 0
 TurnsOverOf wholes n None shown after m = ⊥
 TurnsOverOf wholes n (Some c) shown after m = TurnsOver wholes n c shown after m
+
+-- a load on the line, as the call of a node that names no line
+abbrev pub load_on : ℕ → OpenCall
+load_on line = record { line = line; op = begun Goal.Load; victim = None }
+
+abbrev pub loader : ℕ → ℕ → NodeState
+loader node line = node_state node 0 0 [] (Some (load_on line))

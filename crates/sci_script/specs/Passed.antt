@@ -9,11 +9,13 @@ use Rattle.sci_core.specs.Step.{looked}
 use Rattle.sci_core.specs.Whole.{WholeLine, nodes_of, state_of}
 use Rattle.sci_ops.specs.Operation.{Operation}
 use Rattle.sci_ops.specs.Plan.{Plan, own, mem, tag, exchange, ends}
-use Rattle.sci_ops.specs.Table.{turn_of}
+use Rattle.sci_ops.specs.declared.goals.Goal.{Goal}
+use Rattle.sci_ops.specs.Table.{turn_of, begun}
 use Rattle.sci_cache.specs.declared.calls.OpenCall.{OpenCall}
 use Rattle.sci_cache.specs.Nodes.{NodeState, line_by, op_by}
 use Rattle.sci_port.specs.declared.calls.Call.{Call}
 use Rattle.sci_port.specs.declared.calls.Call.TheVariants.{Own, MemWas, TagWas, Stepped}
+use Rattle.sci_script.specs.declared.desk.Toward.{Toward}
 use Rattle.sci_script.specs.declared.watching.Ending.{Ending}
 use Rattle.sci_script.specs.declared.watching.Load.{Load}
 use Rattle.sci_script.specs.declared.watching.Passed.{Passed}
@@ -65,3 +67,11 @@ PassesTurnOf s node (Some c) t p q = PassesOn s.width node (line_by c.victim c.l
 
 abbrev pub shared_passes : Shared → ℕ → Shared → Passed → Passed → Type 0
 shared_passes s node t p q = PassesTurnOf s node (s.nodes node).call t p q
+
+-- in a turn of the node towards rest, as a load takes it
+abbrev pub passes_to_rest : Shared → ℕ → ℕ → Shared → Passed → Passed → Type 0
+passes_to_rest s line node t p q = PassesOn s.width node line (begun Goal.Load) (s.lines line) (t.lines line) p q
+
+abbrev pub toward_passes : Shared → ℕ → Toward → Shared → Passed → Passed → Type 0
+toward_passes s line (Toward.Turned node) t p q = passes_to_rest s line node t p q
+toward_passes s line toward t p q = q ≡ p

@@ -1,11 +1,16 @@
 -- The memory that a script is about: a state of each line, and each node with its residents and its open call. This project's
 -- profile.
-use Rattle.std.specs.Prelude.{◌≡◌, ◌≢◌, ℕ, Bool, Option, Some, None, is_some}
+use Rattle.std.specs.Prelude.{◌≡◌, ◌≢◌, ℕ, ◌<◌, Bool, Option, Some, None, is_some}
+use Rattle.sci_core.specs.Progress.{IsAtRest, IsMover}
 use Rattle.sci_core.specs.State.{State, update}
 use Rattle.sci_ops.specs.declared.answers.Turn.{Turn}
+use Rattle.sci_ops.specs.declared.goals.Goal.{Goal}
+use Rattle.sci_ops.specs.Ranking.{ranking}
+use Rattle.sci_ops.specs.Table.{begun}
 use Rattle.sci_cache.specs.declared.calls.OpenCall.{OpenCall}
 use Rattle.sci_cache.specs.Nodes.{NodeState, node_with, node_after, line_by, op_by, shown_by}
-use Rattle.sci_script.specs.Event.{Event, Began, Turned, SawMem, SawTag, SawResidents}
+use Rattle.sci_script.specs.declared.desk.Toward.{Toward}
+use Rattle.sci_script.specs.Event.{Event, Began, Turned, Rested, SawMem, SawTag, SawResidents}
 use Rattle.sci_script.specs.Turns.{TurnsOn}
 
 -- how many nodes each line has; the state of each line, by its number; each node, by its number
@@ -35,10 +40,31 @@ abbrev pub TakesTurnOf : Shared → ℕ → Option OpenCall → Turn → Shared 
 TakesTurnOf s node None turn t = ⊥
 TakesTurnOf s node (Some call) turn t = TakesTurn s node call turn t
 
+-- a turn towards rest of a node under way that moves, as a load takes it; all else stays, the nodes' calls too
+pub record TakesRestTurn (s : Shared) (line node : ℕ) (t : Shared) : Type 0 where
+  pub turn : Turn
+  pub width : t.width ≡ s.width
+  pub inside : node < s.width
+  pub mover : IsMover s.width (s.lines line) node
+  pub goes : turn ≢ Turn.Waiting
+  pub made : TurnsOn s.width node (begun Goal.Load) (s.lines line) turn (t.lines line)
+  pub others : (other : ℕ) → other ≢ line → t.lines other ≡ s.lines other
+  pub nodes : (i : ℕ) → t.nodes i ≡ s.nodes i
+
+-- how many turns a line is from rest at most
+abbrev pub shared_far : Shared → ℕ → ℕ
+shared_far s line = ranking s.width (s.lines line)
+
+abbrev pub GoesToRest : Shared → ℕ → Toward → Shared → Type 0
+GoesToRest s line (Toward.Turned node) t = TakesRestTurn s line node t
+GoesToRest s line Toward.Reached t = IsAtRest (s.lines line) × (t ≡ s)
+GoesToRest s line Toward.Unknown t = ⊥
+
 -- a call begun touches no line; a turn is that of the node's call; loads give the words that stand, and residents are the node's
 abbrev pub shared_does : Shared → Event → Shared → Type 0
 shared_does s (Began node request) t = (t.width ≡ s.width) × ((i : ℕ) → t.lines i ≡ s.lines i) × HasNode s node (node_with (s.nodes node) request) t
 shared_does s (Turned node turn) t = TakesTurnOf s node (s.nodes node).call turn t
+shared_does s (Rested line toward) t = GoesToRest s line toward t
 shared_does s (SawMem line mem) t = (mem ≡ Some (s.lines line).memory) × (t ≡ s)
 shared_does s (SawTag line node tag) t = (tag ≡ Some ((s.lines line).tags node)) × (t ≡ s)
 shared_does s (SawResidents node lines) t = (lines ≡ (s.nodes node).residents) × (t ≡ s)

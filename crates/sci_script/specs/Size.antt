@@ -1,5 +1,5 @@
 -- What a script's memory has, and which commands fit it. This project's profile.
-use Rattle.std.specs.Prelude.{◌≡◌, ◌≤◌, ℕ, Bool, true, ◌&&◌, nat_lt, List}
+use Rattle.std.specs.Prelude.{◌≡◌, ◌<◌, ◌≤◌, ℕ, Bool, true, ◌&&◌, nat_eq, nat_lt, List}
 use Rattle.std.specs.List.{list_all}
 use Rattle.sci_core.specs.declared.whole.TheConstants.{MOST_NODES}
 use Rattle.sci_script.specs.declared.commands.Size.{Size}
@@ -7,7 +7,8 @@ use Rattle.sci_script.specs.declared.commands.Request.{Request}
 use Rattle.sci_script.specs.declared.commands.Request.TheVariants.{Load, Store, Add, Evict}
 use Rattle.sci_script.specs.declared.commands.Step.{Step}
 use Rattle.sci_script.specs.declared.commands.Command.{Command}
-use Rattle.sci_script.specs.declared.commands.Command.TheVariants.{Begin, Turn, Done, List as ListLine, Tag as ShowTag, Residents}
+use Rattle.sci_script.specs.declared.desk.Toward.{Toward}
+use Rattle.sci_script.specs.declared.commands.Command.TheVariants.{Begin, Turn, Done, Rest, End, List as ListLine, Tag as ShowTag, Residents}
 
 -- 1 to 1,024 nodes, 1 to 1,024 lines
 pub record IsSize (size : Size) : Type 0 where
@@ -32,6 +33,8 @@ abbrev pub is_in : Size → Command → Bool
 is_in size (Begin node line request) = nat_lt node size.nodes && (nat_lt line size.lines && is_request request)
 is_in size (Turn node) = nat_lt node size.nodes
 is_in size (Done node) = nat_lt node size.nodes
+is_in size (Rest lines) = nat_eq lines size.lines
+is_in size (End nodes lines) = nat_eq nodes size.nodes && nat_eq lines size.lines
 is_in size (ListLine line) = nat_lt line size.lines
 is_in size (ShowTag line node) = nat_lt line size.lines && nat_lt node size.nodes
 is_in size (Residents node) = nat_lt node size.nodes
@@ -41,3 +44,8 @@ IsIn size command = is_in size command ≡ true
 
 abbrev pub AreIn : Size → List Step → Type 0
 AreIn size steps = list_all (λ step. is_in size step.command) steps ≡ true
+
+-- who takes a turn towards rest is one of n nodes
+abbrev pub IsBelow : ℕ → Toward → Type 0
+IsBelow n (Toward.Turned node) = node < n
+IsBelow n toward = Unit {0}

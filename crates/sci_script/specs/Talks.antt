@@ -1,5 +1,6 @@
 -- A script's commands, said one by one: how a talk stands, and what each line makes of it. This project's profile.
 use Rattle.std.specs.Prelude.{◌≡◌, ◌⊎◌, ℕ, Bool, true, false, List, [], ◌∷◌, ◌++◌, Option, Some, None, Result, Ok, Err}
+use Rattle.std.specs.List.{flat_map}
 use Rattle.sci_script.specs.declared.commands.Size.{Size}
 use Rattle.sci_script.specs.declared.commands.Opening.{Opening}
 use Rattle.sci_script.specs.declared.commands.Step.{Step}
@@ -100,3 +101,12 @@ Declines s words e t = (Fails e (command_of s words) × (t ≡ s)) ⊎ ((command
 abbrev pub Refuses : Standing → List ℕ → ScriptRefusal → Standing → Type 0
 Refuses s line e t = (is_skipped line ≡ false)
     × ((Fails e (words_at 1 line) × (t ≡ s)) ⊎ ((words : List (List ℕ)) × (words_at 1 line ≡ Ok words) × Declines s words e t))
+
+-- the lines are accepted one after another, and print these parts
+abbrev pub AcceptsAll : Standing → List (List ℕ) → List (List ℕ) → Standing → Type 0
+AcceptsAll s [] parts t = (parts ≡ []) × (t ≡ s)
+AcceptsAll s (line ∷ lines) parts t = (first : List ℕ) × (rest : List (List ℕ)) × (mid : Standing) × Accepts s line first mid × AcceptsAll mid lines rest t × (parts ≡ first ∷ rest)
+
+-- lines that are all accepted print this text, part by part
+abbrev pub Says : Standing → List (List ℕ) → List ℕ → Type 0
+Says s lines text = (parts : List (List ℕ)) × (t : Standing) × AcceptsAll s lines parts t × (flat_map (λ (part : List ℕ). part) parts ≡ text)

@@ -4,7 +4,7 @@ ghost use Rattle.sci_cache.specs.Nodes.{IsSameNode, TurnsBy};
 ghost use Rattle.sci_script.specs.BankDesks.{AreBanksOf};
 
 use crate::commands::{Script, Size};
-use crate::desk::Desk;
+use crate::desk::{Desk, Toward};
 use crate::nodes::idle;
 use sci_cache::{Node, Request};
 use sci_ops::Turn;
@@ -105,6 +105,8 @@ impl<B: Bank> Desk for BankDesk<B> {
 
     ghost is_open = { λ desk node. banked_is_open desk node };
 
+    ghost far = { λ desk line. 0 };
+
     ghost does = { λ s event t. banked_does B.gives B.at_step s event t };
 
     fn open(&self, node: NodeId) -> bool {
@@ -121,6 +123,11 @@ impl<B: Bank> Desk for BankDesk<B> {
     fn turn(&mut self, node: NodeId) -> Turn {
         let place = usize::from(node.get());
         turn_over(&mut self.banks[place], &mut self.nodes[place])
+    }
+
+    // A bank shows the words of lines that others may reach between two calls: who moves isn't known.
+    fn rest_turn(&mut self, _line: LineNo) -> Toward {
+        Toward::Unknown
     }
 
     fn resident(&self, alloc: Global, node: NodeId) -> Result<Vec<LineNo>, AllocError> {

@@ -61,6 +61,15 @@ pub enum Command {
     Done {
         node: NodeId,
     },
+    /// Brings the first `lines` lines to rest.
+    Rest {
+        lines: u16,
+    },
+    /// Brings the first `lines` lines to rest, and takes each open call of the first `nodes` nodes to its end, the lowest node first.
+    End {
+        nodes: u16,
+        lines: u16,
+    },
     /// Prints the line's sharing list.
     List {
         line: LineNo,

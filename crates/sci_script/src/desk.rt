@@ -2,12 +2,23 @@
 ghost use Rattle.std.specs.Prelude.{◌≡◌, ◌<◌, ℕ, Bool, true, false, Some, IfSome, IfOk, OnOk, OnErr};
 ghost use Rattle.sci_cache.specs.Requests.{line_of, has_bad_word};
 ghost use Rattle.sci_script.specs.declared.commands.Size.{Size};
-ghost use Rattle.sci_script.specs.Event.{Event, Began, Turned, SawMem, SawTag, SawResidents, IsNoEnd};
+ghost use Rattle.sci_script.specs.Event.{Event, Began, Turned, Rested, SawMem, SawTag, SawResidents, IsNoEnd, IsTurned};
 
 use sci_cache::Request;
 use sci_ops::Turn;
 use sci_words::{LineNo, Mem, NodeId, Tag};
 use std::alloc::{AllocError, Global};
+
+/// What one turn towards rest came to.
+#[derive(Clone, Copy, Debug, PartialEq, Eq)]
+pub enum Toward {
+    /// This node was under way, and made an exchange.
+    Turned(NodeId),
+    /// No node is under way.
+    Reached,
+    /// It isn't known who moves.
+    Unknown,
+}
 
 /// Nodes and lines, the lines that each node names, and each node's open call, where it has one. What a call answers, and how the
 /// desk stands after it, is the implementation's own to say, by `does`.
@@ -17,6 +28,9 @@ pub trait Desk {
 
     /// Whether the node's call is open.
     ghost is_open: { Self → ℕ → Bool };
+
+    /// How many turns a line is from rest at most, where it is known who moves.
+    ghost far: { Self → ℕ → ℕ };
 
     /// From a desk as it stands, a call may give this answer and leave the desk so.
     ghost does: { Self → Event → Self → Type 0 };
@@ -42,6 +56,13 @@ pub trait Desk {
         requires open { is_open self.old node ≡ true }
         ensures turned { does self.old (Turned node result) self.new }
         ensures open { IsNoEnd result → is_open self.new node ≡ true }
+        ensures size { size self.new ≡ size self.old };
+
+    /// One turn of a node under way on the line that moves, as a load takes it. It leads nearer to rest. No call ends.
+    fn rest_turn(&mut self, line: LineNo) -> Toward
+        requires { line < (size self.old).lines }
+        ensures turned { does self.old (Rested line result) self.new }
+        ensures nearer { IsTurned result → far self.new line < far self.old line }
         ensures size { size self.new ≡ size self.old };
 
     /// The lines that the node names, most recent first.

@@ -2,7 +2,7 @@
 
 ghost use Rattle.std.specs.Prelude.{◌≡◌, ◌<◌, ◌≤◌, map, length, IfOk, IfSome};
 ghost use Rattle.sci_script.specs.Size.{IsSize, IsCapacity, IsIn};
-ghost use Rattle.sci_script.specs.Format.{Gives, node_at, line_at, value_at, values_at, place_at, change_at, size_at, opening_at, opening_of, load_at, store_at, add_at, evict_at, turn_at, done_at, list_at, tag_at, residents_at, other_at, command_at, bound_at, bound_of};
+ghost use Rattle.sci_script.specs.Format.{Gives, node_at, line_at, value_at, values_at, place_at, change_at, size_at, opening_at, opening_of, load_at, store_at, add_at, evict_at, turn_at, done_at, rest_at, end_at, list_at, tag_at, residents_at, other_at, command_at, bound_at, bound_of};
 
 use crate::commands::{Command, Opening, Request, Size};
 use crate::numbers::number_within;
@@ -260,6 +260,35 @@ fn done(number: u64, size: Size, args: &[&[u8]]) -> Result<Command, ScriptRefusa
     }
 }
 
+/// `rest`
+#[tactic(auto, unfolding(crate::specs::Format::rest_at))]
+fn rest(number: u64, size: Size, args: &[&[u8]]) -> Result<Command, ScriptRefusal>
+    requires { IsSize size }
+    ensures exact { Gives (λ c. c) result (rest_at number size (map (λ w. w.now) args.now)) }
+    ensures fits { IfOk result (IsIn size) }
+{
+    match args {
+        [] => Ok(Command::Rest { lines: size.lines }),
+        _ => Err(ScriptRefusal::BadCommand(number)),
+    }
+}
+
+/// `end`
+#[tactic(auto, unfolding(crate::specs::Format::end_at))]
+fn end(number: u64, size: Size, args: &[&[u8]]) -> Result<Command, ScriptRefusal>
+    requires { IsSize size }
+    ensures exact { Gives (λ c. c) result (end_at number size (map (λ w. w.now) args.now)) }
+    ensures fits { IfOk result (IsIn size) }
+{
+    match args {
+        [] => Ok(Command::End {
+            nodes: size.nodes,
+            lines: size.lines,
+        }),
+        _ => Err(ScriptRefusal::BadCommand(number)),
+    }
+}
+
 /// `list L`
 #[tactic(auto, unfolding(crate::specs::Format::list_at))]
 fn list(number: u64, size: Size, args: &[&[u8]]) -> Result<Command, ScriptRefusal>
@@ -320,6 +349,10 @@ fn other(number: u64, size: Size, name: &[u8], args: &[&[u8]]) -> Result<Command
         turn(number, size, args)
     } else if name == b"done".as_slice() {
         done(number, size, args)
+    } else if name == b"rest".as_slice() {
+        rest(number, size, args)
+    } else if name == b"end".as_slice() {
+        end(number, size, args)
     } else if name == b"list".as_slice() {
         list(number, size, args)
     } else if name == b"tag".as_slice() {

@@ -19,7 +19,7 @@ use std::sync::ledger::Ledger;
 fn rest_all<L: Ledger>(wholes: &mut Vec<Whole<AnyWords>>, size: Size, steps: &mut Steps<L>)
     requires lines { length wholes.old.items ≡ size.lines }
     requires widths { All (λ w. nodes_of w ≡ size.nodes) wholes.old.items }
-    ensures rested { ComeToRest size.nodes size.lines wholes.old.items wholes.new.items }
+    ensures rested { (k : ℕ) × (steps.new ≡ steps.old + k) × ComeToRest size.nodes size.lines wholes.old.items k wholes.new.items }
     ensures bound { steps.new ≤ steps.old + size.lines * (size.nodes * size.nodes + 9 * size.nodes) }
     ensures same { (line : ℕ) → IsSameLine (whole_of wholes.old.items line) (whole_of wholes.new.items line) }
     ensures lines { length wholes.new.items ≡ size.lines }
@@ -55,19 +55,20 @@ impl WholeDesk {
 
     /// The desk with every line at rest, as for a checkpoint: line after line, as `rest` of `sci_ops` brings one to rest, by turns of
     /// nodes under way alone, as loads take them. So nothing is written, and each line's value stays. Of m lines and n nodes at most
-    /// m * (n * n + 9 * n) turns, counted as steps. The nodes are as they were: a call that is open stays open, with its victim, and
+    /// m * (n * n + 9 * n) turns, each counted as one step. The nodes are as they were: a call that is open stays open, with its victim, and
     /// goes on from Idle; none ends. This project's profile.
     pub fn rest<L: Ledger>(self, steps: &mut Steps<L>) -> WholeDesk
-        ensures rested { SharedRests self.size.lines (shared_of self) (shared_of result) }
+        ensures rested { (k : ℕ) × (steps.new ≡ steps.old + k) × SharedRests self.size.lines (shared_of self) k (shared_of result) }
         ensures rest { AreAtRest (shared_of result) }
         ensures bound { steps.new ≤ steps.old + self.size.lines * (self.size.nodes * self.size.nodes + 9 * self.size.nodes) }
         ensures size { result.size ≡ self.size }
     {
         let WholeDesk { size, bank, nodes } = self;
         let node = bank.node();
-        let mut wholes = bank.into_wholes();
+        let parts = bank.into_parts();
+        let mut wholes = parts.0;
         rest_all(&mut wholes, size, steps);
-        let bank = SoloBank::new(wholes, node);
+        let bank = SoloBank::new(wholes, parts.1, node);
         WholeDesk { size, bank, nodes }
     }
 
@@ -87,7 +88,7 @@ impl WholeDesk {
         requires node { node < self.old.size.nodes }
         requires open { shared_is_open (shared_of self.old) node ≡ true }
         requires rest { AreAtRest (shared_of self.old) }
-        ensures ends { EndsCall node (shared_of self.old) result (shared_of self.new) }
+        ensures ends { (k : ℕ) × (steps.new ≡ steps.old + k) × EndsCall node (shared_of self.old) k result (shared_of self.new) }
         ensures bound { steps.new ≤ steps.old + 2 * (3 * self.old.size.nodes + 16) }
         ensures rest { AreAtRest (shared_of self.new) }
         ensures closed { shared_is_open (shared_of self.new) node ≡ false }
@@ -108,7 +109,7 @@ impl WholeDesk {
     fn ended_if_open<L: Ledger>(&mut self, node: NodeId, steps: &mut Steps<L>) -> Option<Answer>
         requires node { node < self.old.size.nodes }
         requires rest { AreAtRest (shared_of self.old) }
-        ensures ends { EndsIfOpen (shared_is_open (shared_of self.old) node) node (shared_of self.old) result (shared_of self.new) }
+        ensures ends { (k : ℕ) × (steps.new ≡ steps.old + k) × EndsIfOpen (shared_is_open (shared_of self.old) node) node (shared_of self.old) k result (shared_of self.new) }
         ensures bound { steps.new ≤ steps.old + 2 * (3 * self.old.size.nodes + 16) }
         ensures rest { AreAtRest (shared_of self.new) }
         ensures closed { shared_is_open (shared_of self.new) node ≡ false }
@@ -127,7 +128,7 @@ impl WholeDesk {
     /// is at rest. Each turn is counted as one step. This project's profile.
     pub fn end<L: Ledger>(self, answers: &mut [Option<Answer>], steps: &mut Steps<L>) -> WholeDesk
         requires { length answers.old ≡ self.size.nodes }
-        ensures ends { (mid : Shared) × SharedRests self.size.lines (shared_of self) mid × AreAtRest mid × EndsCalls self.size.nodes mid answers.new (shared_of result) }
+        ensures ends { (mid : Shared) × (k turns : ℕ) × (steps.new ≡ steps.old + k + turns) × SharedRests self.size.lines (shared_of self) k mid × AreAtRest mid × EndsCalls self.size.nodes mid turns answers.new (shared_of result) }
         ensures bound { steps.new ≤ steps.old + self.size.lines * (self.size.nodes * self.size.nodes + 9 * self.size.nodes) + self.size.nodes * (2 * (3 * self.size.nodes + 16)) }
         ensures rest { AreAtRest (shared_of result) }
         ensures closed { (node : ℕ) → node < self.size.nodes → shared_is_open (shared_of result) node ≡ false }

@@ -1,14 +1,15 @@
 //! Runs a script.
-ghost use Rattle.std.specs.Prelude.{◌≡◌, ◌<◌, ◌≤◌, ℕ, [], true, Some, string_bytes, IfOk, IfErr, OnOk, All, MatchBool, MatchOption};
+ghost use Rattle.std.specs.Prelude.{◌≡◌, ◌<◌, ◌≤◌, ◌++◌, ℕ, List, [], true, Some, string_bytes, IfOk, IfErr, OnOk, All, MatchBool, MatchOption};
 ghost use Rattle.sci_core.specs.declared.whole.TheConstants.{MOST_NODES};
-ghost use Rattle.sci_script.specs.declared.commands.Command.TheVariants.{Begin as BeginCall, Turn as TurnOnce, Done, List as ListLine, Tag as ShowTag, Residents};
+ghost use Rattle.sci_script.specs.declared.commands.Command.TheVariants.{Begin as BeginCall, Turn as TurnOnce, Done, Rest, End, List as ListLine, Tag as ShowTag, Residents};
 ghost use Rattle.sci_script.specs.Size.{IsIn};
 ghost use Rattle.sci_script.specs.Event.{Turned, IsEnd, IsNoEnd};
 ghost use Rattle.sci_script.specs.Request.{words_after};
-ghost use Rattle.sci_script.specs.Run.{Unended, Prints, StopsAt};
+ghost use Rattle.sci_script.specs.declared.desk.Toward.{Toward};
+ghost use Rattle.sci_script.specs.Run.{Unended, CalmsTo, RestsLines, RestsNot, EndsOpenBy, EndStops, Prints, StopsAt};
 
 use crate::commands::{Command, Request, Script, Size, Step};
-use crate::desk::Desk;
+use crate::desk::{Desk, Toward};
 use crate::loading::{load_mem, load_tag, walk};
 use crate::refusals::ScriptRefusal;
 use crate::texts::{list_text, residents_text, tag_text, turn_text};
@@ -33,6 +34,7 @@ pub fn is_end(turn: Turn) -> bool
 }
 
 /// Turns until the call ends, or `None` if it doesn't.
+#[inline(always)]
 fn turns_to_end<D: Desk>(desk: &mut D, node: NodeId) -> Option<Turn>
     requires node { node < (D.size desk.old).nodes }
     requires open { D.is_open desk.old node ≡ true }
@@ -73,6 +75,101 @@ fn done<D: Desk>(
         Some(turn) => Ok(turn_text(text, node, words[usize::from(node.get())], &turn)?),
         None => Err(ScriptRefusal::NotDone(number)),
     }
+}
+
+/// Turns towards rest on the line, one after another: true where it is reached, false where it isn't known who moves.
+fn line_rests<D: Desk>(desk: &mut D, line: LineNo) -> bool
+    requires { line < (D.size desk.old).lines }
+    ensures calms { MatchBool result (CalmsTo D.does line Toward.Reached desk.old desk.new) (CalmsTo D.does line Toward.Unknown desk.old desk.new) }
+    ensures size { D.size desk.new ≡ D.size desk.old }
+{
+    'turns: loop {
+        match desk.rest_turn(line) {
+            Toward::Turned(_) => {}
+            Toward::Reached => return true,
+            Toward::Unknown => return false,
+        }
+    }
+}
+
+/// The same of each line, one after another.
+fn all_rest<D: Desk>(desk: &mut D, lines: u16) -> bool
+    requires { lines ≡ (D.size desk.old).lines }
+    ensures rested { MatchBool result (RestsLines D.does lines desk.old desk.new) (RestsNot D.does lines desk.old desk.new) }
+    ensures size { D.size desk.new ≡ D.size desk.old }
+{
+    for line in 0..lines {
+        if !line_rests(desk, line) {
+            return false;
+        }
+    }
+    true
+}
+
+/// `rest`: each line is brought to rest. It prints nothing.
+fn rest<D: Desk>(desk: &mut D, nodes: u16, number: u64, lines: u16) -> Result<(), ScriptRefusal>
+    requires { lines ≡ (D.size desk.old).lines }
+    ensures ok { OnOk result (Prints D.is_open D.does [] desk.old (Rest lines) [] desk.new) }
+    ensures err { IfErr result (λ e. StopsAt D.is_open D.does nodes desk.old (record { number = number; command = Rest lines }) e desk.new) }
+    ensures size { D.size desk.new ≡ D.size desk.old }
+{
+    if !all_rest(desk, lines) {
+        return Err(ScriptRefusal::NotDone(number));
+    }
+    Ok(())
+}
+
+/// The node's call is taken to its end, where it is open: the text of that, behind what there is.
+fn end_open<D: Desk>(
+    text: &mut String,
+    desk: &mut D,
+    words: &[u8; NODES],
+    number: u64,
+    node: NodeId,
+) -> Result<(), ScriptRefusal>
+    requires node { node < (D.size desk.old).nodes }
+    requires few { (D.size desk.old).nodes ≤ MOST_NODES }
+    requires words { All (λ w. w < 8) words.now }
+    ensures ok { OnOk result ((last : List ℕ) × EndsOpenBy (D.is_open desk.old node) D.does words.now node desk.old last desk.new × (string_bytes text.new ≡ string_bytes text.old ++ last)) }
+    ensures err { IfErr result (λ e. (D.is_open desk.old node ≡ true) × EndStops D.does words.now number node desk.old e desk.new) }
+    ensures size { D.size desk.new ≡ D.size desk.old }
+{
+    if !desk.open(node) {
+        return Ok(());
+    }
+    match turns_to_end(desk, node) {
+        Some(turn) => turn_text(text, node, words[usize::from(node.get())], &turn)?,
+        None => return Err(ScriptRefusal::NotDone(number)),
+    }
+    Ok(())
+}
+
+/// `end`: `rest`, and then the texts of the ends of all open calls, the lowest node's first, behind an empty text.
+fn end<D: Desk>(
+    text: &mut String,
+    desk: &mut D,
+    words: &[u8; NODES],
+    number: u64,
+    nodes: u16,
+    lines: u16,
+) -> Result<(), ScriptRefusal>
+    requires empty { string_bytes text.old ≡ [] }
+    requires nodes { nodes ≡ (D.size desk.old).nodes }
+    requires lines { lines ≡ (D.size desk.old).lines }
+    requires few { (D.size desk.old).nodes ≤ MOST_NODES }
+    requires words { All (λ w. w < 8) words.now }
+    ensures ok { OnOk result (Prints D.is_open D.does words.now desk.old (End nodes lines) (string_bytes text.new) desk.new) }
+    ensures err { IfErr result (λ e. StopsAt D.is_open D.does nodes desk.old (record { number = number; command = End nodes lines }) e desk.new) }
+    ensures size { D.size desk.new ≡ D.size desk.old }
+{
+    if !all_rest(desk, lines) {
+        return Err(ScriptRefusal::NotDone(number));
+    }
+    for place in 0..nodes {
+        let node = NodeId::new(place).unwrap();
+        end_open(text, desk, words, number, node)?;
+    }
+    Ok(())
 }
 
 /// `list`: the text of the line's sharing list.
@@ -209,6 +306,8 @@ pub fn perform<D: Desk>(
         } => begin(desk, nodes, number, node, line, request),
         Command::Turn { node } => turn(text, desk, nodes, words, number, node),
         Command::Done { node } => done(text, desk, nodes, words, number, node),
+        Command::Rest { lines } => rest(desk, nodes, number, lines),
+        Command::End { nodes, lines } => end(text, desk, words, number, nodes, lines),
         Command::List { line } => list(alloc, text, desk, nodes, number, line),
         Command::Tag { line, node } => tag(alloc, text, desk, nodes, number, line, node),
         Command::Residents { node } => residents(alloc, text, desk, nodes, number, node),

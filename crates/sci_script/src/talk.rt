@@ -17,7 +17,7 @@ use crate::wholes::WholeDesk;
 use std::alloc::Global;
 
 /// The number of a line that is said: each is a text of its own.
-const HERE: u64 = 1;
+pub(crate) const HERE: u64 = 1;
 
 /// How many lines a node may name where nothing is said of it.
 const UNBOUNDED: u16 = 1024;
@@ -45,7 +45,7 @@ fn said_behind(size: Size, words: &[&[u8]]) -> Result<Said, ScriptRefusal>
 
 /// What the words say; a capacity may be said where `memory` alone was.
 #[tactic(auto, unfolding(crate::specs::Talks::said_at))]
-fn saying(bare: bool, size: Size, words: &[&[u8]]) -> Result<Said, ScriptRefusal>
+pub(crate) fn saying(bare: bool, size: Size, words: &[&[u8]]) -> Result<Said, ScriptRefusal>
     requires { IsSize size }
     ensures exact { Gives (λ s. s) result (said_at bare size (map (λ w. w.now) words.now)) }
     ensures fits { IfOk result (IsSaid size) }

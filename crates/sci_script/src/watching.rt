@@ -1,18 +1,25 @@
 //! A turn over a bank that keeps what passes on its way.
-ghost use Rattle.std.specs.Prelude.{◌≡◌, ◌<◌, ℕ, true, Some, length, is_some, IfSome};
+ghost use Rattle.std.specs.Prelude.{◌≡◌, ◌≢◌, ◌<◌, ℕ, true, Some, Ok, length, is_some, IfSome};
 ghost use Rattle.sci_core.specs.Stage.{stage_of};
-ghost use Rattle.sci_core.specs.Whole.{nodes_of};
-ghost use Rattle.sci_cache.specs.Nodes.{IsSameNode, line_by};
+ghost use Rattle.sci_core.specs.Whole.{nodes_of, state_of};
+ghost use Rattle.sci_ops.specs.declared.goals.Goal.{Goal};
+ghost use Rattle.sci_ops.specs.Alone.{TakesTurn};
+ghost use Rattle.sci_ops.specs.Table.{begun};
+ghost use Rattle.sci_cache.specs.Nodes.{IsSameNode, TurnsBy, line_by, node_after};
 ghost use Rattle.sci_script.specs.declared.watching.Load.{Load};
-ghost use Rattle.sci_script.specs.Nodes.{TurnsOverOf, whole_of};
-ghost use Rattle.sci_script.specs.Passed.{ending_of, looks_by, passed_by, PassesOverOf};
+ghost use Rattle.sci_script.specs.Nodes.{TurnsOverOf, load_on, loader, whole_of};
+ghost use Rattle.sci_script.specs.Passed.{ending_of, looks_by, passed_by, PassesOn, PassesOverOf};
+ghost use Rattle.sci_script.specs.Resting.{any};
+ghost use Rattle.sci_script.specs.Turns.{TurnsOn};
 
+use crate::desk::Toward;
 use crate::wholes::WholeDesk;
-use sci_cache::Node;
+use sci_cache::{Node, turn_at};
 use sci_core::{AnyWords, Event, Outcome, Pending, Stage};
-use sci_ops::Turn;
+use sci_ops::{Op, Turn};
 use sci_port::{Bank, SoloBank};
 use sci_words::{LineNo, Mem, NodeId, Tag};
+use std::alloc::AllocError;
 
 /// A load, with its answer.
 #[derive(Clone, Copy, Debug)]
@@ -105,7 +112,11 @@ impl<B: Bank> Bank for Watched<'_, '_, B> {
 
     ghost at_step = { λ s line. B.at_step s.bank.now line };
 
+    ghost told = { λ s line. B.told s.bank.now line };
+
     ghost gives = { λ s line call t. B.gives s.bank.now line call t.bank.now × (t.passed.now ≡ passed_by s.passed.now line call) × (t.bank.ghost_name ≡ s.bank.ghost_name) × (t.passed.ghost_name ≡ s.passed.ghost_name) };
+
+    ghost readies = { λ s line r t. B.readies s.bank.now line r t.bank.now × (t.passed ≡ s.passed) × (t.bank.ghost_name ≡ s.bank.ghost_name) };
 
     ghost same_way = { λ s line call t h. B.same_way s.bank.now line call t.bank.now h.0 };
 
@@ -116,6 +127,10 @@ impl<B: Bank> Bank for Watched<'_, '_, B> {
     ghost others = { λ s line call t h. B.others s.bank.now line call t.bank.now h.0 };
 
     ghost owes = { λ s line call t h. B.owes s.bank.now line call t.bank.now h.0 };
+
+    ghost receives = { λ s line call t h. B.receives s.bank.now line call t.bank.now h.0 };
+
+    ghost readied = { λ s line r t h. B.readied s.bank.now line r t.bank.now h.0 };
 
     fn node(&self) -> NodeId {
         self.bank.node()
@@ -174,6 +189,22 @@ impl<B: Bank> Bank for Watched<'_, '_, B> {
         self.passed.step = Some((passing, ending));
         outcome
     }
+
+    fn reserve(&mut self, line: LineNo, n: usize) -> Result<(), AllocError> {
+        self.bank.reserve(line, n)
+    }
+
+    fn room(&self, line: LineNo) -> usize {
+        self.bank.room(line)
+    }
+
+    fn last_passed(&self, line: LineNo) -> bool {
+        self.bank.last_passed(line)
+    }
+
+    fn aim(&mut self, line: LineNo, passing: bool) {
+        self.bank.aim(line, passing);
+    }
 }
 
 /// One turn of the node's call, over the bank that it is seated at, and what passed.
@@ -196,10 +227,35 @@ fn watched_turn_on(bank: &mut SoloBank<AnyWords>, node: &mut Node, passed: &mut 
     }
 }
 
+/// One turn of a load on the line by the bank's node.
+fn load_turn<B: Bank>(bank: &mut B, line: LineNo) -> Turn
+    requires { line < (B.way bank.old).lines }
+    ensures turns { TurnsBy B.gives B.at_step (loader (B.way bank.old).node line) (Some (load_on line)) bank.old (Ok result) bank.new (node_after (loader (B.way bank.old).node line) (load_on line) result) }
+    ensures same_way { B.way bank.new ≡ B.way bank.old }
+    ensures same_nodes { (m : ℕ) → B.nodes_on bank.new m ≡ B.nodes_on bank.old m }
+{
+    let mut load = Op::load();
+    turn_at(bank, line, &mut load)
+}
+
+/// One turn of a load on the line by the node that the bank is seated at, and what passed.
+fn watched_load_on(bank: &mut SoloBank<AnyWords>, line: LineNo, passed: &mut Passed) -> Turn
+    requires { line < length bank.old.wholes.items }
+    ensures made { TurnsOn (nodes_of (whole_of bank.old.wholes.items line)) bank.old.node (begun Goal.Load) (state_of (whole_of bank.old.wholes.items line)) result (state_of (whole_of bank.new.wholes.items line)) }
+    ensures lent { TakesTurn (nodes_of (whole_of bank.old.wholes.items line)) any bank.old.node (begun Goal.Load) (state_of (whole_of bank.old.wholes.items line)) result (state_of (whole_of bank.new.wholes.items line)) }
+    ensures passed { PassesOn (nodes_of (whole_of bank.old.wholes.items line)) bank.old.node line (begun Goal.Load) (state_of (whole_of bank.old.wholes.items line)) (state_of (whole_of bank.new.wholes.items line)) passed.old passed.new }
+    ensures others { (m : ℕ) → m ≢ line → whole_of bank.new.wholes.items m ≡ whole_of bank.old.wholes.items m }
+    ensures same_lines { length bank.new.wholes.items ≡ length bank.old.wholes.items }
+    ensures same_widths { (m : ℕ) → nodes_of (whole_of bank.new.wholes.items m) ≡ nodes_of (whole_of bank.old.wholes.items m) }
+{
+    load_turn(&mut Watched { bank, passed }, line)
+}
+
 impl WholeDesk {
-    ghost use Rattle.sci_script.specs.Event.{Turned, IsNoEnd};
-    ghost use Rattle.sci_script.specs.Passed.{shared_passes};
-    ghost use Rattle.sci_script.specs.Shared.{shared_is_open, shared_does};
+    ghost use Rattle.sci_script.specs.Event.{Turned, Rested, IsNoEnd, IsTurned};
+    ghost use Rattle.sci_script.specs.Passed.{shared_passes, toward_passes};
+    ghost use Rattle.sci_script.specs.Size.{IsBelow};
+    ghost use Rattle.sci_script.specs.Shared.{shared_far, shared_is_open, shared_does};
     ghost use Rattle.sci_script.specs.Wholes.{shared_of};
 
     /// One turn of the node's open call, as `turn`, and what passed in it.
@@ -219,6 +275,24 @@ impl WholeDesk {
             &mut self.nodes[usize::from(node.get())],
             passed,
         )
+    }
+
+    /// One turn towards rest, as `rest_turn`, and what passed in it.
+    pub fn watched_rest_turn(&mut self, line: LineNo, passed: &mut Passed) -> Toward
+        requires line { line < self.old.size.lines }
+        ensures turned { shared_does (shared_of self.old) (Rested line result) (shared_of self.new) }
+        ensures passed { toward_passes (shared_of self.old) line result (shared_of self.new) passed.old passed.new }
+        ensures line { passed.old.line ≡ 0 → passed.new.line < self.new.size.lines }
+        ensures node { IsBelow self.old.size.nodes result }
+        ensures nearer { IsTurned result → shared_far (shared_of self.new) line < shared_far (shared_of self.old) line }
+        ensures size { self.new.size ≡ self.old.size }
+    {
+        let Some(node) = self.bank.whole(line).mover() else {
+            return Toward::Reached;
+        };
+        self.bank.seat(node);
+        watched_load_on(&mut self.bank, line, passed);
+        Toward::Turned(node)
     }
 
     /// The node's pending step on the line.

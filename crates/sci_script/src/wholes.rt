@@ -6,12 +6,13 @@ ghost use Rattle.sci_script.specs.Nodes.{AreNodesOf, TurnsOverOf, whole_of};
 ghost use Rattle.sci_script.specs.Unused.{AreOpened};
 
 use crate::commands::{Script, Size};
-use crate::desk::Desk;
+use crate::desk::{Desk, Toward};
 use crate::nodes::idle;
+use crate::watching::Passed;
 use sci_cache::{Node, OpenCall, Request};
 use sci_core::{AnyWords, Whole};
 use sci_ops::Turn;
-use sci_port::{Bank, SoloBank};
+use sci_port::{Bank, Receipts, SoloBank};
 use sci_words::{LineNo, Mem, NodeId, Tag};
 use std::alloc::{AllocError, Global};
 
@@ -75,7 +76,8 @@ impl WholeDesk {
         let size = script.size;
         let nodes = idle(alloc, script)?;
         let wholes = unused(alloc, script)?;
-        let bank = SoloBank::new(wholes, nodes[0].id());
+        let receipts = Receipts::of_lines(alloc, usize::from(size.lines))?;
+        let bank = SoloBank::new(wholes, receipts, nodes[0].id());
         Ok(WholeDesk { size, bank, nodes })
     }
 
@@ -89,7 +91,8 @@ impl WholeDesk {
     /// The call that the node has open.
     pub fn open_call(&self, node: NodeId) -> Option<OpenCall>
         requires { node < self.now.size.nodes }
-        ensures { result ≡ ((shared_of self.now).nodes node).call }
+        ensures call { result ≡ ((shared_of self.now).nodes node).call }
+        ensures below { IfSome result (λ c. line_by c.victim c.line < self.now.size.lines) }
     {
         self.nodes[usize::from(node.get())].open_call()
     }
@@ -103,12 +106,14 @@ impl WholeDesk {
 }
 
 impl Desk for WholeDesk {
-    ghost use Rattle.sci_script.specs.Shared.{shared_is_open, shared_does};
+    ghost use Rattle.sci_script.specs.Shared.{shared_far, shared_is_open, shared_does};
     ghost use Rattle.sci_script.specs.Wholes.{shared_of};
 
     ghost size = { λ desk. desk.size };
 
     ghost is_open = { λ desk node. shared_is_open (shared_of desk) node };
+
+    ghost far = { λ desk line. shared_far (shared_of desk) line };
 
     ghost does = { λ s event t. shared_does (shared_of s) event (shared_of t) };
 
@@ -127,6 +132,11 @@ impl Desk for WholeDesk {
     fn turn(&mut self, node: NodeId) -> Turn {
         self.bank.seat(node);
         turn_on(&mut self.bank, &mut self.nodes[usize::from(node.get())])
+    }
+
+    fn rest_turn(&mut self, line: LineNo) -> Toward {
+        let mut passed = Passed::NOTHING;
+        self.watched_rest_turn(line, &mut passed)
     }
 
     fn resident(&self, alloc: Global, node: NodeId) -> Result<Vec<LineNo>, AllocError> {

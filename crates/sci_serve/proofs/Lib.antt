@@ -12,3 +12,7 @@ pub mod Declining
 pub mod Heard
 pub mod Departing
 pub mod RaceStops
+pub mod Plain
+pub mod OwnLines
+pub mod Accepting
+pub mod NotedBack

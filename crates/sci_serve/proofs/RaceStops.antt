@@ -1,4 +1,4 @@
--- The faults of the command `outcomes`.
+-- The faults of commands on races.
 use Rattle.std.proofs.Common.{◌≡◌, ◌≤◌, ℕ, Option, List, [], length, Ok, inl, inr, refl}
 use Rattle.std.specs.Io.KnownBytes.{IsAtEnd}
 use Rattle.sci_script.specs.declared.commands.Size.{Size}
@@ -18,30 +18,30 @@ use Rattle.sci_serve.specs.declared.racing.RaceFault.{RaceFault}
 use Rattle.sci_serve.specs.declared.racing.RaceFault.TheVariants.{Fault, TooManyStates}
 use Rattle.sci_serve.specs.Fault.{fault_of}
 use Rattle.sci_serve.specs.Input.{IsReadFault}
-use Rattle.sci_serve.specs.Races.{race_fault_of, IsRaceIn, IsRaceToldInTime, StopsRacing}
+use Rattle.sci_serve.specs.Races.{race_fault_of, IsRaceIn, IsRaceToldInTime, Halts}
 use Rattle.sci_serve.proofs.ReadFaults.{of_read_fault}
 
-pub stops_read : (most : ℕ) (e : ScriptRefusal) (input : List ℕ) → length input ≤ 1048576 → Fails e (script_of input) → StopsRacing most (Fault (fault_of e)) input []
-stops_read most OutOfMemory input short h = (inl tt, refl)
-stops_read most (BadCommand n) input short h = (inl (short, h), refl)
-stops_read most (BadNumber n) input short h = (inl (short, h), refl)
-stops_read most (NotDone n) input short h = absurd h
-stops_read most WriteFailed input short h = absurd h
+pub stops_read : (is : List ℕ → Type 0) (most : ℕ) (e : ScriptRefusal) (input : List ℕ) → length input ≤ 1048576 → Fails e (script_of input) → Halts is most (Fault (fault_of e)) input []
+stops_read is most OutOfMemory input short h = (inl tt, refl)
+stops_read is most (BadCommand n) input short h = (inl (short, h), refl)
+stops_read is most (BadNumber n) input short h = (inl (short, h), refl)
+stops_read is most (NotDone n) input short h = absurd h
+stops_read is most WriteFailed input short h = absurd h
 
-pub stops_run : (most : ℕ) (e : ScriptRefusal) (input : List ℕ) (size : Size) (capacity : ℕ) (openings : List Opening) (steps : List Step) → script_of input ≡ Ok (size, capacity, openings, steps)
-    → LeavesNone size capacity openings steps e → StopsRacing most (Fault (fault_of e)) input []
-stops_run most OutOfMemory input size capacity openings steps is h = (inl tt, refl)
-stops_run most (BadCommand n) input size capacity openings steps is h = (inr (size, capacity, openings, steps, is, h), refl)
-stops_run most (BadNumber n) input size capacity openings steps is h = (inr (size, capacity, openings, steps, is, h), refl)
-stops_run most (NotDone n) input size capacity openings steps is h = (inr (size, capacity, openings, steps, is, h), refl)
-stops_run most WriteFailed input size capacity openings steps is h = absurd h
+pub stops_run : (is : List ℕ → Type 0) (most : ℕ) (e : ScriptRefusal) (input : List ℕ) (size : Size) (capacity : ℕ) (openings : List Opening) (steps : List Step) → script_of input ≡ Ok (size, capacity, openings, steps)
+    → LeavesNone size capacity openings steps e → Halts is most (Fault (fault_of e)) input []
+stops_run is most OutOfMemory input size capacity openings steps reads h = (inl tt, refl)
+stops_run is most (BadCommand n) input size capacity openings steps reads h = (inr (size, capacity, openings, steps, reads, h), refl)
+stops_run is most (BadNumber n) input size capacity openings steps reads h = (inr (size, capacity, openings, steps, reads, h), refl)
+stops_run is most (NotDone n) input size capacity openings steps reads h = (inr (size, capacity, openings, steps, reads, h), refl)
+stops_run is most WriteFailed input size capacity openings steps reads h = absurd h
 
-pub stops_search : (most : ℕ) (e : SearchRefusal) (input : List ℕ) (race : RaceState) → IsRaceIn input race → IsRefused (leads_in (length race.nodes)) race most e → StopsRacing most (race_fault_of e) input []
-stops_search most search.OutOfMemory input race is h = (inl tt, refl)
-stops_search most search.TooManyStates input race is h = (race, is, h, refl)
+pub stops_search : (is : List ℕ → Type 0) (most : ℕ) (e : SearchRefusal) (input : List ℕ) (race : RaceState) → IsRaceIn input race → IsRefused (leads_in (length race.nodes)) race most e → Halts is most (race_fault_of e) input []
+stops_search is most search.OutOfMemory input race there h = (inl tt, refl)
+stops_search is most search.TooManyStates input race there h = (race, there, h, refl)
 
-pub stops_input : (most : ℕ) (e : SimFault) (input : List ℕ) → IsReadFault e input → StopsRacing most (Fault e) input []
-stops_input most e input h = of_read_fault (λ f. StopsRacing most (Fault f) input []) input refl (λ long. (long, refl)) (inl tt, refl) e h
+pub stops_input : (is : List ℕ → Type 0) (most : ℕ) (e : SimFault) (input : List ℕ) → IsReadFault e input → Halts is most (Fault e) input []
+stops_input is most e input h = of_read_fault (λ f. Halts is most (Fault f) input []) input refl (λ long. (long, refl)) (inl tt, refl) e h
 
 -- where nothing is left of the input, each fault is told in time
 pub told_at_end : (e : RaceFault) (left : Option (List ℕ)) → IsAtEnd left → IsRaceToldInTime e left

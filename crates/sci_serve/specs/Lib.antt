@@ -9,3 +9,7 @@ pub mod Followed
 pub mod Works
 pub mod Talked
 pub mod Races
+pub mod Explained
+pub mod Plays
+pub mod Accepted
+pub mod ReadBack

@@ -1,4 +1,4 @@
--- What the command `outcomes` writes. This project's profile.
+-- What the command `outcomes` writes, and when commands on races fail. This project's profile.
 use Rattle.std.specs.Prelude.{◌≡◌, ◌⊎◌, ℕ, ◌<◌, ◌≤◌, Option, List, [], length, take, Ok}
 use Rattle.sci_script.specs.declared.commands.Size.{Size}
 use Rattle.sci_script.specs.declared.commands.Opening.{Opening}
@@ -47,16 +47,20 @@ Races most input text = (race : RaceState) × IsRaceIn input race × (states : �
 abbrev pub IsUnrun : List ℕ → ScriptRefusal → Type 0
 IsUnrun input e = (size : Size) × (capacity : ℕ) × (openings : List Opening) × (steps : List Step) × (script_of input ≡ Ok (size, capacity, openings, steps)) × LeavesNone size capacity openings steps e
 
--- what is written where the command fails: a front of the text where the writer failed, and else nothing
+-- what is written where a command on races fails, which else writes a text that is so: a front of one where the writer failed, and else
+-- nothing
+abbrev pub Halts : (List ℕ → Type 0) → ℕ → RaceFault → List ℕ → List ℕ → Type 0
+Halts is most (Fault CannotRead) input written = written ≡ []
+Halts is most (Fault CannotWrite) input written = (text : List ℕ) × (n : ℕ) × is text × (n < length text) × (written ≡ take n text)
+Halts is most (Fault InputTooLong) input written = (1048576 < length input) × (written ≡ [])
+Halts is most (Fault (Refused e)) input written = (IsRefused e input ⊎ IsUnrun input e) × (written ≡ [])
+Halts is most (Fault (NoDump n)) input written = ⊥
+Halts is most (Fault Unlawful) input written = ⊥
+Halts is most (Fault (NoRun e)) input written = ⊥
+Halts is most TooManyStates input written = (race : RaceState) × IsRaceIn input race × AreMore (leads_in (length race.nodes)) race most × (written ≡ [])
+
 abbrev pub StopsRacing : ℕ → RaceFault → List ℕ → List ℕ → Type 0
-StopsRacing most (Fault CannotRead) input written = written ≡ []
-StopsRacing most (Fault CannotWrite) input written = (text : List ℕ) × (n : ℕ) × Races most input text × (n < length text) × (written ≡ take n text)
-StopsRacing most (Fault InputTooLong) input written = (1048576 < length input) × (written ≡ [])
-StopsRacing most (Fault (Refused e)) input written = (IsRefused e input ⊎ IsUnrun input e) × (written ≡ [])
-StopsRacing most (Fault (NoDump n)) input written = ⊥
-StopsRacing most (Fault Unlawful) input written = ⊥
-StopsRacing most (Fault (NoRun e)) input written = ⊥
-StopsRacing most TooManyStates input written = (race : RaceState) × IsRaceIn input race × AreMore (leads_in (length race.nodes)) race most × (written ≡ [])
+StopsRacing most e input written = Halts (Races most input) most e input written
 
 -- that an input is too long is told at its end
 abbrev pub IsRaceToldInTime : RaceFault → Option (List ℕ) → Type 0

@@ -4,15 +4,19 @@
 //! leaves open come to, [`serve_talk`] answers a script's commands one by one, [`serve_run`] and [`serve_run_by`] run the workload that
 //! settings ask for, [`serve_check`] checks a dump, and [`serve_legal`] a history. Each answers Ok or a [`SimFault`], which has the
 //! program's status; [`serve_outcomes`] a [`RaceFault`]. [`read_settings`] reads the settings of a workload.
+//! [`script_is_talked`] and [`entries_are_read_back`] are laws: they compute nothing.
 #![tactic(auto)]
 
 mod checking;
 mod faults;
 mod following;
 mod input;
+mod laws;
 mod legality;
+mod playing;
 mod progress;
 mod racing;
+mod reasons;
 mod running;
 mod scripts;
 mod settings;
@@ -24,11 +28,15 @@ mod works;
 pub use checking::serve_check;
 pub use faults::SimFault;
 pub use following::serve_follow;
+pub use input::read_input;
+pub use laws::{entries_are_read_back, script_is_talked};
 pub use legality::serve_legal;
+pub use playing::serve_play;
 pub use progress::{Progress, Visits};
 pub use racing::{RaceFault, serve_outcomes};
+pub use reasons::{Explain, Told, Untold, explanation};
 pub use running::{serve_run, serve_run_by};
 pub use scripts::{Form, serve, serve_buffered, serve_draw, serve_script, serve_trace};
 pub use settings::{Numbers, Settings, SettingsRefusal, read_settings};
-pub use talking::serve_talk;
+pub use talking::{serve_talk, serve_talk_by};
 pub use works::{cells_text, count_text, items_text};

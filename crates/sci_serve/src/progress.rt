@@ -55,12 +55,13 @@ const STATES: usize = 20_000;
 #[derive(Drop)]
 pub struct Visits<'c, C> {
     console: &'c C,
+    command: &'static str,
 }
 
 impl<'c, C> Visits<'c, C> {
-    /// A search is told to this console.
-    pub fn new(console: &'c C) -> Visits<'c, C> {
-        Visits { console }
+    /// The search of this command is told to this console.
+    pub fn new(console: &'c C, command: &'static str) -> Visits<'c, C> {
+        Visits { console, command }
     }
 }
 
@@ -68,7 +69,8 @@ impl<C: Eprint> Watch for Visits<'_, C> {
     fn visited(&self, states: usize) {
         if states % STATES == 0 {
             // a line that isn't written changes nothing of the search
-            let _ = eprintln!(self.console; "scisim: outcomes: {states} states");
+            let command = self.command;
+            let _ = eprintln!(self.console; "scisim: {command}: {states} states");
         }
     }
 }

@@ -5,10 +5,12 @@ ghost use Rattle.std.specs.Io.KnownBytes.{Appends, IsAtEnd};
 ghost use Rattle.std.specs.Str.Lines.{lines};
 ghost use Rattle.sci_script.specs.Talks.{Standing, Silent};
 ghost use Rattle.sci_script.specs.Talkers.{standing_of};
+ghost use Rattle.sci_serve.specs.Explained.{IsExplainedIn};
 ghost use Rattle.sci_serve.specs.Talked.{refused_line, ending_line, IsAccepted, IsRefused, Answers, Talks, StopsTalking, IsKeptBut, IsPart, line_by, Ends, Begins};
 
 use crate::faults::SimFault;
-use sci_script::{ScriptRefusal, Talk, WriteFailed, line_end, put, without_return};
+use crate::reasons::{Explain, Untold};
+use sci_script::{Reason, ScriptRefusal, Talk, WriteFailed, line_end, put, without_return};
 use std::alloc::Global;
 use std::io::{ErrorKind, Read, Write};
 
@@ -80,6 +82,30 @@ impl Held {
         }
         talk.say(line, text)
     }
+
+    /// Why the line was refused, by the talk behind that; none where memory ran out.
+    fn why(&self, is_ended: bool, talk: &Talk) -> Option<Reason>
+        ensures { IfSome result (λ reason. (seen : List ℕ) → IsKeptBut self.now.lost self.now.bytes.items seen → IsExplainedIn (standing_of talk.now) (line_by is_ended seen) reason) }
+    {
+        match self.lost {
+            Some(ScriptRefusal::BadCommand(_)) => return Some(Reason::TooLong),
+            Some(_) => return None,
+            None => {}
+        }
+        let bytes = self.bytes.as_slice();
+        let line = if is_ended {
+            without_return(bytes)
+        } else {
+            bytes
+        };
+        if line.len() > LINE {
+            return Some(Reason::TooLong);
+        }
+        match talk.why(line) {
+            Ok(why) => why,
+            Err(_) => None,
+        }
+    }
 }
 
 /// The answer to a refused line.
@@ -146,8 +172,29 @@ impl Talker {
         }
     }
 
-    /// Answers the line that has come to its end, or to that of the input.
-    fn answer<W: Write>(&mut self, is_ended: bool, out: &mut W) -> Result<(), WriteFailed>
+    /// Why the line that was said is refused, where it is, and that is wanted.
+    fn why<E: Explain>(
+        &self,
+        is_ended: bool,
+        said: &Result<(), ScriptRefusal>,
+        explain: &E,
+    ) -> Option<Reason>
+        ensures { IfSome result (λ reason. (seen : List ℕ) → IsPart self.now.held seen → IsExplainedIn (standing_of self.now.talk) (line_by is_ended seen) reason) }
+    {
+        if said.is_err() && explain.is_wanted() {
+            self.held.why(is_ended, &self.talk)
+        } else {
+            None
+        }
+    }
+
+    /// Answers the line that has come to its end, or to that of the input; where it is refused, it is told why behind that.
+    fn answer<E: Explain, W: Write>(
+        &mut self,
+        is_ended: bool,
+        explain: &E,
+        out: &mut W,
+    ) -> Result<(), WriteFailed>
         ensures ok { OnOk result ((seen : List ℕ) → IsPart self.old.held seen → (text : List ℕ) × Answers (standing_of self.old.talk) (line_by is_ended seen) text (standing_of self.new.talk)
             × Appends (W.contents out.old) (W.contents out.new) text) }
         ensures err { OnErr result ((seen : List ℕ) → IsPart self.old.held seen → (text : List ℕ) × (n : ℕ) × Answers (standing_of self.old.talk) (line_by is_ended seen) text (standing_of self.new.talk)
@@ -155,19 +202,28 @@ impl Talker {
         ensures held { OnOk result (IsPart self.new.held []) }
     {
         let said = self.held.say(is_ended, &mut self.talk, &mut self.text);
+        let why = self.why(is_ended, &said, explain);
         self.held.release();
         if said.is_ok() {
             put(out, self.text.as_bytes())?;
         }
         put(out, ending(&said))?;
         match out.flush() {
-            Ok(()) => Ok(()),
+            Ok(()) => {
+                explain.explain(why);
+                Ok(())
+            }
             Err(_) => Err(WriteFailed),
         }
     }
 
     /// Answers each line that ends in these bytes, and keeps what is left.
-    fn hear<W: Write>(&mut self, bytes: &[u8], out: &mut W) -> Result<(), WriteFailed>
+    fn hear<E: Explain, W: Write>(
+        &mut self,
+        bytes: &[u8],
+        explain: &E,
+        out: &mut W,
+    ) -> Result<(), WriteFailed>
         ensures ok { OnOk result ((part : List ℕ) → IsPart self.old.held part → (ended : List (List ℕ)) × (left text : List ℕ) × Ends part bytes.now ended left × IsPart self.new.held left
             × Talks (standing_of self.old.talk) ended text (standing_of self.new.talk) × Appends (W.contents out.old) (W.contents out.new) text) }
         ensures err { OnErr result ((part : List ℕ) → IsPart self.old.held part → (ended : List (List ℕ)) × (text : List ℕ) × (n : ℕ) × Begins part bytes.now ended
@@ -176,7 +232,7 @@ impl Talker {
         let mut rest = bytes;
         while let Some(ended) = first_ended(rest) {
             self.held.hold(ended.line);
-            self.answer(true, out)?;
+            self.answer(true, explain, out)?;
             rest = ended.behind;
         }
         self.held.hold(rest);
@@ -184,7 +240,7 @@ impl Talker {
     }
 
     /// Answers the last line, where it has no line end.
-    fn finish<W: Write>(&mut self, out: &mut W) -> Result<(), WriteFailed>
+    fn finish<E: Explain, W: Write>(&mut self, explain: &E, out: &mut W) -> Result<(), WriteFailed>
         ensures ok { OnOk result ((part : List ℕ) → IsPart self.old.held part → (text : List ℕ) × Talks (standing_of self.old.talk) (lines part) text (standing_of self.new.talk)
             × Appends (W.contents out.old) (W.contents out.new) text) }
         ensures err { OnErr result ((part : List ℕ) → IsPart self.old.held part → (text : List ℕ) × (n : ℕ) × Talks (standing_of self.old.talk) (lines part) text (standing_of self.new.talk)
@@ -193,16 +249,17 @@ impl Talker {
         if self.held.is_empty() {
             return Ok(());
         }
-        self.answer(false, out)
+        self.answer(false, explain, out)
     }
 }
 
 /// Reads a script's commands one by one, and answers each before it reads on: what the line prints, then `ok`, or `refused N` alone.
 /// It goes on behind a refusal, and a refused line is as `Talk::say` has it. A comment, or a line of blanks, is answered by `ok`. The
 /// writer is flushed behind each answer. A line of more than 1,048,576 bytes is refused 16, and not kept; one that memory is refused
-/// for 7. It ends at the end of the input.
-pub fn serve_talk<R: Read, W: Write>(
+/// for 7. It ends at the end of the input. Behind each answer that refuses it is told why.
+pub fn serve_talk_by<E: Explain, R: Read, W: Write>(
     alloc: Global,
+    explain: &E,
     reader: &mut R,
     writer: &mut W,
 ) -> Result<(), SimFault>
@@ -216,11 +273,26 @@ pub fn serve_talk<R: Read, W: Write>(
     let mut buffer = [0u8; 4096];
     for _ in 0..u64::MAX {
         match reader.read(&mut buffer) {
-            Ok(0) => return Ok(talker.finish(writer)?),
-            Ok(count) => talker.hear(&buffer[..count], writer)?,
+            Ok(0) => return Ok(talker.finish(explain, writer)?),
+            Ok(count) => talker.hear(&buffer[..count], explain, writer)?,
             Err(error) if error.kind() == ErrorKind::Interrupted => {}
             Err(_) => return Err(SimFault::CannotRead),
         }
     }
     Err(SimFault::CannotRead)
+}
+
+/// The same, and why a line is refused isn't told.
+pub fn serve_talk<R: Read, W: Write>(
+    alloc: Global,
+    reader: &mut R,
+    writer: &mut W,
+) -> Result<(), SimFault>
+    ensures ok { OnOk result (IfSome (R.remaining reader.old) (λ input. (text : List ℕ) × (t : Standing) × Talks Silent (lines input) text t
+        × Appends (W.contents writer.old) (W.contents writer.new) text)) }
+    ensures err { IfErr result (λ e. IfSome (R.remaining reader.old) (λ input. (written : List ℕ) × StopsTalking e input written
+        × Appends (W.contents writer.old) (W.contents writer.new) written)) }
+    ensures end { OnOk result (IsAtEnd (R.remaining reader.new)) }
+{
+    serve_talk_by(alloc, &Untold, reader, writer)
 }

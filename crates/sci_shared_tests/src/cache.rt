@@ -11,7 +11,7 @@ use crate::checks::{same, same_at};
 use sci_cache::*;
 use sci_core::{AnyWords, Line, OpenRefusal, Whole};
 use sci_ops::{Answer, Turn};
-use sci_port::SoloBank;
+use sci_port::{Receipts, SoloBank};
 use sci_words::{LineNo, NodeId, mem_name, name};
 use std::alloc::Global;
 use std::process::Abort;
@@ -30,13 +30,15 @@ fn made(alloc: Global, number: u16, capacity: u16) -> Result<Node, Fail>
     Ok(Node::new(alloc, id, 3, capacity)?)
 }
 
+// Lines that are lent to one node after another, and receipts on each, none of which is kept: there is no room.
+#[derive(Drop)]
+struct Lent {
+    lines: Vec<Whole<AnyWords>>,
+    receipts: Vec<Receipts>,
+}
+
 // So many lines of so many nodes, each opened with this content.
-fn opened(
-    alloc: Global,
-    nodes: u16,
-    lines: u16,
-    line: Line,
-) -> Result<Vec<Whole<AnyWords>>, OpenRefusal> {
+fn opened(alloc: Global, nodes: u16, lines: u16, line: Line) -> Result<Lent, OpenRefusal> {
     let mut wholes = Vec::new(alloc);
     for number in 0..lines {
         let whole = Whole::open(alloc, nodes, number, line, AnyWords)?;
@@ -44,7 +46,13 @@ fn opened(
             return Err(OpenRefusal::OutOfMemory);
         }
     }
-    Ok(wholes)
+    match Receipts::of_lines(alloc, usize::from(lines)) {
+        Ok(receipts) => Ok(Lent {
+            lines: wholes,
+            receipts,
+        }),
+        Err(_) => Err(OpenRefusal::OutOfMemory),
+    }
 }
 
 // Whether these are a memory's lines, numbered from 0, and each has the node.
@@ -63,32 +71,39 @@ fn are_lines_of(wholes: &[Whole<AnyWords>], me: NodeId) -> bool
 }
 
 // The node's bank of these lines.
-fn banked(wholes: Vec<Whole<AnyWords>>, me: NodeId) -> Option<SoloBank<AnyWords>>
-    ensures { IfSome result (λ bank. (bank.node ≡ me) × (bank.wholes ≡ wholes)) }
+fn banked(lent: Lent, me: NodeId) -> Option<SoloBank<AnyWords>>
+    ensures { IfSome result (λ bank. (bank.node ≡ me) × (bank.wholes ≡ lent.lines)) }
 {
-    if !are_lines_of(&wholes, me) {
+    let Lent { lines, receipts } = lent;
+    if receipts.len() != lines.len() {
         return None;
     }
-    Some(SoloBank::new(wholes, me))
+    if !are_lines_of(&lines, me) {
+        return None;
+    }
+    Some(SoloBank::new(lines, receipts, me))
+}
+
+// What a bank was lent.
+fn given_back(bank: SoloBank<AnyWords>) -> Lent {
+    let (lines, receipts) = bank.into_parts();
+    Lent { lines, receipts }
 }
 
 // The open call of a node of three lines, in turns that all move: how many there were, its answer, and the lines after it.
 #[tactic(auto, using(sci_cache::proofs::Storing::any_call_fits))]
-fn ended(
-    node: &mut Node,
-    wholes: Vec<Whole<AnyWords>>,
-) -> Option<(u32, Answer, Vec<Whole<AnyWords>>)>
+fn ended(node: &mut Node, wholes: Lent) -> Option<(u32, Answer, Lent)>
     requires { node.old.lines ≡ 3 }
     ensures { node.new.lines ≡ 3 }
 {
-    if wholes.len() != 3 {
+    if wholes.lines.len() != 3 {
         return None;
     }
     let mut bank = banked(wholes, node.id())?;
     for turns in 1..100 {
         match node.turn(&mut bank) {
             Ok(Turn::Moved) => {}
-            Ok(Turn::Done(answer)) => return Some((turns, answer, bank.into_wholes())),
+            Ok(Turn::Done(answer)) => return Some((turns, answer, given_back(bank))),
             Ok(Turn::Waiting) | Err(_) => return None,
         }
     }
@@ -96,11 +111,7 @@ fn ended(
 }
 
 // A request of such a node, to its end.
-fn done(
-    node: &mut Node,
-    wholes: Vec<Whole<AnyWords>>,
-    request: Request,
-) -> Option<(u32, Answer, Vec<Whole<AnyWords>>)>
+fn done(node: &mut Node, wholes: Lent, request: Request) -> Option<(u32, Answer, Lent)>
     requires { node.old.lines ≡ 3 }
     ensures { node.new.lines ≡ 3 }
 {
@@ -127,12 +138,12 @@ fn names(
 // These are the names of memory's word and of a node's tag on a line.
 fn stands(
     rt: &impl Abort,
-    wholes: &[Whole<AnyWords>],
+    lent: &Lent,
     line: usize,
     number: u16,
     want: (&'static str, &'static str),
 ) {
-    same(rt, &names(wholes, line, number), &Some(want));
+    same(rt, &names(&lent.lines, line, number), &Some(want));
 }
 
 // The residents of a node are these.
@@ -145,10 +156,10 @@ fn lists(rt: &impl Abort, alloc: Global, node: &Node, want: &[u16]) -> Result<()
 fn answers(
     rt: &impl Abort,
     node: &mut Node,
-    wholes: Vec<Whole<AnyWords>>,
+    wholes: Lent,
     request: Request,
     want: Answer,
-) -> Result<(u32, Vec<Whole<AnyWords>>), Fail>
+) -> Result<(u32, Lent), Fail>
     requires { node.old.lines ≡ 3 }
     ensures { node.new.lines ≡ 3 }
 {
@@ -161,10 +172,10 @@ fn answers(
 fn finds_zeros(
     rt: &impl Abort,
     node: &mut Node,
-    wholes: Vec<Whole<AnyWords>>,
+    wholes: Lent,
     line: LineNo,
     want: u32,
-) -> Result<Vec<Whole<AnyWords>>, Fail>
+) -> Result<Lent, Fail>
     requires { node.old.lines ≡ 3 }
     ensures { node.new.lines ≡ 3 }
 {
@@ -193,10 +204,10 @@ fn takes(
     rt: &impl Abort,
     alloc: Global,
     node: &mut Node,
-    wholes: Vec<Whole<AnyWords>>,
+    wholes: Lent,
     request: Request,
     want: (u32, &[u16]),
-) -> Result<Vec<Whole<AnyWords>>, Fail>
+) -> Result<Lent, Fail>
     requires { node.old.lines ≡ 3 }
     ensures { node.new.lines ≡ 3 }
 {
@@ -268,9 +279,9 @@ fn purges(
     rt: &impl Abort,
     reader: &mut Node,
     writer: &mut Node,
-    wholes: Vec<Whole<AnyWords>>,
+    wholes: Lent,
     purge: (Answer, u64, Answer),
-) -> Result<Vec<Whole<AnyWords>>, Fail>
+) -> Result<Lent, Fail>
     requires { (reader.old.lines ≡ 3) × (writer.old.lines ≡ 3) }
     ensures { (reader.new.lines ≡ 3) × (writer.new.lines ≡ 3) }
 {

@@ -1,7 +1,7 @@
 //! The program's command line, and its help.
 
 use crate::histories::HISTORIES;
-use crate::races::OUTCOMES;
+use crate::races::{OUTCOMES, PLAYS};
 use clap::{Arg, ArgAction, Command};
 use std::alloc::AllocError;
 
@@ -16,6 +16,7 @@ Scripts:
   trace     Runs a script, and says of each turn what it did
   draw      Runs a script, and writes a page that shows each turn
   outcomes  Lists every outcome of the calls that a script leaves open
+  play      Writes a page on which you pick whose turn it is
   talk      Answers a script's commands one by one
 
 Workloads:
@@ -37,9 +38,9 @@ Example:
   printf 'memory 2 1\\nstore 0 0 0 5\\ndone 0\\nload 1 0 0\\ndone 1\\nlist 0\\n' | scisim script
 
 `scisim script --help` lists the commands of scripts, `scisim trace --help` has the lines of turns, `scisim draw --help` the keys of
-pages, `scisim outcomes --help` what is listed, `scisim talk --help` the answers, `scisim run --help` the keys of settings,
-`scisim check --help` the format of dumps, `scisim legal --help` that of histories, and `scisim follow --help` that of logs; they say
-what each refusal means.
+pages, `scisim outcomes --help` what is listed, `scisim play --help` the keys of its page, `scisim talk --help` the answers,
+`scisim run --help` the keys of settings, `scisim check --help` the format of dumps, `scisim legal --help` that of histories, and
+`scisim follow --help` that of logs; they say what each refusal means.
 ";
 
 const SCRIPTS: &str = "\
@@ -54,9 +55,13 @@ One command a line. N is a node, L a line, W a word of it (0 to 7), V a number b
   evict N L                 node N begins to leave line L's list
   turn N                    one turn of N's call: prints nothing, `node N waits`, or the answer
   done N                    turns to the call's end, at most 100000: prints the answer
+  rest                      turns of nodes with a step pending, as loads take them, until none is: no call ends, nothing is written
+  end                       rest, and then each open call to its end, the lowest node's first: prints their answers
   list L                    prints the sharing list
   tag L N                   prints node N's tag on line L
   residents N               prints the lines that node N names, the one used last in front
+
+`rest` and `end` are this project's own words. No `rest` is refused 18, and no `end` is known to be.
 
 Answers: node N read V stamp S; node N wrote stamp S; node N out; node N refused 11 (the line's stamp, which counts its writes, is
 2^64 - 1: open it with a lower one).
@@ -68,6 +73,7 @@ Refusals, on standard error; what was printed before stays:
   17  a faulty number at this line: not 1 to 20 digits, or no such node, line, word or value: mend the line
   18  a command that didn't end at this line: the call waits for another node, whose turns must come first
   23  the input has more than 1048576 bytes: split it
+With --why a second line says why a line is refused, as `3 words wanted, 2 found` or `node 1 waits for node 0`.
 `cannot read` and `cannot write` are faults of FILE, of the input, or of the output.
 
 Example: three readers, and their list.
@@ -139,6 +145,8 @@ Refusals:
       1048576 bytes: nothing was changed
   17  a faulty number: not 1 to 20 digits, or no such node, line, word or value: nothing was changed
   18  a command that didn't end: its 100000 turns were taken
+
+With --why a line on standard error says, behind each refusal, why the line is refused.
 
 At the end of the input it ends with status 0. `cannot read` and `cannot write` are faults of the input, or of the output.
 
@@ -264,6 +272,13 @@ fn log<'a>(rt: &impl AllocGlobal) -> Arg<'a> {
         .help("writes the log of the script in place of its trace")
 }
 
+fn why<'a>(rt: &impl AllocGlobal) -> Arg<'a> {
+    Arg::new(rt.alloc(), "why")
+        .long("why")
+        .action(ArgAction::SetTrue)
+        .help("says behind a line's refusal, on standard error, why it is refused")
+}
+
 fn most<'a>(rt: &impl AllocGlobal) -> Arg<'a> {
     Arg::new(rt.alloc(), "most")
         .long("most")
@@ -289,31 +304,41 @@ fn reader_of<'a>(
 
 fn script<'a>(rt: &impl AllocGlobal) -> Result<Command<'a>, AllocError> {
     let about = "Runs a script and prints its text";
-    reader_of(rt, "script", about, SCRIPTS, SCRIPT_FILE)
+    reader_of(rt, "script", about, SCRIPTS, SCRIPT_FILE)?.arg(why(rt))
 }
 
 fn trace<'a>(rt: &impl AllocGlobal) -> Result<Command<'a>, AllocError> {
     let about = "Runs a script, and says of each turn what it did";
-    reader_of(rt, "trace", about, TRACES, SCRIPT_FILE)?.arg(log(rt))
+    reader_of(rt, "trace", about, TRACES, SCRIPT_FILE)?
+        .arg(log(rt))?
+        .arg(why(rt))
 }
 
 fn draw<'a>(rt: &impl AllocGlobal) -> Result<Command<'a>, AllocError> {
     let about = "Runs a script, and writes a page that shows each turn";
-    reader_of(rt, "draw", about, PAGES, SCRIPT_FILE)
+    reader_of(rt, "draw", about, PAGES, SCRIPT_FILE)?.arg(why(rt))
 }
 
 fn outcomes<'a>(rt: &impl AllocGlobal) -> Result<Command<'a>, AllocError> {
     let about = "Lists every outcome of the calls that a script leaves open";
-    reader_of(rt, "outcomes", about, OUTCOMES, SCRIPT_FILE)?.arg(most(rt))
+    reader_of(rt, "outcomes", about, OUTCOMES, SCRIPT_FILE)?
+        .arg(most(rt))?
+        .arg(why(rt))
+}
+
+fn play<'a>(rt: &impl AllocGlobal) -> Result<Command<'a>, AllocError> {
+    let about = "Writes a page on which you pick whose turn it is";
+    reader_of(rt, "play", about, PLAYS, SCRIPT_FILE)?
+        .arg(most(rt))?
+        .arg(why(rt))
 }
 
 fn talk<'a>(rt: &impl AllocGlobal) -> Result<Command<'a>, AllocError> {
     let named = Command::new(rt.alloc(), "talk");
-    Ok(
-        named
-            .about("Answers a script's commands one by one")
-            .after_help(TALKS),
-    )
+    named
+        .about("Answers a script's commands one by one")
+        .after_help(TALKS)
+        .arg(why(rt))
 }
 
 fn run<'a>(rt: &impl AllocGlobal) -> Result<Command<'a>, AllocError> {
@@ -365,6 +390,7 @@ pub fn commands<'a>(rt: &impl AllocGlobal) -> Result<Command<'a>, AllocError> {
     let program = with(program, trace(rt));
     let program = with(program, draw(rt));
     let program = with(program, outcomes(rt));
+    let program = with(program, play(rt));
     let program = with(program, talk(rt));
     let program = with(program, run(rt));
     let program = with(program, check(rt));

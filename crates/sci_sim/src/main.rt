@@ -1,8 +1,10 @@
 //! `scisim script [FILE]` runs a script; `scisim trace [FILE]` says of each turn what it did, and `scisim draw [FILE]` shows it on a
-//! page; `scisim outcomes [FILE]` lists the outcomes of the calls that it leaves open; `scisim talk` answers a script's commands one by
-//! one; `scisim run [FILE]` runs a workload; `scisim check [FILE]` checks a dump, `scisim legal [FILE]` a history, and `scisim follow
-//! [FILE]` a log.
+//! page; `scisim outcomes [FILE]` lists the outcomes of the calls that it leaves open, and `scisim play [FILE]` writes a page of their
+//! states; `scisim talk` answers a script's commands one by one; `scisim run [FILE]` runs a workload; `scisim check [FILE]` checks a
+//! dump, `scisim legal [FILE]` a history, and `scisim follow [FILE]` a log.
 #![tactic(auto)]
+
+ghost use Rattle.std.specs.Prelude.{◌≤◌, length, IfOk};
 
 mod commands;
 mod histories;
@@ -11,8 +13,9 @@ mod races;
 use clap::{ArgMatches, Error, error};
 use commands::commands;
 use sci_serve::{
-    Form, Progress, RaceFault, SimFault, Visits, serve_buffered, serve_check, serve_follow,
-    serve_legal, serve_outcomes, serve_run, serve_run_by, serve_talk,
+    Form, Progress, RaceFault, SimFault, Told, Visits, explanation, read_input, serve_buffered,
+    serve_check, serve_follow, serve_legal, serve_outcomes, serve_play, serve_run, serve_run_by,
+    serve_talk, serve_talk_by,
 };
 use std::alloc::{AllocError, Global};
 use std::fs::File;
@@ -28,43 +31,133 @@ fn open(rt: &HostRuntime, path: &str) -> Result<File, SimFault> {
     File::open(rt, path).map_err(|_| SimFault::CannotRead)
 }
 
-/// Runs a script, and writes its run in this form.
-fn script(rt: &HostRuntime, form: Form, path: Option<&str>) -> Result<(), SimFault> {
+/// Runs the script of a reader, and writes its run in this form.
+fn script_from<R: Read>(rt: &HostRuntime, form: Form, reader: &mut R) -> Result<(), SimFault> {
     let output = BufWriter::with_capacity(rt.alloc(), BUFFER, io::writer(rt)).map_err(
         |_| SimFault::from(AllocError),
     )?;
-    let (_, served) = match path {
-        Some(path) => serve_buffered(rt.alloc(), form, &mut open(rt, path)?, output),
-        None => serve_buffered(rt.alloc(), form, &mut rt.reader(), output),
-    };
+    let (_, served) = serve_buffered(rt.alloc(), form, reader, output);
     served
 }
 
+/// Runs a script, and writes its run in this form.
+fn script(rt: &HostRuntime, form: Form, path: Option<&str>) -> Result<(), SimFault> {
+    match path {
+        Some(path) => script_from(rt, form, &mut open(rt, path)?),
+        None => script_from(rt, form, &mut rt.reader()),
+    }
+}
+
 /// Answers the commands that standard input has.
-fn talk(rt: &HostRuntime) -> Result<(), SimFault> {
+fn talk(rt: &HostRuntime, why: bool) -> Result<(), SimFault> {
     let mut output = BufWriter::with_capacity(rt.alloc(), BUFFER, io::writer(rt)).map_err(
         |_| SimFault::from(AllocError),
     )?;
-    serve_talk(rt.alloc(), &mut rt.reader(), &mut output)
+    if why {
+        serve_talk_by(rt.alloc(), &Told::new(rt), &mut rt.reader(), &mut output)
+    } else {
+        serve_talk(rt.alloc(), &mut rt.reader(), &mut output)
+    }
 }
 
-/// Lists the outcomes of the calls that a script leaves open, and says on standard error where they have too many states.
-fn outcomes(rt: &HostRuntime, most: u32, path: Option<&str>) -> Result<ExitCode, SimFault> {
-    let mut output = io::writer(rt);
-    let alloc = rt.alloc();
-    let visits = Visits::new(rt);
-    let most = most as usize;
-    let listed = match path {
-        Some(path) => serve_outcomes(alloc, &visits, most, &mut open(rt, path)?, &mut output),
-        None => serve_outcomes(alloc, &visits, most, &mut rt.reader(), &mut output),
-    };
-    match listed {
+/// The status of a search, which says on standard error where there are too many states.
+fn searched(rt: &HostRuntime, served: Result<(), RaceFault>) -> Result<ExitCode, SimFault> {
+    match served {
         Ok(()) => Ok(ExitCode::SUCCESS),
         Err(RaceFault::Fault(fault)) => Err(fault),
         Err(many @ RaceFault::TooManyStates) => {
             let _ = eprintln!(rt; "scisim: {many}");
             Ok(ExitCode::from(1))
         }
+    }
+}
+
+/// Lists the outcomes of the calls that a script leaves open.
+fn outcomes<R: Read>(rt: &HostRuntime, most: u32, reader: &mut R) -> Result<ExitCode, SimFault> {
+    let visits = Visits::new(rt, "outcomes");
+    let most = most as usize;
+    searched(
+        rt,
+        serve_outcomes(rt.alloc(), &visits, most, reader, &mut io::writer(rt)),
+    )
+}
+
+/// Writes a page of their states.
+fn play<R: Read>(rt: &HostRuntime, most: u32, reader: &mut R) -> Result<ExitCode, SimFault> {
+    let visits = Visits::new(rt, "play");
+    let most = most as usize;
+    searched(
+        rt,
+        serve_play(rt.alloc(), &visits, most, reader, &mut io::writer(rt)),
+    )
+}
+
+/// What a command of this name, that searches all states, comes to.
+fn race<R: Read>(
+    rt: &HostRuntime,
+    name: &str,
+    options: &ArgMatches<'_>,
+    reader: &mut R,
+) -> Result<ExitCode, SimFault> {
+    let most = options.get_one("most").unwrap_or(0);
+    if name == "play" {
+        play(rt, most, reader)
+    } else {
+        outcomes(rt, most, reader)
+    }
+}
+
+/// Whether a command of this name searches all states.
+fn searches(name: &str) -> bool {
+    matches!(name, "outcomes" | "play")
+}
+
+/// The whole of a script, which is kept.
+fn kept(rt: &HostRuntime, path: Option<&str>) -> Result<Vec<u8>, SimFault>
+    ensures { IfOk result (λ v. length v.items ≤ 1048576) }
+{
+    match path {
+        Some(path) => read_input(rt.alloc(), &mut open(rt, path)?),
+        None => read_input(rt.alloc(), &mut rt.reader()),
+    }
+}
+
+/// The status of a command over this script, which is refused: that and why stand on standard error, where it is of a line.
+fn explained(rt: &HostRuntime, fault: SimFault, input: &[u8]) -> Result<ExitCode, SimFault>
+    requires { length input.now ≤ 1048576 }
+{
+    match explanation(rt.alloc(), fault, input) {
+        Some(reason) => {
+            let _ = eprintln!(rt; "scisim: {fault}");
+            let _ = eprintln!(rt; "{reason}");
+            Ok(ExitCode::from(fault.status()))
+        }
+        None => Err(fault),
+    }
+}
+
+/// The status where all is written.
+fn written(served: Result<(), SimFault>) -> Result<ExitCode, SimFault> {
+    served?;
+    Ok(ExitCode::SUCCESS)
+}
+
+/// Runs a script in this form, or searches its states, and says why it is refused.
+fn script_explained(
+    rt: &HostRuntime,
+    name: &str,
+    options: &ArgMatches<'_>,
+) -> Result<ExitCode, SimFault> {
+    let input = kept(rt, options.get_str("FILE"))?;
+    let mut reader = input.as_slice();
+    let served = if searches(name) {
+        race(rt, name, options, &mut reader)
+    } else {
+        written(script_from(rt, form(name, options), &mut reader))
+    };
+    match served {
+        Ok(status) => Ok(status),
+        Err(fault) => explained(rt, fault, &input),
     }
 }
 
@@ -137,6 +230,20 @@ fn trace_form(options: &ArgMatches<'_>) -> Form {
     }
 }
 
+/// The form in which a command of this name writes a run.
+fn form(name: &str, options: &ArgMatches<'_>) -> Form {
+    match name {
+        "draw" => Form::Draw,
+        "trace" => trace_form(options),
+        _ => Form::Script,
+    }
+}
+
+/// Whether a command of this name reads a script whole, so that it can say why that is refused.
+fn explains(name: &str) -> bool {
+    matches!(name, "script" | "trace" | "draw" | "outcomes" | "play")
+}
+
 /// The status of the program's command of this name.
 fn served<T: Threads + Wait + Eprint + Sync>(
     rt: &HostRuntime,
@@ -144,17 +251,23 @@ fn served<T: Threads + Wait + Eprint + Sync>(
     name: &str,
     options: &ArgMatches<'_>,
 ) -> Result<ExitCode, SimFault> {
+    if explains(name) && options.get_flag("why") {
+        return script_explained(rt, name, options);
+    }
     let path = options.get_str("FILE");
     match name {
-        "script" => script(rt, Form::Script, path)?,
-        "trace" => script(rt, trace_form(options), path)?,
-        "draw" => script(rt, Form::Draw, path)?,
-        "talk" => talk(rt)?,
+        "script" | "trace" | "draw" => script(rt, form(name, options), path)?,
+        "talk" => talk(rt, options.get_flag("why"))?,
         "run" => run(rt, threads, path, options.get_flag("progress"))?,
         "check" => check(rt, path)?,
         "legal" => legal(rt, path)?,
         "follow" => follow(rt, path)?,
-        "outcomes" => return outcomes(rt, options.get_one("most").unwrap_or(0), path),
+        "outcomes" | "play" => {
+            return match path {
+                Some(path) => race(rt, name, options, &mut open(rt, path)?),
+                None => race(rt, name, options, &mut rt.reader()),
+            };
+        }
         _ => return Ok(ExitCode::from(2)),
     }
     Ok(ExitCode::SUCCESS)

@@ -1,4 +1,4 @@
-//! The help of the command that lists the outcomes of a race.
+//! The help of the commands of races.
 
 /// What `scisim outcomes --help` says behind its options.
 pub const OUTCOMES: &str = "\
@@ -16,3 +16,21 @@ Refusals, on standard error; nothing is printed: those of `script`, and
 
 Example: a store meets two loads.
   printf 'memory 3 1\\nstore 0 0 0 5\\nload 1 0 0\\nload 2 0 0\\n' | scisim outcomes";
+
+/// What `scisim play --help` says behind its options.
+pub const PLAYS: &str = "\
+Runs a script, and writes a page of HTML to standard output, on which you pick whose turn it is of the calls that it leaves open, those
+begun without done. The page has every state that turns lead to, as the program found them; it is one file, needs no network, and
+shows nothing without JavaScript. `scisim script --help` lists the commands of scripts, `scisim outcomes --help` what a race is.
+
+In a browser: 0 to 9 take a turn of that node, Backspace or the left arrow takes it back, the right arrow takes it again, R
+starts again, and H hides what a turn will do until it is taken. A click on a row of the run, or on a bubble of the map, goes there.
+#path=0,1,1,2 behind the page's address opens the state behind these turns. `Script` has the run as a script, `Print` its rows.
+
+Beyond N states nothing is written. Each time that 20000 more states are visited, a line comes on standard error.
+
+Refusals, on standard error; nothing is printed: those of `script`, and
+  too many states           turns lead to more than N states: leave fewer calls open, or take a higher --most
+
+Example: a store meets two loads.
+  printf 'memory 3 1\\nstore 0 0 0 5\\nload 1 0 0\\nload 2 0 0\\n' | scisim play > page.html";

@@ -2,3 +2,4 @@
 
 mod growths;
 mod memory;
+mod reasons;

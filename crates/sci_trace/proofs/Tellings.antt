@@ -10,23 +10,24 @@ use Rattle.sci_cache.specs.declared.requests.Request.{Request}
 use Rattle.sci_script.specs.declared.commands.Step.{Step}
 use Rattle.sci_script.specs.declared.commands.Command.{Command}
 use Rattle.sci_script.specs.declared.refusals.ScriptRefusal.{ScriptRefusal}
+use Rattle.sci_script.specs.declared.desk.Toward.{Toward}
 use Rattle.sci_script.specs.declared.watching.Passed.{Passed}
-use Rattle.sci_script.specs.Event.{Event, Began, Turned, SawMem, SawTag, SawResidents, IsEnd, IsNoEnd}
-use Rattle.sci_script.specs.Passed.{shared_passes}
+use Rattle.sci_script.specs.Event.{Event, Began, Turned, Rested, SawMem, SawTag, SawResidents, IsEnd, IsNoEnd}
 use Rattle.sci_script.specs.Request.{words_after}
-use Rattle.sci_script.specs.Run.{Unended, Prints, StopsAt}
+use Rattle.sci_script.specs.Run.{Repeats, Prints, StopsAt}
 use Rattle.sci_script.specs.Shared.{Shared, shared_does}
-use Rattle.sci_script.proofs.Runs.{unended_none, unended_more, words_behind}
+use Rattle.sci_script.proofs.Runs.{repeats_none, repeats_more, words_behind}
 use Rattle.sci_trace.specs.Lists.{walked}
 use Rattle.sci_trace.specs.Notes.{Told, line_of_turn}
 use Rattle.sci_trace.specs.declared.texts.Wait.{Wait}
 use Rattle.sci_trace.specs.Texts.{note_line}
-use Rattle.sci_trace.specs.Telling.{Telling, telling, nothing, is_wait, IsWait, AddsLine, telling_is_open, tells, TellsAll}
+use Rattle.sci_trace.specs.Telling.{Telling, telling, is_wait, IsWait, AddsTold, AddsLine, AddsRestLine, AddsNone, telling_is_open, tells, TellsAll}
 
 -- what a run does that tells of its turns, the lines and nodes do
 pub told_does : (s : Telling) (event : Event) (t : Telling) → tells s event t → shared_does s.shared event t.shared
 told_does s (Began node request) t h = h.0
 told_does s (Turned node turn) t h = h.0
+told_does s (Rested line toward) t h = h.0
 told_does s (SawMem line mem) t h = h.0
 told_does s (SawTag line node tag) t h = h.0
 told_does s (SawResidents node lines) t h = h.0
@@ -42,18 +43,18 @@ told_line node asked passed stage wait mem entries before after cut still W step
     inr (kept, told, refl, refl, waits, stands, is, along, added)
 
 -- a turn's line is added: the desk stands as the turn left it, and the line tells what passed
-pub adds_line : (s mid t : Shared) (node : ℕ) (turn : Turn) (times : ℕ) (q : Passed) (before after : List ℕ) (cut still : Bool) → t ≡ mid → shared_passes s node mid nothing q
+pub adds_told : (P : Shared → Passed → Type 0) (s mid t : Shared) (node : ℕ) (turn : Turn) (times : ℕ) (q : Passed) (before after : List ℕ) (cut still : Bool) → t ≡ mid → P mid q
     → (still ≡ true) ⊎ ((still ≡ cut) × (told : Told) × (told.node ≡ node) × (told.passed ≡ q) × IsWait turn mid q.line node times told.wait × (told.stage ≡ stage_of ((mid.lines q.line).steps node)) × (told.mem ≡ (mid.lines q.line).memory) × (told.entries ≡ walked (mid.lines q.line).tags mid.width told.mem.forw) × (after ≡ before ++ line_of_turn told))
-    → AddsLine (record { shared = s; notes = before; is_cut = cut }) node turn times (record { shared = t; notes = after; is_cut = still })
-adds_line s mid t node turn times q before after cut still same passes (inl h) = inl h
-adds_line s mid t node turn times q before after cut still same passes (inr (kept, told, of, passed, waits, step, mem, along, added)) =
-    subst (λ (x : Shared). AddsLine (record { shared = s; notes = before; is_cut = cut }) node turn times (record { shared = x; notes = after; is_cut = still })) (sym same)
+    → AddsTold (P t) (record { shared = s; notes = before; is_cut = cut }) node turn times (record { shared = t; notes = after; is_cut = still })
+adds_told P s mid t node turn times q before after cut still same passes (inl h) = inl h
+adds_told P s mid t node turn times q before after cut still same passes (inr (kept, told, of, passed, waits, step, mem, along, added)) =
+    subst (λ (x : Shared). AddsTold (P x) (record { shared = s; notes = before; is_cut = cut }) node turn times (record { shared = x; notes = after; is_cut = still })) (sym same)
     (inr (
       kept,
       told,
       (
         of,
-        subst (λ (p : Passed). shared_passes s node mid nothing p) (sym passed) passes,
+        subst (λ (p : Passed). P mid p) (sym passed) passes,
         subst (λ (p : Passed). IsWait turn mid p.line node times told.wait) (sym passed) waits,
         subst (λ (p : Passed). told.stage ≡ stage_of ((mid.lines p.line).steps node)) (sym passed) step,
         subst (λ (p : Passed). told.mem ≡ (mid.lines p.line).memory) (sym passed) mem,
@@ -61,6 +62,12 @@ adds_line s mid t node turn times q before after cut still same passes (inr (kep
       ),
       added,
     ))
+
+-- where nobody took a turn towards rest, nothing is told
+pub no_rest_line : (s : Telling) (line : ℕ) (toward : Toward) (t : Telling) → ((node : ℕ) → toward ≡ Toward.Turned node → ⊥) → AddsNone s t → AddsRestLine s line toward t
+no_rest_line s line (Toward.Turned node) t none h = absurd (none node refl)
+no_rest_line s line Toward.Reached t none h = h
+no_rest_line s line Toward.Unknown t none h = h
 
 -- what doesn't wait stands for itself
 once : (s : Telling) (node : ℕ) (turn : Turn) (times : ℕ) (t : Telling) → is_wait turn ≡ false → AddsLine s node turn times t → AddsLine s node turn 1 t
@@ -119,18 +126,25 @@ adds_front put node turn times s t (inr (kept, told, is, added)) = inr (kept, to
 adds_behind : (put : List ℕ) (node : ℕ) (turn : Turn) (s t : Telling) → tells s (Turned node turn) t → tells (with_front put s) (Turned node turn) (with_front put t)
 adds_behind put node turn s t (does, added) = (does, adds_front put node turn 1 s t added)
 
+-- a turn that is no end and doesn't wait
+pub moved : (turn : Turn) → IsNoEnd turn → is_wait turn ≡ false → turn ≡ Turn.Moved
+moved Turn.Moved no-end no-wait = refl
+moved Turn.Waiting no-end no-wait = absurd (cc)
+moved (Turn.Done answer) no-end no-wait = absurd no-end
+
 -- no turn was taken, and no line told
-pub unended_first : (node : ℕ) (s : Shared) (notes : List ℕ) (cut : Bool) → notes ≡ [] → cut ≡ false → Unended tells node 0 (telling s []) (with_front [] (telling_in s notes cut))
-unended_first node s notes cut none whole =
-    subst (λ (x : Telling). Unended tells node 0 (telling s []) x) (sym (same_telling s s notes [] cut false refl none whole)) (unended_none tells node (telling s []))
+pub moves_first : (node : ℕ) (s : Shared) (notes : List ℕ) (cut : Bool) → notes ≡ [] → cut ≡ false → Repeats tells (Turned node Turn.Moved) 0 (telling s []) (with_front [] (telling_in s notes cut))
+moves_first node s notes cut none whole =
+    subst (λ (x : Telling). Repeats tells (Turned node Turn.Moved) 0 (telling s []) x) (sym (same_telling s s notes [] cut false refl none whole)) (repeats_none tells (Turned node Turn.Moved) (telling s []))
 
 -- one turn more, and then the first of the lines are written
-pub unended_put : (node n : ℕ) (turn : Turn) (first s mid : Telling) (t : Shared) (put now notes : List ℕ) (cut : Bool) → Unended tells node n first (with_front put s) → IsNoEnd turn → tells s (Turned node turn) mid
-    → mid.notes ≡ now ++ notes → cut ≡ mid.is_cut → t ≡ mid.shared → Unended tells node (n + 1) first (with_front (put ++ now) (telling_in t notes cut))
-unended_put node n turn first s mid t put now notes cut before no-end turned parts kept same =
-    subst (λ (x : Telling). Unended tells node (n + 1) first x)
+pub moves_put : (node n : ℕ) (turn : Turn) (first s mid : Telling) (t : Shared) (put now notes : List ℕ) (cut : Bool) → Repeats tells (Turned node Turn.Moved) n first (with_front put s) → turn ≡ Turn.Moved → tells s (Turned node turn) mid
+    → mid.notes ≡ now ++ notes → cut ≡ mid.is_cut → t ≡ mid.shared → Repeats tells (Turned node Turn.Moved) (n + 1) first (with_front (put ++ now) (telling_in t notes cut))
+moves_put node n turn first s mid t put now notes cut before is turned parts kept same =
+    subst (λ (x : Telling). Repeats tells (Turned node Turn.Moved) (n + 1) first x)
     (same_telling mid.shared t (put ++ mid.notes) ((put ++ now) ++ notes) mid.is_cut cut (sym same) (ap (λ (x : List ℕ). put ++ x) parts ∙ sym (append_assoc put now notes)) (sym kept))
-    (unended_more tells node n first (with_front put s) (with_front put mid) turn before no-end (adds_behind put node turn s mid turned))
+    (repeats_more tells (Turned node Turn.Moved) n first (with_front put s) (with_front put mid) before
+    (subst (λ (o : Turn). tells (with_front put s) (Turned node o) (with_front put mid)) is (adds_behind put node turn s mid turned)))
 
 -- the last turn, whose line is written with those before
 pub ends_behind : (put : List ℕ) (node : ℕ) (turn : Turn) (s mid : Telling) (t : Shared) → tells s (Turned node turn) mid → mid.is_cut ≡ false → t ≡ mid.shared
@@ -147,10 +161,11 @@ waits_behind put node times turn s mid t added is whole same =
     (same_telling mid.shared t (put ++ mid.notes) (put ++ mid.notes) mid.is_cut false (sym same) refl whole)
     (subst (λ (o : Turn). AddsLine (with_front put s) node o times (with_front put mid)) is (adds_front put node turn times s mid added))
 
--- the lines of turns of which none is the last are written
-pub unended_behind : (node n : ℕ) (first s : Telling) (t : Shared) (put : List ℕ) → Unended tells node n first (with_front put s) → s.is_cut ≡ false → t ≡ s.shared → Unended tells node n first (telling t (put ++ s.notes))
-unended_behind node n first s t put before whole same =
-    subst (λ (x : Telling). Unended tells node n first x) (same_telling s.shared t (put ++ s.notes) (put ++ s.notes) s.is_cut false (sym same) refl whole) before
+-- the lines of turns that all moved are written
+pub moves_behind : (node n : ℕ) (first s : Telling) (t : Shared) (put : List ℕ) → Repeats tells (Turned node Turn.Moved) n first (with_front put s) → s.is_cut ≡ false → t ≡ s.shared
+    → Repeats tells (Turned node Turn.Moved) n first (telling t (put ++ s.notes))
+moves_behind node n first s t put before whole same =
+    subst (λ (x : Telling). Repeats tells (Turned node Turn.Moved) n first x) (same_telling s.shared t (put ++ s.notes) (put ++ s.notes) s.is_cut false (sym same) refl whole) before
 
 pub tells_none : (words : List ℕ) (s : Shared) → TellsAll words s [] [] s
 tells_none words s = (refl, refl)

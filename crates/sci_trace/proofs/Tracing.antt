@@ -5,16 +5,16 @@ use Rattle.std.specs.Prelude.{slice_get}
 use Rattle.sci_script.specs.declared.commands.Size.{Size}
 use Rattle.sci_ops.specs.declared.answers.Turn.{Turn}
 use Rattle.sci_script.specs.declared.commands.Command.{Command}
-use Rattle.sci_script.specs.declared.commands.Command.TheVariants.{Begin, Turn as TurnOnce, Done, List as ListLine, Tag as ShowTag, Residents}
+use Rattle.sci_script.specs.declared.commands.Command.TheVariants.{Done}
 use Rattle.sci_script.specs.declared.commands.Step.{Step}
 use Rattle.sci_script.specs.declared.refusals.ScriptRefusal.{ScriptRefusal}
 use Rattle.sci_script.specs.declared.refusals.ScriptRefusal.TheVariants.{OutOfMemory, BadCommand, BadNumber, NotDone, WriteFailed}
 use Rattle.sci_script.specs.Request.{no_words}
 use Rattle.sci_script.specs.Event.{Turned}
-use Rattle.sci_script.specs.Run.{Prints, StopsAt, IsUnended, Unended}
+use Rattle.sci_script.specs.Run.{Prints, StopsAt, Repeats, Unended}
 use Rattle.sci_script.specs.Shared.{Shared, shared_is_open, shared_does}
 use Rattle.sci_script.specs.Size.{is_in, IsIn, AreIn}
-use Rattle.sci_script.proofs.Runs.{prints_none, run_step, unended_more, words_behind}
+use Rattle.sci_script.proofs.Runs.{prints_none, run_step, moves_unended, unended_more, words_behind}
 use Rattle.sci_script.proofs.Stuck.{unended_on, waits_again}
 use Rattle.sci_script.proofs.Through.{stops_at, unended}
 use Rattle.sci_trace.specs.Notes.{AreNotes, IsWoven}
@@ -54,27 +54,31 @@ pub trace_cut : (coding : Coding) (nodes : ℕ) (steps : List Step) (k : ℕ) (t
     → IsFront (coded coding more) front → FormLeaves (coded coding) nodes steps s WriteFailed (coded coding traced ++ front) t
 trace_cut coding nodes steps k traced more front s mid t all cut = (traced ++ more, (k, mid, all), coded_front coding traced more front cut)
 
--- what a command that doesn't end tells of its turns
-no_end_told : (nodes : ℕ) (command : Command) (s : Shared) (notes : List ℕ) (t : Shared) → IsUnended telling_is_open tells nodes (telling s []) command (telling t notes) → TellsNoEnd command s notes t
-no_end_told nodes (Begin node line request) s notes t h = tt
-no_end_told nodes (TurnOnce node) s notes t h = tt
-no_end_told nodes (Done node) s notes t h = inl h.1
-no_end_told nodes (ListLine line) s notes t h = tt
-no_end_told nodes (ShowTag line node) s notes t h = tt
-no_end_told nodes (Residents node) s notes t h = tt
+-- the lines of a `done` are traced on their own
+abbrev pub IsOther : Command → Type 0
+IsOther (Done node) = ⊥
+IsOther command = Unit {0}
+
+pub other_than : (command : Command) → ((node : ℕ) → command ≡ Done node → ⊥) → IsOther command
+other_than (Done node) none = none node refl
+other_than command none = tt
+
+no_end_told : (command : Command) (s : Shared) (notes : List ℕ) (t : Shared) → IsOther command → TellsNoEnd command s notes t
+no_end_told (Done node) s notes t other = absurd other
+no_end_told command s notes t other = tt
 
 -- a command that tells of its turns fails as it does without
 stops_so : (nodes : ℕ) (s : Shared) (step : Step) (notes : List ℕ) (e : ScriptRefusal) (t : Shared) → StopsAt telling_is_open tells nodes (telling s []) step e (telling t notes) → StopsAt shared_is_open shared_does nodes s step e t
 stops_so nodes s step notes e t stop = stops_at (λ (x : Telling). x.shared) shared_is_open tells shared_does told_does nodes (telling s []) step e (telling t notes) stop
 
 -- a command failed, whose turns' lines are written
-pub step_left : (coding : Coding) (nodes : ℕ) (s : Shared) (step : Step) (notes : List ℕ) (e : ScriptRefusal) (t : Shared) → AreNotes notes → StopsAt telling_is_open tells nodes (telling s []) step e (telling t notes)
+pub step_left : (coding : Coding) (nodes : ℕ) (s : Shared) (step : Step) (notes : List ℕ) (e : ScriptRefusal) (t : Shared) → IsOther step.command → AreNotes notes → StopsAt telling_is_open tells nodes (telling s []) step e (telling t notes)
     → StepLeaves coding nodes s step e (coded coding notes) t
-step_left coding nodes s step notes OutOfMemory t are stop = (notes, are, tt, refl)
-step_left coding nodes s step notes (BadCommand n) t are stop = (notes, are, stops_so nodes s step notes (BadCommand n) t stop, refl)
-step_left coding nodes s step notes (BadNumber n) t are stop = absurd stop
-step_left coding nodes s step notes (NotDone n) t are stop = (notes, are, (stops_so nodes s step notes (NotDone n) t stop, no_end_told nodes step.command s notes t stop.1), refl)
-step_left coding nodes s step notes WriteFailed t are stop = absurd stop
+step_left coding nodes s step notes OutOfMemory t other are stop = (notes, are, tt, refl)
+step_left coding nodes s step notes (BadCommand n) t other are stop = (notes, are, stops_so nodes s step notes (BadCommand n) t stop, refl)
+step_left coding nodes s step notes (BadNumber n) t other are stop = absurd stop
+step_left coding nodes s step notes (NotDone n) t other are stop = (notes, are, (stops_so nodes s step notes (NotDone n) t stop, no_end_told step.command s notes t other), refl)
+step_left coding nodes s step notes WriteFailed t other are stop = absurd stop
 
 -- a turn waits behind so many, and each further turn up to the last waits too
 hung : (node n times : ℕ) (s mid t : Shared) → n + times ≡ 100000 → 0 < times → Unended shared_does node n s mid → shared_does mid (Turned node Turn.Waiting) t → Unended shared_does node 100000 s t
@@ -86,11 +90,19 @@ hung node n (suc k) s mid t sum some before now =
 
 -- a call that waits doesn't end, and the line of its wait stands for the turns that it has left
 pub hang_left : (coding : Coding) (nodes node number n times : ℕ) (s : Shared) (mid : Telling) (notes : List ℕ) (t : Shared) → AreNotes notes → shared_is_open s node ≡ true → n + times ≡ 100000 → 0 < times
-    → Unended tells node n (telling s []) mid → AddsLine mid node Turn.Waiting times (telling t notes) → shared_does mid.shared (Turned node Turn.Waiting) t
+    → Repeats tells (Turned node Turn.Moved) n (telling s []) mid → AddsLine mid node Turn.Waiting times (telling t notes) → shared_does mid.shared (Turned node Turn.Waiting) t
     → StepLeaves coding nodes s (record { number = number; command = Done node }) (NotDone number) (coded coding notes) t
 hang_left coding nodes node number n times s mid notes t are still sum some before added now =
-    let all : Unended shared_does node 100000 s t = hung node n times s mid.shared t sum some (unended (λ (x : Telling). x.shared) shared_is_open tells shared_does told_does node n (telling s []) mid before) now in
-    (notes, are, ((refl, (still, all)), inr (n, times, mid, some, sum, before, added, waits_again mid.shared t node now)), refl)
+    let taken : Unended shared_does node n s mid.shared = unended (λ (x : Telling). x.shared) shared_is_open tells shared_does told_does node n (telling s []) mid (moves_unended tells node n (telling s []) mid before) in
+    let all : Unended shared_does node 100000 s t = hung node n times s mid.shared t sum some taken now in
+    (notes, are, ((refl, (still, all)), inr (n, times, mid, some, sum, before, now, added, waits_again mid.shared t node now)), refl)
+
+-- nor does one whose turns all move, of which each has its line
+pub moves_left : (coding : Coding) (nodes node number : ℕ) (s : Shared) (notes : List ℕ) (t : Shared) → AreNotes notes → shared_is_open s node ≡ true → Repeats tells (Turned node Turn.Moved) 100000 (telling s []) (telling t notes)
+    → StepLeaves coding nodes s (record { number = number; command = Done node }) (NotDone number) (coded coding notes) t
+moves_left coding nodes node number s notes t are still moves =
+    let all : Unended shared_does node 100000 s t = unended (λ (x : Telling). x.shared) shared_is_open tells shared_does told_does node 100000 (telling s []) (telling t notes) (moves_unended tells node 100000 (telling s []) (telling t notes) moves) in
+    (notes, are, ((refl, (still, all)), inl moves), refl)
 
 -- behind lines that were written, others weren't all written
 pub notes_left : (coding : Coding) (nodes : ℕ) (s : Shared) (step : Step) (put notes written : List ℕ) (e : ScriptRefusal) (t : Shared) → AreNotes put → AreNotes notes → NotesLeft coding e notes written

@@ -7,8 +7,9 @@ use Rattle.sci_script.specs.declared.commands.Step.{Step}
 use Rattle.sci_script.specs.declared.refusals.ScriptRefusal.{ScriptRefusal}
 use Rattle.sci_script.specs.declared.refusals.ScriptRefusal.TheVariants.{OutOfMemory, BadCommand, BadNumber, NotDone, WriteFailed}
 use Rattle.sci_script.specs.declared.watching.Passed.{Passed}
-use Rattle.sci_script.specs.Event.{Event, Began, Turned, SawMem, SawTag, SawResidents}
-use Rattle.sci_script.specs.Passed.{shared_passes}
+use Rattle.sci_script.specs.Event.{Event, Began, Turned, Rested, SawMem, SawTag, SawResidents}
+use Rattle.sci_script.specs.declared.desk.Toward.{Toward}
+use Rattle.sci_script.specs.Passed.{passes_to_rest, shared_passes}
 use Rattle.sci_script.specs.Request.{no_words}
 use Rattle.sci_script.specs.Run.{PrintsAll, Leaves}
 use Rattle.sci_script.specs.Shared.{Shared, shared_does}
@@ -26,10 +27,16 @@ logging_of desk = record { shared = shared_of desk.desk; notes = note_bytes desk
 abbrev pub AddsEntries : Telling → ℕ → Telling → Type 0
 AddsEntries s node t = (t.is_cut ≡ true) ⊎ ((t.is_cut ≡ s.is_cut) × (passed : Passed) × shared_passes s.shared node t.shared nothing passed × (t.notes ≡ s.notes ++ entries_of node passed))
 
+-- so is what passed in a turn towards rest
+abbrev pub AddsRestEntries : Telling → ℕ → Toward → Telling → Type 0
+AddsRestEntries s line (Toward.Turned node) t = (t.is_cut ≡ true) ⊎ ((t.is_cut ≡ s.is_cut) × (passed : Passed) × passes_to_rest s.shared line node t.shared nothing passed × (t.notes ≡ s.notes ++ entries_of node passed))
+AddsRestEntries s line toward t = AddsNone s t
+
 -- what lines and nodes do; each turn adds what passed in it, and nothing else adds anything
 abbrev pub logs : Telling → Event → Telling → Type 0
 logs s (Began node request) t = shared_does s.shared (Began node request) t.shared × AddsNone s t
 logs s (Turned node turn) t = shared_does s.shared (Turned node turn) t.shared × AddsEntries s node t
+logs s (Rested line toward) t = shared_does s.shared (Rested line toward) t.shared × AddsRestEntries s line toward t
 logs s (SawMem line mem) t = shared_does s.shared (SawMem line mem) t.shared × AddsNone s t
 logs s (SawTag line node tag) t = shared_does s.shared (SawTag line node tag) t.shared × AddsNone s t
 logs s (SawResidents node lines) t = shared_does s.shared (SawResidents node lines) t.shared × AddsNone s t

@@ -5,6 +5,9 @@ use Rattle.sci_script.specs.declared.refusals.ScriptRefusal.TheVariants.{OutOfMe
 use Rattle.sci_trace.specs.declared.page.front.TheConstants.{FRONT}
 use Rattle.sci_trace.specs.declared.page.seam.TheConstants.{SEAM}
 use Rattle.sci_trace.specs.declared.page.end.TheConstants.{END}
+use Rattle.sci_trace.specs.declared.page.play.front.TheConstants.{FRONT as PLAY_FRONT}
+use Rattle.sci_trace.specs.declared.page.play.seam.TheConstants.{SEAM as PLAY_SEAM}
+use Rattle.sci_trace.specs.declared.page.play.end.TheConstants.{END as PLAY_END}
 use Rattle.sci_trace.specs.declared.drawing.Frame.{Frame}
 use Rattle.sci_trace.specs.Coding.{escaped}
 
@@ -18,6 +21,16 @@ page_seam = SEAM.now
 unfoldable pub page_end : List ℕ
 page_end = END.now
 
+-- those of src/page/play
+unfoldable pub play_front : List ℕ
+play_front = PLAY_FRONT.now
+
+unfoldable pub play_seam : List ℕ
+play_seam = PLAY_SEAM.now
+
+unfoldable pub play_end : List ℕ
+play_end = PLAY_END.now
+
 -- the front, the text escaped, and the end
 abbrev pub page_in : List ℕ → List ℕ → List ℕ → List ℕ
 page_in front end text = front ++ escaped text ++ end
@@ -29,6 +42,10 @@ head_of frame = page_in frame.front.now frame.seam.now frame.source.now
 -- the page of a script and its trace
 abbrev pub page_of : List ℕ → List ℕ → List ℕ
 page_of source traced = page_in (page_in page_front page_seam source) page_end traced
+
+-- the page of a script and of the states of its race
+abbrev pub play_page : List ℕ → List ℕ → List ℕ
+play_page source states = page_in (page_in play_front play_seam source) play_end states
 
 -- the writer failed
 abbrev pub is_cut : Result (Unit {0}) ScriptRefusal → Bool

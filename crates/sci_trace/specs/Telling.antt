@@ -4,11 +4,12 @@ use Rattle.sci_core.specs.Stage.{stage_of}
 use Rattle.sci_ops.specs.declared.answers.Turn.{Turn}
 use Rattle.sci_script.specs.declared.commands.Command.{Command}
 use Rattle.sci_script.specs.declared.commands.Step.{Step}
+use Rattle.sci_script.specs.declared.desk.Toward.{Toward}
 use Rattle.sci_script.specs.declared.watching.Passed.{Passed}
-use Rattle.sci_script.specs.Event.{Event, Began, Turned, SawMem, SawTag, SawResidents}
-use Rattle.sci_script.specs.Passed.{shared_passes}
+use Rattle.sci_script.specs.Event.{Event, Began, Turned, Rested, SawMem, SawTag, SawResidents}
+use Rattle.sci_script.specs.Passed.{passes_to_rest, shared_passes}
 use Rattle.sci_script.specs.Request.{words_after}
-use Rattle.sci_script.specs.Run.{Prints, Unended}
+use Rattle.sci_script.specs.Run.{Prints, Repeats}
 use Rattle.sci_script.specs.Shared.{Shared, shared_is_open, shared_does}
 use Rattle.sci_script.specs.Waiting.{IsAwaited}
 use Rattle.sci_script.specs.Wholes.{shared_of}
@@ -43,24 +44,34 @@ abbrev pub is_wait : Turn → Bool
 is_wait Turn.Waiting = true
 is_wait _ = false
 
--- this is told of the turn that the node took from s to t: whose it was, what passed in it, its wait, and the node's pending step,
--- memory's word and the list's entries after it
-abbrev pub IsTold : Shared → ℕ → Turn → ℕ → Shared → Told → Type 0
-IsTold s node turn times t told = (told.node ≡ node) × shared_passes s node t nothing told.passed × IsWait turn t told.passed.line node times told.wait
+-- this is told of a turn of the node that left the lines and nodes so: whose it was, what passed in it, its wait, and the node's
+-- pending step, memory's word and the list's entries after it
+abbrev pub IsTold : (Passed → Type 0) → ℕ → Turn → ℕ → Shared → Told → Type 0
+IsTold passes node turn times t told = (told.node ≡ node) × passes told.passed × IsWait turn t told.passed.line node times told.wait
     × (told.stage ≡ stage_of ((t.lines told.passed.line).steps node)) × (told.mem ≡ (t.lines told.passed.line).memory)
     × (told.entries ≡ walked (t.lines told.passed.line).tags t.width told.mem.forw)
 
 -- the turn's line is added, unless memory is refused for it
+abbrev pub AddsTold : (Passed → Type 0) → Telling → ℕ → Turn → ℕ → Telling → Type 0
+AddsTold passes s node turn times t = (t.is_cut ≡ true) ⊎ ((t.is_cut ≡ s.is_cut) × (told : Told) × IsTold passes node turn times t.shared told × (t.notes ≡ s.notes ++ line_of_turn told))
+
+-- that of a turn of the node's call
 abbrev pub AddsLine : Telling → ℕ → Turn → ℕ → Telling → Type 0
-AddsLine s node turn times t = (t.is_cut ≡ true) ⊎ ((t.is_cut ≡ s.is_cut) × (told : Told) × IsTold s.shared node turn times t.shared told × (t.notes ≡ s.notes ++ line_of_turn told))
+AddsLine s node turn times t = AddsTold (shared_passes s.shared node t.shared nothing) s node turn times t
 
 abbrev pub AddsNone : Telling → Telling → Type 0
 AddsNone s t = (t.is_cut ≡ s.is_cut) × (t.notes ≡ s.notes)
+
+-- that of a turn towards rest, which doesn't wait
+abbrev pub AddsRestLine : Telling → ℕ → Toward → Telling → Type 0
+AddsRestLine s line (Toward.Turned node) t = AddsTold (passes_to_rest s.shared line node t.shared nothing) s node Turn.Moved 1 t
+AddsRestLine s line toward t = AddsNone s t
 
 -- what lines and nodes do; each turn adds its line, and nothing else adds one
 abbrev pub tells : Telling → Event → Telling → Type 0
 tells s (Began node request) t = shared_does s.shared (Began node request) t.shared × AddsNone s t
 tells s (Turned node turn) t = shared_does s.shared (Turned node turn) t.shared × AddsLine s node turn 1 t
+tells s (Rested line toward) t = shared_does s.shared (Rested line toward) t.shared × AddsRestLine s line toward t
 tells s (SawMem line mem) t = shared_does s.shared (SawMem line mem) t.shared × AddsNone s t
 tells s (SawTag line node tag) t = shared_does s.shared (SawTag line node tag) t.shared × AddsNone s t
 tells s (SawResidents node lines) t = shared_does s.shared (SawResidents node lines) t.shared × AddsNone s t
@@ -74,12 +85,12 @@ TellsAll words s [] traced t = (traced ≡ []) × (t ≡ s)
 TellsAll words s (step ∷ steps) traced t = (notes text rest : List ℕ) × (mid : Shared) × Prints telling_is_open tells words (telling s []) step.command text (telling mid notes)
     × TellsAll (words_after words step.command) mid steps rest t × (traced ≡ (notes ++ text) ++ rest)
 
--- the lines of a call that doesn't end, from s to t: one for each of its 100,000 turns; or one for each of n turns, and one that stands
--- for the turn behind them and all that follow it, of which each waits and changes nothing
+-- the lines of a call that doesn't end, from s to t: one for each of its 100,000 turns, where all move; or one for each of n turns that
+-- move, and one that stands for the turn behind them, which waits, and for all that follow it, each of which waits and changes nothing
 abbrev pub TellsUnended : ℕ → Shared → List ℕ → Shared → Type 0
-TellsUnended node s notes t = Unended tells node 100000 (telling s []) (telling t notes)
-    ⊎ ((n times : ℕ) × (mid : Telling) × (0 < times) × (n + times ≡ 100000) × Unended tells node n (telling s []) mid × AddsLine mid node Turn.Waiting times (telling t notes)
-    × shared_does t (Turned node Turn.Waiting) t)
+TellsUnended node s notes t = Repeats tells (Turned node Turn.Moved) 100000 (telling s []) (telling t notes)
+    ⊎ ((n times : ℕ) × (mid : Telling) × (0 < times) × (n + times ≡ 100000) × Repeats tells (Turned node Turn.Moved) n (telling s []) mid
+    × shared_does mid.shared (Turned node Turn.Waiting) t × AddsLine mid node Turn.Waiting times (telling t notes) × shared_does t (Turned node Turn.Waiting) t)
 
 -- the lines of a command that doesn't end
 abbrev pub TellsNoEnd : Command → Shared → List ℕ → Shared → Type 0

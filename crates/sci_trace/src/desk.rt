@@ -13,7 +13,7 @@ use crate::notes::Notes;
 use crate::texts::Wait;
 use sci_cache::Request;
 use sci_ops::Turn;
-use sci_script::{Desk, Passed, Script, Size, WholeDesk};
+use sci_script::{Desk, Passed, Script, Size, Toward, WholeDesk};
 use sci_words::{LineNo, Mem, NodeId, Tag};
 use std::alloc::{AllocError, Global};
 
@@ -111,11 +111,14 @@ impl TraceDesk {
 }
 
 impl Desk for TraceDesk {
+    ghost use Rattle.sci_script.specs.Shared.{shared_far};
     ghost use Rattle.sci_trace.specs.Telling.{telling_of, telling_is_open, tells};
 
     ghost size = { λ desk. desk.size };
 
     ghost is_open = { λ desk node. telling_is_open (telling_of desk) node };
+
+    ghost far = { λ desk line. shared_far (shared_of desk.desk) line };
 
     ghost does = { λ s call t. tells (telling_of s) call (telling_of t) };
 
@@ -131,6 +134,16 @@ impl Desk for TraceDesk {
 
     fn turn(&mut self, node: NodeId) -> Turn {
         self.take(node, 1)
+    }
+
+    fn rest_turn(&mut self, line: LineNo) -> Toward {
+        let mut passed = Passed::NOTHING;
+        let toward = self.desk.watched_rest_turn(line, &mut passed);
+        let Toward::Turned(node) = toward else {
+            return toward;
+        };
+        self.tell(node, &passed, &Turn::Moved, 1);
+        toward
     }
 
     fn resident(&self, alloc: Global, node: NodeId) -> Result<Vec<LineNo>, AllocError> {

@@ -4,13 +4,13 @@ ghost use Rattle.std.specs.Prelude.{◌≡◌, ◌<◌, ℕ, List, length, take,
 ghost use Rattle.std.specs.Io.KnownBytes.{Appends};
 ghost use Rattle.sci_script.specs.Request.{no_words};
 ghost use Rattle.sci_script.specs.Wholes.{shared_of};
-ghost use Rattle.sci_trace.specs.Pages.{page_front, page_seam, page_end, head_of, page_in, page_of, is_cut};
+ghost use Rattle.sci_trace.specs.Pages.{page_front, page_seam, page_end, play_front, play_seam, play_end, head_of, page_in, page_of, play_page, is_cut};
 ghost use Rattle.sci_trace.specs.Telling.{TellsAll};
 ghost use Rattle.sci_trace.specs.Traces.{Traces, FormLeaves};
 
 use crate::coding::{Coding, put_coded};
 use crate::desk::TraceDesk;
-use crate::page::{END, FRONT, SEAM};
+use crate::page::{END, FRONT, SEAM, play};
 use crate::running::trace_as;
 use sci_script::{Script, ScriptRefusal, WriteFailed, put};
 use std::alloc::Global;
@@ -122,4 +122,50 @@ pub fn draw<W: Write>(
         end: end().as_bytes(),
     };
     draw_in(alloc, script, desk, frame, out)
+}
+
+/// What stands in front of the script of a page of states.
+fn play_front() -> &'static str
+    ensures { result.now ≡ play_front }
+{
+    play::FRONT
+}
+
+/// What stands between that and the states.
+fn play_seam() -> &'static str
+    ensures { result.now ≡ play_seam }
+{
+    play::SEAM
+}
+
+/// What stands behind the states.
+fn play_end() -> &'static str
+    ensures { result.now ≡ play_end }
+{
+    play::END
+}
+
+/// Writes a text, escaped, in this frame; on a failure it has written a front of that, and not all.
+fn put_in<W: Write>(out: &mut W, frame: Frame, text: &[u8]) -> Result<(), WriteFailed>
+    ensures ok { OnOk result (Appends (W.contents out.old) (W.contents out.new) (page_in (head_of frame.entry) frame.entry.end.now text.now)) }
+    ensures err { OnErr result ((n : ℕ) × (n < length (page_in (head_of frame.entry) frame.entry.end.now text.now)) × Appends (W.contents out.old) (W.contents out.new) (take n (page_in (head_of frame.entry) frame.entry.end.now text.now))) }
+{
+    put_head(out, frame)?;
+    put_coded(out, Coding::Escaped, text)?;
+    put(out, frame.end)
+}
+
+/// Writes a page of HTML with the script's text `source` and the text of its race's states, both escaped, on which the reader picks whose
+/// turn it is; on a failure it has written a front of that, and not all.
+pub fn put_play<W: Write>(out: &mut W, source: &[u8], text: &[u8]) -> Result<(), WriteFailed>
+    ensures ok { OnOk result (Appends (W.contents out.old) (W.contents out.new) (play_page source.now text.now)) }
+    ensures err { OnErr result ((n : ℕ) × (n < length (play_page source.now text.now)) × Appends (W.contents out.old) (W.contents out.new) (take n (play_page source.now text.now))) }
+{
+    let frame = Frame {
+        front: play_front().as_bytes(),
+        source,
+        seam: play_seam().as_bytes(),
+        end: play_end().as_bytes(),
+    };
+    put_in(out, frame, text)
 }

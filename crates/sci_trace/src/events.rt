@@ -17,7 +17,7 @@ use sci_script::{Ending, Load};
 use std::alloc::AllocError;
 
 /// Words, each behind a space.
-pub(crate) fn push_words(text: &mut NoteText, words: &[u64]) -> Result<(), AllocError>
+pub fn push_words(text: &mut NoteText, words: &[u64]) -> Result<(), AllocError>
     ensures { OnOk result (note_bytes text.new ≡ note_bytes text.old ++ flat_map (λ word. codes " " ++ decimal word) words.now) }
 {
     for word in words {

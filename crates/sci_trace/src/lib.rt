@@ -22,14 +22,19 @@ mod texts;
 mod words;
 
 pub use desk::TraceDesk;
-pub use drawing::draw;
+pub use drawing::{draw, put_play};
 pub use log_desk::LogDesk;
 pub use logging::log;
 pub use running::trace;
 
-/// What the calls of this crate are made of. It is public for the tests alone, which stand in a crate above.
+/// What the calls of this crate are made of, for the tests and for the texts of crates above.
 #[doc(hidden)]
 pub mod parts {
     pub use crate::coding::{Coding, put_coded};
+    pub use crate::events::push_words;
     pub use crate::note_text::NoteText;
+    pub use crate::numbers::push_between;
+    pub use crate::steps::push_step;
+    pub use crate::texts::{Wait, push_act};
+    pub use crate::words::{push_link, push_node, push_tag};
 }

@@ -10,7 +10,7 @@ use crate::entries::push_entries;
 use crate::note_text::NoteText;
 use sci_cache::Request;
 use sci_ops::Turn;
-use sci_script::{Desk, Passed, Script, Size, WholeDesk};
+use sci_script::{Desk, Passed, Script, Size, Toward, WholeDesk};
 use sci_words::{LineNo, Mem, NodeId, Tag};
 use std::alloc::{AllocError, Global};
 
@@ -75,12 +75,15 @@ impl LogDesk {
 }
 
 impl Desk for LogDesk {
+    ghost use Rattle.sci_script.specs.Shared.{shared_far};
     ghost use Rattle.sci_trace.specs.Logging.{logging_of, logs};
     ghost use Rattle.sci_trace.specs.Telling.{telling_is_open};
 
     ghost size = { λ desk. desk.size };
 
     ghost is_open = { λ desk node. telling_is_open (logging_of desk) node };
+
+    ghost far = { λ desk line. shared_far (shared_of desk.desk) line };
 
     ghost does = { λ s call t. logs (logging_of s) call (logging_of t) };
 
@@ -97,6 +100,16 @@ impl Desk for LogDesk {
         let turn = self.desk.watched_turn(node, &mut passed);
         self.log.add(node, &passed);
         turn
+    }
+
+    fn rest_turn(&mut self, line: LineNo) -> Toward {
+        let mut passed = Passed::NOTHING;
+        let toward = self.desk.watched_rest_turn(line, &mut passed);
+        let Toward::Turned(mover) = toward else {
+            return toward;
+        };
+        self.log.add(mover, &passed);
+        toward
     }
 
     fn resident(&self, alloc: Global, node: NodeId) -> Result<Vec<LineNo>, AllocError> {

@@ -51,7 +51,7 @@ fn push_digits(text: &mut NoteText, number: u64) -> Result<(), AllocError>
 /// A number between two pieces. Each line of a turn has some, and `write!` takes several times as long; most are below a hundred,
 /// and come from a table without a branch on their length.
 #[inline(always)]
-pub(crate) fn push_between<const A: usize, const B: usize>(
+pub fn push_between<const A: usize, const B: usize>(
     text: &mut NoteText,
     before: &[u8; A],
     number: u64,

@@ -156,13 +156,15 @@ fn trace_step<W: Write>(
     ensures size { desk.new.size ≡ desk.old.size }
 {
     let command = step.command;
-    if let Command::Done { node } = command {
-        return trace_done(text, desk, coding, out, words, step.number, node);
+    match command {
+        Command::Done { node } => trace_done(text, desk, coding, out, words, step.number, node),
+        _ => {
+            let nodes = desk.size.nodes;
+            let performed = perform(alloc, text, desk, nodes, words, step);
+            put_notes(desk, coding, out)?;
+            performed
+        }
     }
-    let nodes = desk.size.nodes;
-    let performed = perform(alloc, text, desk, nodes, words, step);
-    put_notes(desk, coding, out)?;
-    performed
 }
 
 /// Runs the script over a desk of its nodes and lines, and writes its trace in this way.

@@ -31,7 +31,7 @@ fn push_marked<const N: usize, const M: usize>(
 }
 
 /// A pending step, with the node that it keeps and its mark.
-pub(crate) fn push_step(text: &mut NoteText, step: &Stage) -> Result<(), AllocError>
+pub fn push_step(text: &mut NoteText, step: &Stage) -> Result<(), AllocError>
     ensures { OnOk result (note_bytes text.new ≡ note_bytes text.old ++ step_text step.now) }
 {
     match *step {

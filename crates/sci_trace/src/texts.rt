@@ -124,7 +124,7 @@ fn push_for(text: &mut NoteText, wait: &Option<Wait>) -> Result<(), AllocError>
 }
 
 /// What a turn did: its event and how the exchange ended, or its wait, or that it only looked.
-fn push_act(
+pub fn push_act(
     text: &mut NoteText,
     node: NodeId,
     passed: &Passed,

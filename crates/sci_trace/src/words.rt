@@ -15,7 +15,7 @@ use std::alloc::AllocError;
 
 /// A node's number between two pieces.
 #[inline(always)]
-pub(crate) fn push_node<const A: usize, const B: usize>(
+pub fn push_node<const A: usize, const B: usize>(
     text: &mut NoteText,
     before: &[u8; A],
     node: NodeId,
@@ -28,7 +28,7 @@ pub(crate) fn push_node<const A: usize, const B: usize>(
 
 /// A link between two pieces: a node, or `none`.
 #[inline(always)]
-pub(crate) fn push_link<const A: usize, const B: usize>(
+pub fn push_link<const A: usize, const B: usize>(
     text: &mut NoteText,
     before: &[u8; A],
     link: Option<NodeId>,
@@ -58,7 +58,7 @@ pub(crate) fn push_found(
 }
 
 /// A node's tag, with its links: `node N is NAME forw F back B`, and ` held`.
-pub(crate) fn push_tag(text: &mut NoteText, node: NodeId, tag: Tag) -> Result<(), AllocError>
+pub fn push_tag(text: &mut NoteText, node: NodeId, tag: Tag) -> Result<(), AllocError>
     ensures { OnOk result (note_bytes text.new ≡ note_bytes text.old ++ tag_text node tag) }
 {
     let Tag {

@@ -3,12 +3,12 @@ use Rattle.std.proofs.Common.{◌≡◌, ℕ, ◌<◌, List, length, subst, ◌�
 use Rattle.std.specs.Prelude.{All}
 use mathlib.Core.Option.{some}
 use lib.ListN.{get_elem?}
-use Rattle.sci_core.specs.Closed.{ClosedLine, IsExactClosed}
+use Rattle.sci_core.specs.Closed.{ClosedLine, IsExactClosed, value_of}
 use Rattle.sci_port.proofs.Seated.{at_place}
 use Rattle.sci_fine.specs.declared.line.FineLine.{FineLine}
 use Rattle.sci_fine.specs.Banks.{IsLine}
 use Rattle.sci_fine.proofs.Elements.{inside, each_all}
-use Rattle.sci_work.specs.Ended.{AreClosed, AreClosedOf, HaveNodes, value_of}
+use Rattle.sci_work.specs.Ended.{AreClosed, AreClosedOf, HaveNodes}
 use Rattle.sci_work.specs.Hands.{AtEach}
 
 -- lines of one fact, numbered from 0

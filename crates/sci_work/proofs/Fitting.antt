@@ -7,14 +7,14 @@ use Rattle.sci_words.specs.declared.tags.Kind.{Kind}
 use Rattle.sci_words.specs.declared.tags.Tag.{Tag}
 use Rattle.sci_core.specs.declared.lines.Line.{Line}
 use Rattle.sci_core.specs.Chain.{IsPath, forward}
-use Rattle.sci_core.specs.Closed.{ClosedLine, IsExactClosed}
+use Rattle.sci_core.specs.Closed.{ClosedLine, IsExactClosed, value_by, value_of}
 use Rattle.sci_core.specs.Law.{is_valid}
 use Rattle.sci_core.specs.Run.{HasValue}
 use Rattle.sci_core.specs.State.{State, blank, invalid}
 use Rattle.sci_port.specs.declared.calls.Call.{Call}
 use Rattle.sci_fine.specs.declared.line.FineLine.{FineLine}
 use Rattle.sci_fine.specs.Ends.{IsEnd, IsReadOff}
-use Rattle.sci_work.specs.Ended.{IsClosedOf, value_by, value_of}
+use Rattle.sci_work.specs.Ended.{IsClosedOf}
 use Rattle.sci_work.proofs.Seated.{head_inside, or_at}
 
 nobody : (forw : ℕ → Option ℕ) (from : Option ℕ) (nodes : List ℕ) → from ≡ None → IsPath from forw nodes → nodes ≡ []

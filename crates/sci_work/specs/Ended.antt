@@ -1,19 +1,9 @@
 -- What a line holds once it is closed. This project's profile.
-use Rattle.std.specs.Prelude.{◌≡◌, ℕ, ◌≤◌, Option, Some, None, List, [], ◌∷◌, length, All, slice_index, slice_index_or}
+use Rattle.std.specs.Prelude.{◌≡◌, ℕ, ◌≤◌, List, [], ◌∷◌, length, All, slice_index}
 use mathlib.Core.Option.{some}
 use lib.ListN.{get_elem?}
 use Rattle.sci_fine.specs.declared.line.FineLine.{FineLine}
-use Rattle.sci_core.specs.declared.lines.Line.{Line}
-use Rattle.sci_core.specs.Closed.{ClosedLine, IsExactClosed}
-use Rattle.sci_core.specs.State.{blank}
-
--- the bytes of the list's first node, or memory's where there is no list
-abbrev pub value_by : Option ℕ → Line → List Line → Line
-value_by None memory lines = memory
-value_by (Some head) memory lines = slice_index_or lines head blank
-
-abbrev pub value_of : ClosedLine → Line
-value_of c = value_by c.mem.forw c.memory c.lines
+use Rattle.sci_core.specs.Closed.{ClosedLine, IsExactClosed, value_of}
 
 -- each closed line has so many nodes
 abbrev pub HaveNodes : ℕ → List ClosedLine → Type 0

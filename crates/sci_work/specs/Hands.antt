@@ -22,3 +22,7 @@ pub record IsIdleSeat {K : Type 0} {g : keeps.Ghosts K} (node : ℕ) (l : FineLi
 pub record IsHandOf {K : Type 0} {g : keeps.Ghosts K} (lines : List (FineLine K)) (node : ℕ) (seats : List (Seat K g)) : Type 0 where
   pub count : length seats ≡ length lines
   pub each : (k : ℕ) (l : FineLine K) (s : Seat K g) → get_elem? lines k ≡ some l → get_elem? seats k ≡ some s → IsIdleSeat node l s
+
+-- each seat is one of this very line, and Idle
+abbrev pub AreIdle : {K : Type 0} {g : keeps.Ghosts K} → FineLine K → List (Seat K g) → Type 0
+AreIdle {K} {g} l seats = (k : ℕ) (s : Seat K g) → get_elem? seats k ≡ some s → IsSeatOf l s × (s.standing.pending ≡ Pending.Idle)

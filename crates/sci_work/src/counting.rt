@@ -10,7 +10,6 @@ use crate::programs::Program;
 use crate::refusals::WorkRefusal;
 use crate::seating::{dealt, gathered};
 use crate::starting::run_all;
-use crate::values::value_of;
 use sci_core::{AnyWords, Closed};
 use std::alloc::Global;
 use std::slice;
@@ -75,7 +74,7 @@ pub fn count<R: Threads + Wait + Sync, G: Gate>(
         return Err(WorkRefusal::BadSettings);
     }
     let closed = counted(rt, alloc, nodes, adds, capacity, gate)?;
-    let word = value_of(&closed).words[0];
+    let word = closed.value().words[0];
     let mut lines = Vec::new(alloc);
     let Ok(()) = lines.push(closed) else {
         return Err(WorkRefusal::OutOfMemory);

@@ -13,7 +13,6 @@ mod rings;
 mod seating;
 mod starting;
 mod stencils;
-mod values;
 
 pub use counting::count;
 pub use facts::{RingFact, StencilFact};
@@ -31,5 +30,4 @@ pub mod parts {
     pub use crate::seating::dealt;
     pub use crate::starting::{run_all, share_of};
     pub use crate::stencils::Work;
-    pub use crate::values::value_of;
 }

@@ -1,9 +1,9 @@
 //! The lines of a workload, and each node's seats at them.
 ghost use Rattle.std.specs.Prelude.{◌≡◌, ◌<◌, ◌≤◌, ◌++◌, ◌∷◌, [], ℕ, replicate, IfOk, IfErr, vec_len};
 ghost use Rattle.sci_fine.specs.Banks.{IsLine};
-ghost use Rattle.sci_fine.specs.Seats.{AreIdle, AreIdleFrom};
+ghost use Rattle.sci_fine.specs.Seats.{AreIdleFrom};
 ghost use Rattle.sci_work.specs.Ended.{AreClosedOf, IsClosedOf};
-ghost use Rattle.sci_work.specs.Hands.{AtEach, IsHandOf};
+ghost use Rattle.sci_work.specs.Hands.{AreIdle, AtEach, IsHandOf};
 
 use crate::refusals::WorkRefusal;
 use crate::seating::Hand;

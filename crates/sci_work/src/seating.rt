@@ -1,7 +1,7 @@
 //! Each node's seats at the lines of a workload.
 ghost use Rattle.std.specs.Prelude.{◌≡◌, ◌∷◌, [], IfOk, IfErr, vec_len};
-ghost use Rattle.sci_fine.specs.Seats.{AreIdle, AreIdleFrom};
-ghost use Rattle.sci_work.specs.Hands.{AtEach, IsHandOf};
+ghost use Rattle.sci_fine.specs.Seats.{AreIdleFrom};
+ghost use Rattle.sci_work.specs.Hands.{AreIdle, AtEach, IsHandOf};
 
 use crate::refusals::WorkRefusal;
 use sci_core::Keeps;

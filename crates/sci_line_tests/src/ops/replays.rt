@@ -3,7 +3,7 @@ use crate::checks::{same, same_at};
 use sci_core::{Event, Line, Whole};
 use sci_ops::{Answer, BadWord, Op, Turn};
 use sci_port::recording::{Recorder, Trace};
-use sci_port::{AnyWords, Port, Solo};
+use sci_port::{AnyWords, Port, Receipts, Solo};
 use sci_words::NodeId;
 use std::alloc::Global;
 use std::process::Abort;
@@ -25,7 +25,8 @@ pub(crate) fn turn(
     if node.get() >= whole.nodes() {
         return None;
     }
-    Some(turn_on(&mut Solo::new(whole, node), trace, op))
+    let mut receipts = Receipts::new(whole.allocator());
+    Some(turn_on(&mut Solo::new(whole, &mut receipts, node), trace, op))
 }
 
 // Does the events from this place on; whether each was in turn.

@@ -8,7 +8,7 @@ use super::{LINE, fresh, step_of};
 use crate::checks::{allocates, same};
 use sci_core::{Event, Outcome, Whole};
 use sci_port::recording::{Recorder, Trace};
-use sci_port::{AnyWords, At, Bank, Port, SoloBank};
+use sci_port::{AnyWords, At, Bank, Port, Receipts, SoloBank};
 use sci_words::{LineNo, NodeId};
 use std::alloc::Global;
 use std::test::Fail;
@@ -64,7 +64,8 @@ fn seated(alloc: Global) -> Result<SoloBank<AnyWords>, Fail> {
     if !are_lines_of(&wholes, me) {
         return Err(Fail::new("no lines of the node"));
     }
-    Ok(SoloBank::new(wholes, me))
+    let receipts = Receipts::of_lines(alloc, wholes.len())?;
+    Ok(SoloBank::new(wholes, receipts, me))
 }
 
 /// An event on a line through a bank, if the event is in turn.
@@ -157,12 +158,12 @@ fn lines_left(mut bank: SoloBank<AnyWords>) -> usize {
 
 #[test]
 fn ports_and_banks_take_no_memory(rt: HostRuntime) -> Result<(), Fail> {
-    // Two lines take three each, their list one, and the room of a trace one.
+    // Two lines take three each, their list and their receipts one each, and the room of a trace one.
     let mut bank = seated(rt.alloc())?;
     let mut trace = Trace::new(Vec::with_capacity(rt.alloc(), 16)?);
     same(&rt, &rounds(&mut bank, &mut trace), &Some(ROUNDS));
     assert!(rt; trace.events().is_none());
     same(&rt, &lines_left(bank), &2);
-    allocates(&rt, rt.alloc(), "allocation 9 is refused");
+    allocates(&rt, rt.alloc(), "allocation 10 is refused");
     Ok(())
 }

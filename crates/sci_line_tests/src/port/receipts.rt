@@ -177,7 +177,8 @@ fn makes(whole: &mut Whole<AnyWords>, receipts: &mut Receipts, step: &Step) -> O
     }
     receipts.aim(passing);
     let before = kept(whole, node);
-    let outcome = step_of(&mut Solo::new(whole, node), event)?;
+    let mut none = Receipts::new(whole.allocator());
+    let outcome = step_of(&mut Solo::new(whole, &mut none, node), event)?;
     receives(receipts, event, &before, &outcome)?;
     Some(matches!(outcome, Outcome::Done(_)))
 }

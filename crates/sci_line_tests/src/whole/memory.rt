@@ -165,6 +165,7 @@ fn is_unused(rt: &impl Abort, closed: &Closed, nodes: usize) {
     same(rt, &closed.tags.len(), &nodes);
     same(rt, &closed.lines.len(), &nodes);
     assert!(rt; closed.lines.iter().all(|line| *line == LINE));
+    same(rt, &closed.value(), &LINE);
 }
 
 /// Runs of two nodes.

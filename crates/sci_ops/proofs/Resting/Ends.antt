@@ -13,27 +13,38 @@ use Rattle.sci_ops.specs.Table.{begun}
 use Rattle.sci_ops.proofs.Ending.Counting.{updated, not_updated}
 
 module _ (n : ℕ) (fits : List ℕ → Type 0) where
-  pub none_yet : (ops : List Operation) (s : State) → EndsEach n fits 0 ops ops s s
-  none_yet ops s = record { at = λ i. s; first = refl; last = refl; each = λ i l. absurd (omega (arith, l)) }
+  pub none_yet : (ops : List Operation) (s : State) → EndsEach n fits 0 ops ops s 0 s
+  none_yet ops s = record { at = λ i. s; taken = λ i. 0; first = refl; none = refl; last = refl; all = refl; each = λ i l. absurd (omega (arith, l)) }
 
-  pub one_further : (m : ℕ) (ops new : List Operation) (o : Operation) (s mid t : State) → m < length new → EndsEach n fits m ops new s mid → EndsOne n fits m (op_at ops m) (op_at ops m).answer mid o t → EndsEach n fits (suc m) ops (set new m o) s t
-  one_further m ops new o s mid t below h e =
+  pub one_further : (m : ℕ) (ops new : List Operation) (o : Operation) (s mid t : State) (turns k : ℕ) → m < length new → EndsEach n fits m ops new s turns mid → EndsOne n fits m (op_at ops m) (op_at ops m).answer mid k o t → EndsEach n fits (suc m) ops (set new m o) s (turns + k) t
+  one_further m ops new o s mid t turns k below h e =
       let after : ℕ → State = update h.at (suc m) t in
-      let One : ℕ → State → Operation → State → Type 0 = λ i a b c. EndsOne n fits i (op_at ops i) (op_at ops i).answer a b c in
-      let here : One m (after m) (op_at (set new m o) m) (after (suc m)) =
-      subst (λ (c : State). One m (after m) (op_at (set new m o) m) c) (sym (updated h.at (suc m) t))
-      (subst (λ (b : Operation). One m (after m) b t) (sym (get_or-set_same new m o (begun Goal.Load) below))
-      (subst (λ (a : State). One m a o t) (sym (not_updated h.at (suc m) t m (λ q. omega (arith, q)) ∙ h.last)) e)) in
+      let taken : ℕ → ℕ = update h.taken (suc m) (turns + k) in
+      let One : ℕ → State → ℕ → Operation → State → Type 0 = λ i a j b c. EndsOne n fits i (op_at ops i) (op_at ops i).answer a j b c in
+      let here : One m (after m) k (op_at (set new m o) m) (after (suc m)) =
+      subst (λ (c : State). One m (after m) k (op_at (set new m o) m) c) (sym (updated h.at (suc m) t))
+      (subst (λ (b : Operation). One m (after m) k b t) (sym (get_or-set_same new m o (begun Goal.Load) below))
+      (subst (λ (a : State). One m a k o t) (sym (not_updated h.at (suc m) t m (λ q. omega (arith, q)) ∙ h.last)) e)) in
+      let counted : taken (suc m) ≡ taken m + k = updated h.taken (suc m) (turns + k) ∙ ap (λ (j : ℕ). j + k) (sym (not_updated h.taken (suc m) (turns + k) m (λ q. omega (arith, q)) ∙ h.all)) in
       record {
         at = after;
+        taken = taken;
         first = not_updated h.at (suc m) t 0 (λ q. omega (arith, q)) ∙ h.first;
+        none = not_updated h.taken (suc m) (turns + k) 0 (λ q. omega (arith, q)) ∙ h.none;
         last = updated h.at (suc m) t;
+        all = updated h.taken (suc m) (turns + k);
         each = λ i l. ⊎_elim
-            (λ q. subst (λ (j : ℕ). One j (after j) (op_at (set new m o) j) (after (suc j))) (sym q) here)
+            (λ q. subst (λ (j : ℕ). (a : ℕ) × (taken (suc j) ≡ taken j + a) × One j (after j) a (op_at (set new m o) j) (after (suc j))) (sym q) (k, counted, here))
             (λ d.
-            subst (λ (c : State). One i (after i) (op_at (set new m o) i) c) (sym (not_updated h.at (suc m) t (suc i) (λ q. d (omega (arith, q)))))
-            (subst (λ (b : Operation). One i (after i) b (h.at (suc i))) (sym (get_or-set_other new m i o (begun Goal.Load) d))
-            (subst (λ (a : State). One i a (op_at new i) (h.at (suc i))) (sym (not_updated h.at (suc m) t i (λ q. omega (arith, l, q)))) (h.each i (omega (arith, l, d))))))
+            let was = h.each i (omega (arith, l, d)) in
+            let before : taken i ≡ h.taken i = not_updated h.taken (suc m) (turns + k) i (λ q. omega (arith, l, q)) in
+            let behind : taken (suc i) ≡ h.taken (suc i) = not_updated h.taken (suc m) (turns + k) (suc i) (λ q. d (omega (arith, q))) in (
+              was.0,
+              behind ∙ was.1 ∙ ap (λ (j : ℕ). j + was.0) (sym before),
+              subst (λ (c : State). One i (after i) was.0 (op_at (set new m o) i) c) (sym (not_updated h.at (suc m) t (suc i) (λ q. d (omega (arith, q)))))
+                  (subst (λ (b : Operation). One i (after i) was.0 b (h.at (suc i))) (sym (get_or-set_other new m i o (begun Goal.Load) d))
+                  (subst (λ (a : State). One i a was.0 (op_at new i) (h.at (suc i))) (sym (not_updated h.at (suc m) t i (λ q. omega (arith, l, q)))) was.2)),
+            ))
             (cases_eq i m);
       }
 
@@ -47,11 +58,11 @@ pub one_more_part : (a s b k m : ℕ) → s ≤ b + k * m → a ≤ s + m → a 
 one_more_part a s b k m h l = omega (arith, h, l)
 
 module _ {K : Type 0} (fits : K → ℕ → List ℕ → Type 0) (a w : WholeLine K) (same : IsSameLine a w) where
-  pub one_on : (i : ℕ) (op : Operation) (answer : Option Answer) (s : State) (o : Operation) (t : State) → EndsOne (nodes_of w) (fits w.keep w.number) i op answer s o t → EndsOne (nodes_of a) (fits a.keep a.number) i op answer s o t
-  one_on i op answer s o t h =
-      subst (λ (n : ℕ). EndsOne n (fits a.keep a.number) i op answer s o t) same.nodes
-      (subst (λ (k : K). EndsOne (nodes_of w) (fits k a.number) i op answer s o t) same.keep
-      (subst (λ (m : ℕ). EndsOne (nodes_of w) (fits w.keep m) i op answer s o t) same.number h))
+  pub one_on : (i : ℕ) (op : Operation) (answer : Option Answer) (s : State) (k : ℕ) (o : Operation) (t : State) → EndsOne (nodes_of w) (fits w.keep w.number) i op answer s k o t → EndsOne (nodes_of a) (fits a.keep a.number) i op answer s k o t
+  one_on i op answer s j o t h =
+      subst (λ (n : ℕ). EndsOne n (fits a.keep a.number) i op answer s j o t) same.nodes
+      (subst (λ (k : K). EndsOne (nodes_of w) (fits k a.number) i op answer s j o t) same.keep
+      (subst (λ (m : ℕ). EndsOne (nodes_of w) (fits w.keep m) i op answer s j o t) same.number h))
 
   pub stores_there : (goal : Goal) → StoresFitting (fits a.keep a.number) goal → StoresFitting (fits w.keep w.number) goal
   stores_there goal h =

@@ -3,7 +3,7 @@
 use super::LOAD;
 use sci_outcomes::Unwatched;
 use sci_script::ScriptRefusal;
-use sci_serve::{RaceFault, SimFault, serve_outcomes};
+use sci_serve::{RaceFault, SimFault, serve_outcomes, serve_play};
 use std::alloc::Global;
 use std::io::sink;
 use std::process::Abort;
@@ -24,8 +24,29 @@ fn refuses(rt: &impl Abort, alloc: Global) -> Result<(), Fail> {
     Err(Fail::new("serve_outcomes answered 7"))
 }
 
-/// Growths: 1 of serve_outcomes, 3 made up for, 99 of serve_outcomes.
+/// Growths: 1 of serve_outcomes, 3 made up for, 100 of serve_outcomes.
 #[test]
 fn refused_growths(rt: HostRuntime) -> Result<(), Fail> {
     refuses(&rt, rt.alloc())
+}
+
+fn plays(alloc: Global) -> Result<(), RaceFault> {
+    let mut input = LOAD.as_bytes();
+    serve_play(alloc, &Unwatched, 5, &mut input, &mut sink())
+}
+
+fn refuses_pages(rt: &impl Abort, alloc: Global) -> Result<(), Fail> {
+    let Err(fault) = plays(alloc) else {
+        return Ok(());
+    };
+    let short = RaceFault::Fault(SimFault::Refused(ScriptRefusal::OutOfMemory));
+    assert_eq!(rt; fault, short);
+    assert_eq!(rt; plays(alloc), Ok(()));
+    Err(Fail::new("serve_play answered 7"))
+}
+
+/// Growths: 1 of serve_play, 3 made up for, 190 of serve_play.
+#[test]
+fn refused_growths_of_pages(rt: HostRuntime) -> Result<(), Fail> {
+    refuses_pages(&rt, rt.alloc())
 }

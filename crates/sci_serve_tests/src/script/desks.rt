@@ -5,7 +5,7 @@ use super::same_bytes_at;
 use crate::checks::{same, same_at};
 use sci_cache::Request;
 use sci_ops::{Answer, Turn};
-use sci_script::{Desk, Script, ScriptRefusal, Size, read_script};
+use sci_script::{Desk, Script, ScriptRefusal, Size, Toward, read_script};
 use sci_words::{Kind, LineNo, Mem, MemState, NodeId, Tag};
 use std::alloc::{AllocError, Global};
 use std::process::Abort;
@@ -35,6 +35,8 @@ impl Desk for Odd {
 
     ghost is_open = { λ odd _. odd.has_call };
 
+    ghost far = { λ _ _. 0 };
+
     ghost does = { λ _ _ _. Unit {0} };
 
     fn open(&self, _node: NodeId) -> bool {
@@ -48,6 +50,10 @@ impl Desk for Odd {
 
     fn turn(&mut self, _node: NodeId) -> Turn {
         Turn::Waiting
+    }
+
+    fn rest_turn(&mut self, _line: LineNo) -> Toward {
+        Toward::Unknown
     }
 
     fn resident(&self, alloc: Global, _node: NodeId) -> Result<Vec<LineNo>, AllocError> {
@@ -87,6 +93,8 @@ fn what_is_not_to_be_had(rt: HostRuntime) -> Result<(), Fail> {
         (list, true, true, 3),
         (tag, true, false, 2),
         (call, true, true, 3),
+        ("memory 1 1\nrest\n", true, true, 2),
+        ("memory 1 1\n\nend\n", true, true, 3),
     ] {
         let script = read_script(rt.alloc(), text.as_bytes())?;
         let mut odd = Odd {
@@ -130,6 +138,8 @@ impl Desk for Late {
 
     ghost is_open = { λ late _. late.has_call };
 
+    ghost far = { λ _ _. 0 };
+
     ghost does = { λ _ _ _. Unit {0} };
 
     fn open(&self, _node: NodeId) -> bool {
@@ -146,6 +156,10 @@ impl Desk for Late {
             return Turn::Waiting;
         }
         Turn::Done(Answer::Out)
+    }
+
+    fn rest_turn(&mut self, _line: LineNo) -> Toward {
+        Toward::Unknown
     }
 
     fn resident(&self, alloc: Global, _node: NodeId) -> Result<Vec<LineNo>, AllocError> {

@@ -115,7 +115,7 @@ fn turns<D: Desk>(script: &Script, desk: &mut D, count: u32) -> Option<u32>
 
 #[test]
 fn readers_and_turns_take_no_memory(rt: HostRuntime) {
-    // The script, the desk, and the lines that its nodes name take 467.
+    // The script, the desk, and the lines that its nodes name take 468.
     let Ok(script) = read_script(rt.alloc(), SCRIPT) else {
         panic!(rt; "no script")
     };
@@ -132,5 +132,5 @@ fn readers_and_turns_take_no_memory(rt: HostRuntime) {
     assert!(rt; put(&mut out, SCRIPT).is_ok());
     same(&rt, &out.bytes, &SCRIPT.len());
     let last = Vec::<u8>::with_capacity(rt.alloc(), 1);
-    assert!(rt; last.is_ok(), "allocation 468 is refused");
+    assert!(rt; last.is_ok(), "allocation 469 is refused");
 }

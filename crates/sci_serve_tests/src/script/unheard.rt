@@ -1,16 +1,18 @@
 //! A bank to which no line is ever to be had.
-ghost use Rattle.std.specs.Prelude.{◌≡◌};
+ghost use Rattle.std.specs.Prelude.{◌≡◌, length, IfOk};
 ghost use Rattle.sci_core.specs.declared.pending.Pending.TheVariants.{Idle};
 ghost use Rattle.sci_port.specs.Owes.{Owes};
+ghost use Rattle.sci_port.specs.Readying.{ChangesAt, Readies, receipts_at};
+ghost use Rattle.sci_port.specs.ReceiptList.{ReceivesIfRoom};
 
 use super::banks::run_over;
 use super::node;
 use crate::checks::same_at;
 use sci_core::{AnyWords, Event, Outcome, Pending, Stage};
-use sci_port::Bank;
+use sci_port::{Bank, Receipts};
 use sci_script::{ScriptRefusal, read_script};
 use sci_words::{LineNo, Mem, NodeId, Tag};
-use std::alloc::Global;
+use std::alloc::{AllocError, Global};
 use std::test::Fail;
 
 /// Another has each line for ever: no load is had, and no step is done.
@@ -18,7 +20,9 @@ use std::test::Fail;
 pub struct Unheard {
     lines: u16,
     step: Pending,
+    receipts: Vec<Receipts>,
     ghost idle: { step ≡ Idle },
+    ghost count: { length receipts.items ≡ lines },
 }
 
 impl Bank for Unheard {
@@ -32,7 +36,11 @@ impl Bank for Unheard {
 
     ghost at_step = { λ b _. b.step };
 
-    ghost gives = { λ b _ call t. (t.lines ≡ b.lines) × (t.step ≡ b.step) × Owes 1 (λ _. Unit {0}) 0 b.step call t.step };
+    ghost told = { λ b line. receipts_at b.receipts.items line };
+
+    ghost gives = { λ b line call t. (t.lines ≡ b.lines) × (t.step ≡ b.step) × Owes 1 (λ _. Unit {0}) 0 b.step call t.step × ChangesAt (ReceivesIfRoom b.step call) (λ m. receipts_at b.receipts.items m) line (λ m. receipts_at t.receipts.items m) };
+
+    ghost readies = { λ b line r t. (t.lines ≡ b.lines) × (t.step ≡ b.step) × ChangesAt (Readies r) (λ m. receipts_at b.receipts.items m) line (λ m. receipts_at t.receipts.items m) };
 
     ghost same_way = { λ b line call t h i. record { node = 0; lines = h.0 i } };
 
@@ -43,6 +51,10 @@ impl Bank for Unheard {
     ghost others = { λ b line call t h m other. h.1 };
 
     ghost owes = { λ b line call t h. h.2 };
+
+    ghost receives = { λ b line call t h. h.3 };
+
+    ghost readied = { λ b line r t h. (λ i. record { node = 0; lines = h.0 i }, λ _ _. 1, λ _. record {}, λ _. h.1, h.2) };
 
     fn node(&self) -> NodeId {
         node(0)
@@ -82,18 +94,38 @@ impl Bank for Unheard {
         None
     }
 
-    #[tactic(auto, using(sci_script::proofs::Unheard::busy_row, sci_script::proofs::Unheard::owes_busy))]
+    #[tactic(auto, using(sci_script::proofs::Unheard::busy_row, sci_script::proofs::Unheard::owes_busy, sci_script::proofs::Unheard::keeps_busy))]
     fn step(&mut self, _line: LineNo, _event: Event) -> Outcome {
         Outcome::Busy
+    }
+
+    fn reserve(&mut self, line: LineNo, n: usize) -> Result<(), AllocError> {
+        let receipts = self.receipts.as_mut_slice();
+        receipts[usize::from(line)].reserve(n)
+    }
+
+    fn room(&self, line: LineNo) -> usize {
+        self.receipts[usize::from(line)].room()
+    }
+
+    fn last_passed(&self, line: LineNo) -> bool {
+        self.receipts[usize::from(line)].last_passed()
+    }
+
+    fn aim(&mut self, line: LineNo, passing: bool) {
+        let receipts = self.receipts.as_mut_slice();
+        receipts[usize::from(line)].aim(passing);
     }
 }
 
 /// A bank of so many lines.
-pub(crate) fn unheard_bank(lines: u16) -> Unheard {
-    Unheard {
+pub(crate) fn unheard_bank(alloc: Global, lines: u16) -> Result<Unheard, AllocError> {
+    let receipts = Receipts::of_lines(alloc, usize::from(lines))?;
+    Ok(Unheard {
         lines,
         step: Pending::Idle,
-    }
+        receipts,
+    })
 }
 
 /// Runs a script over such a bank.
@@ -103,7 +135,7 @@ fn run_unheard(
     out: &mut Vec<u8>,
 ) -> Result<Result<(), ScriptRefusal>, Fail> {
     let script = read_script(alloc, text.as_bytes())?;
-    let banks = vec![in alloc; unheard_bank(script.lines())]?;
+    let banks = vec![in alloc; unheard_bank(alloc, script.lines())?]?;
     Ok(run_over(alloc, &script, banks, out).ok_or("no desk")?)
 }
 

@@ -151,7 +151,7 @@ fn works<R: Abort + Wait>(rt: &R, alloc: Global) -> Result<(), Fail> {
 }
 
 /// Growths: 9 of count, 1 thread of count, 13 of count, 17 of stencil, 1 thread of stencil, 20 of stencil,
-/// 48 of ring or its threads, 7 of open, 2 of new, 5 of produce, 2 of new, 7 of consume.
+/// 48 of ring or its threads, 8 of open, 2 of new, 5 of produce, 2 of new, 7 of consume.
 #[test]
 fn refused_growths(rt: HostRuntime) -> Result<(), Fail> {
     let alloc = rt.alloc();

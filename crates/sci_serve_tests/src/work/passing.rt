@@ -1,7 +1,6 @@
 //! A ring with its two nodes in threads of their own.
 use crate::checks::same;
 use crate::work::meeting::MeetingGate;
-use sci_work::parts::value_of;
 use sci_work::{Gate, OpenGate, WorkRefusal, ring};
 use std::test::Fail;
 
@@ -16,7 +15,7 @@ fn items_pass_in_order(rt: HostRuntime) -> Result<(), Fail> {
     assert!(rt; closed.len() == 3);
     let want = [[99, 294], [100, 297], [100, 0]];
     for line in 0..3 {
-        let words = value_of(&closed[line]).words;
+        let words = closed[line].value().words;
         same(&rt, &[words[0], words[1]], &want[line]);
     }
     Ok(())

@@ -6,7 +6,7 @@ use crate::checks::same;
 use crate::work::meeting::MeetingGate;
 use sci_cache::Node;
 use sci_core::{Line, Whole};
-use sci_port::SoloBank;
+use sci_port::{Receipts, SoloBank};
 use sci_words::NodeId;
 use sci_work::{Gate, OpenGate, RingFact, WorkRefusal, consume, produce};
 use std::alloc::Global;
@@ -40,7 +40,8 @@ pub(crate) fn opened<'a>(
         }
         words = [0; 8];
     }
-    Some(SoloBank::new(wholes, me))
+    let receipts = Receipts::of_lines(alloc, wholes.len()).ok()?;
+    Some(SoloBank::new(wholes, receipts, me))
 }
 
 // What the worker answers that produces the items, on lines of this stamp.

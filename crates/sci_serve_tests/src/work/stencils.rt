@@ -1,11 +1,7 @@
 //! Nodes that work on a stencil.
-ghost use Rattle.std.specs.Prelude.{All};
-ghost use Rattle.sci_core.specs.Closed.{IsExactClosed};
-
 use crate::checks::same;
 use crate::work::meeting::MeetingGate;
 use sci_core::Closed;
-use sci_work::parts::value_of;
 use sci_work::{Gate, OpenGate, WorkRefusal, stencil};
 use std::alloc::{AllocError, Global};
 use std::sync::Wait;
@@ -13,12 +9,10 @@ use std::test::Fail;
 use std::thread::Threads;
 
 // Word 0 of what each line holds.
-fn first_words(alloc: Global, lines: &[Closed]) -> Result<Vec<u64>, AllocError>
-    requires { All IsExactClosed lines.now }
-{
+fn first_words(alloc: Global, lines: &[Closed]) -> Result<Vec<u64>, AllocError> {
     let mut words = Vec::new(alloc);
     for line in lines {
-        words.push(value_of(line).words[0])?;
+        words.push(line.value().words[0])?;
     }
     Ok(words)
 }

@@ -4,10 +4,10 @@
 ghost use Rattle.std.specs.Prelude.{◌≡◌, IfOk, length};
 
 use super::waiting::{CALLS, called, ends, seated};
-use super::{ended, opened};
+use super::{Lent, ended, opened};
 use crate::checks::{same, same_at};
 use sci_cache::{Node, NodeRefusal, Request};
-use sci_core::{AnyWords, Line, OpenRefusal, Whole};
+use sci_core::{AnyWords, Line, OpenRefusal};
 use sci_ops::Answer;
 use sci_port::SoloBank;
 use sci_words::NodeId;
@@ -31,7 +31,7 @@ fn made(rt: &impl Abort, alloc: Global, zero: NodeId) -> Result<Node, Fail>
     }
 }
 
-fn lent(rt: &impl Abort, alloc: Global) -> Result<Vec<Whole<AnyWords>>, Fail> {
+fn lent(rt: &impl Abort, alloc: Global) -> Result<Lent, Fail> {
     match opened(alloc, 1, 3, Line::ZERO) {
         Ok(wholes) => Ok(wholes),
         Err(refusal) => {
@@ -122,7 +122,7 @@ fn waits_each<R: Abort + Wait>(rt: &R, alloc: Global) -> Result<(), Fail> {
     Ok(())
 }
 
-/// Growths: 2 of new, 10 of open, 6 of begin, 1 of resident, 4 of open, 2 of new, 5 of store, 1 of load, 1 of add, 1 of write_line.
+/// Growths: 2 of new, 11 of open, 6 of begin, 1 of resident, 5 of open, 2 of new, 5 of store, 1 of load, 1 of add, 1 of write_line.
 #[test]
 fn refused_growths(rt: HostRuntime) -> Result<(), Fail> {
     let alloc = rt.alloc();

@@ -2,10 +2,10 @@
 //! allocation of its last line refused, and wants it to fail there, and there alone.
 ghost use Rattle.std.specs.Prelude.{◌≡◌};
 
-use super::{done, made, opened};
+use super::{Lent, done, made, opened};
 use crate::checks::{allocates, same};
 use sci_cache::{Node, Request};
-use sci_core::{AnyWords, Line, Whole};
+use sci_core::Line;
 use sci_words::LineNo;
 use std::test::Fail;
 
@@ -34,11 +34,7 @@ fn requests(line: LineNo) -> [Request; 5] {
 }
 
 /// Rounds of such requests by two nodes in turn, each to its end.
-fn rounds(
-    one: &mut Node,
-    other: &mut Node,
-    wholes: Vec<Whole<AnyWords>>,
-) -> Option<Vec<Whole<AnyWords>>>
+fn rounds(one: &mut Node, other: &mut Node, wholes: Lent) -> Option<Lent>
     requires { (one.old.lines ≡ 3) × (other.old.lines ≡ 3) }
     ensures { (one.new.lines ≡ 3) × (other.new.lines ≡ 3) }
 {
@@ -58,11 +54,7 @@ fn rounds(
 
 /// Each node names a line, and then the first puts line 0 out, whose eviction comes behind the last allocation: how many turns
 /// that took, and the lines.
-fn filled(
-    first: &mut Node,
-    second: &mut Node,
-    wholes: Vec<Whole<AnyWords>>,
-) -> Option<(u32, Vec<Whole<AnyWords>>)>
+fn filled(first: &mut Node, second: &mut Node, wholes: Lent) -> Option<(u32, Lent)>
     requires { (first.old.lines ≡ 3) × (second.old.lines ≡ 3) }
     ensures { (first.new.lines ≡ 3) × (second.new.lines ≡ 3) }
 {
@@ -75,22 +67,22 @@ fn filled(
 
 /// Both nodes name lines and work, and then the first puts line 1 out: how many turns its second load took, and how many lines
 /// there are.
-fn worked(first: &mut Node, second: &mut Node, wholes: Vec<Whole<AnyWords>>) -> Option<(u32, usize)>
+fn worked(first: &mut Node, second: &mut Node, wholes: Lent) -> Option<(u32, usize)>
     requires { (first.old.lines ≡ 3) × (second.old.lines ≡ 3) }
 {
     let (turns, wholes) = filled(first, second, wholes)?;
     let wholes = rounds(first, second, wholes)?;
     let (_, _, wholes) = done(first, wholes, Request::Evict { line: 1 })?;
-    Some((turns, wholes.len()))
+    Some((turns, wholes.lines.len()))
 }
 
 #[test]
 fn turns_take_no_memory(rt: HostRuntime) -> Result<(), Fail> {
-    // The lines take ten, a node six, and the first line that it names one.
+    // The lines and their receipts take eleven, a node six, and the first line that it names one.
     let wholes = opened(rt.alloc(), 2, 3, Line::ZERO)?;
     let mut first = made(rt.alloc(), 0, 1)?;
     let mut second = made(rt.alloc(), 1, 1)?;
     same(&rt, &worked(&mut first, &mut second, wholes), &Some((8, 3)));
-    allocates(&rt, rt.alloc(), "allocation 25 is refused");
+    allocates(&rt, rt.alloc(), "allocation 26 is refused");
     Ok(())
 }

@@ -53,7 +53,7 @@ pub(super) fn seated(alloc: Global, line: Line) -> Result<(Node, SoloBank<AnyWor
     let Ok(wholes) = opened(alloc, 1, 1, line) else {
         return Err(Fail::new("open answered 7"));
     };
-    if wholes.len() != 1 {
+    if wholes.lines.len() != 1 {
         return Err(Fail::new("no line"));
     }
     let bank = banked(wholes, zero).ok_or("no bank")?;

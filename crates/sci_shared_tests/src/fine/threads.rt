@@ -179,17 +179,9 @@ fn all_work<R: Abort + Threads + Wait + Sync>(
     thread::for_each_chunk_mut(rt, seats, 2, &|_, pair| work(rt, line, pair));
 }
 
-// What an exact line holds.
-fn value_of(closed: &Closed) -> Option<&Line> {
-    match closed.mem.forw {
-        None => Some(&closed.memory),
-        Some(head) => closed.lines.get(usize::from(head.get())),
-    }
-}
-
 // The line holds what the threads wrote: a mark, all that was added, and as many stamps as there were writes.
 fn adds_up<R: Abort>(rt: &R, closed: &Closed) -> Result<(), Fail> {
-    let value = value_of(closed).ok_or("no value")?;
+    let value = closed.value();
     let (stores, adds) = counts();
     assert!(rt; is_mark(value.words[0]));
     same(rt, &value.words[1], &adds);

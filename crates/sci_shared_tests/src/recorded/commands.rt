@@ -2,7 +2,7 @@
 use sci_core::{AnyWords, Whole};
 use sci_ops::{Op, Turn};
 use sci_port::recording::{Recorder, Trace};
-use sci_port::{Port, Solo};
+use sci_port::{Port, Receipts, Solo};
 use sci_words::NodeId;
 
 // An operation that has not ended after so many turns waits for others.
@@ -40,7 +40,8 @@ fn turn(whole: &mut Whole<AnyWords>, trace: &mut Trace, node: NodeId, op: &mut O
     if node.get() >= whole.nodes() {
         return None;
     }
-    let mut solo = Solo::new(whole, node);
+    let mut receipts = Receipts::new(whole.allocator());
+    let mut solo = Solo::new(whole, &mut receipts, node);
     Some(ends(&mut Recorder::new(&mut solo, trace), op))
 }
 

@@ -3,8 +3,8 @@
 //! which call answered it.
 
 use crate::checks::{same, same_bytes_at};
-use sci_script::{ScriptRefusal, Talk};
-use std::alloc::Global;
+use sci_script::{Reason, ScriptRefusal, Talk, why_script};
+use std::alloc::{AllocError, Global};
 use std::process::Abort;
 use std::test::Fail;
 
@@ -38,9 +38,49 @@ fn refuses(rt: &impl Abort, alloc: Global) -> Result<(), Fail> {
     Ok(())
 }
 
-/// Growths: 4 made up for, 1 of say, 1 made up for, 14 of say, 2 made up for, 2 of say, 1 made up for, 3 of say, 1 made up for,
+/// Growths: 4 made up for, 1 of say, 1 made up for, 15 of say, 2 made up for, 2 of say, 1 made up for, 3 of say, 1 made up for,
 /// 4 of say.
 #[test]
 fn refused_growths(rt: HostRuntime) -> Result<(), Fail> {
     refuses(&rt, rt.alloc())
+}
+
+/// A script whose third line is refused, as a whole.
+const SCRIPT: &[u8] = b"memory 2 1\nload 1 0 0\nload 1 0 0\n";
+
+/// And its lines.
+const SAID: [&[u8]; 3] = [b"memory 2 1", b"load 1 0 0", b"load 1 0 0"];
+
+/// Whether it is the reason of that line; else memory was refused.
+fn is_why(rt: &impl Abort, why: &Result<Option<Reason>, AllocError>) -> bool {
+    let is_told = match why {
+        Ok(Some(reason)) => matches!(reason, Reason::CallOpen(_)),
+        Ok(None) => false,
+        Err(_) => return false,
+    };
+    same(rt, &is_told, &true);
+    true
+}
+
+fn explains(rt: &impl Abort, alloc: Global) -> Result<(), Fail> {
+    if !is_why(rt, &why_script(alloc, SCRIPT)) {
+        return Err(Fail::new("why_script answered 7"));
+    }
+    let mut talk = Talk::start(alloc);
+    let mut text = String::new(alloc);
+    for line in SAID {
+        if talk.say(line, &mut text) == Err(ScriptRefusal::OutOfMemory) {
+            return Err(Fail::new("say answered 7"));
+        }
+    }
+    if !is_why(rt, &talk.why(SAID[2])) {
+        return Err(Fail::new("why answered 7"));
+    }
+    Ok(())
+}
+
+/// Growths: 3 made up for, 16 of why_script, 2 made up for, 15 of say, 2 made up for.
+#[test]
+fn refused_growths_of_reasons(rt: HostRuntime) -> Result<(), Fail> {
+    explains(&rt, rt.alloc())
 }

@@ -5,6 +5,7 @@ use super::{SEVEN_AT_1, passed, passes_again, receives};
 use crate::checks::same;
 use sci_core::{Event, Line, Outcome};
 use sci_port::Receipts;
+use std::alloc::Global;
 use std::process::Abort;
 use std::test::Fail;
 
@@ -37,7 +38,17 @@ fn fills(receipts: &mut Receipts) -> Option<()> {
     receives(receipts, Event::Settle, &Line::ZERO, &settled)
 }
 
-/// Growths: 2 of reserve.
+// No receipts for each of so many lines: at a second try, if memory was refused.
+fn begins(rt: &impl Abort, alloc: Global, lines: usize) -> Result<(), Fail> {
+    if let Ok(all) = Receipts::of_lines(alloc, lines) {
+        same(rt, &all.len(), &lines);
+        return Ok(());
+    }
+    same(rt, &Receipts::of_lines(alloc, lines)?.len(), &lines);
+    Err(Fail::new("of_lines answered 7"))
+}
+
+/// Growths: 2 of reserve, 1 of of_lines.
 #[test]
 fn refused_growths(rt: HostRuntime) -> Result<(), Fail> {
     let mut receipts = Receipts::new(rt.alloc());
@@ -46,5 +57,6 @@ fn refused_growths(rt: HostRuntime) -> Result<(), Fail> {
     same(&rt, &receipts.room(), &0);
     assert!(rt; passes_again(&mut receipts, Line::ZERO));
     same(&rt, &receipts.as_slice().last(), &Some(&passed(Line::ZERO)));
-    reserves(&rt, &mut receipts, 2)
+    reserves(&rt, &mut receipts, 2)?;
+    begins(&rt, rt.alloc(), 3)
 }

@@ -17,7 +17,7 @@ loop-number-init g c = record {
   rest = c.rest.ensures.rest;
   count = refl;
   left = λ i l. refl;
-  ends = none_yet (nodes_of c.args.whole.now) (g.K.Keeps.fits c.args.whole.now.keep c.args.whole.now.number) c.args.ops.now (state_of c.rest.new.whole);
+  ends = (0, omega arith, none_yet (nodes_of c.args.whole.now) (g.K.Keeps.fits c.args.whole.now.keep c.args.whole.now.number) c.args.ops.now (state_of c.rest.new.whole));
   bound = omega arith;
 }
 
@@ -49,11 +49,14 @@ loop-number-preserved g c =
     let place : c.from-place.result ≡ k = c.from-place.ensures in
     let inside : k < length c.loop-number.ops = omega (arith, c.loop-number-test.true, c.nodes-number-end.ensures.nodes, c.rest.ensures.same.nodes, i.count, c.requires.count) in
     let was : c.index-ops-place.result ≡ op_at ops k = taken_op c.loop-number.ops ops k c.from-place.result c.index-ops-place.result place inside c.index-ops-place.is (i.left k (omega arith)) in
-    let here : EndsOne n fits c.unwrap-node.result c.index-ops-place.result c.index-ops-place.result.answer s c.ended.result t = one_on g.K.Keeps.fits c.args.whole.now c.loop-number.whole i.same c.unwrap-node.result c.index-ops-place.result c.index-ops-place.result.answer s c.ended.result t c.ended.ensures.ends in
-    let one : EndsOne n fits k (op_at ops k) (op_at ops k).answer s c.ended.result t =
-    subst (λ (j : ℕ). EndsOne n fits j (op_at ops k) (op_at ops k).answer s c.ended.result t) node
-    (subst (λ (o : Operation). EndsOne n fits c.unwrap-node.result o o.answer s c.ended.result t) was here) in
-    let each : EndsEach n fits (suc k) ops (set c.loop-number.ops k c.ended.result) (state_of c.rest.new.whole) t = one_further n fits k ops c.loop-number.ops c.ended.result (state_of c.rest.new.whole) s t inside i.ends one in
+    let took : ℕ = c.ended.ensures.ends.0 in
+    let so_far : ℕ = i.ends.0 in
+    let counted : c.ended.new.steps ≡ c.rest.new.steps + (so_far + took) = omega (arith, c.ended.ensures.ends.1, i.ends.1) in
+    let here : EndsOne n fits c.unwrap-node.result c.index-ops-place.result c.index-ops-place.result.answer s took c.ended.result t = one_on g.K.Keeps.fits c.args.whole.now c.loop-number.whole i.same c.unwrap-node.result c.index-ops-place.result c.index-ops-place.result.answer s took c.ended.result t c.ended.ensures.ends.2 in
+    let one : EndsOne n fits k (op_at ops k) (op_at ops k).answer s took c.ended.result t =
+    subst (λ (j : ℕ). EndsOne n fits j (op_at ops k) (op_at ops k).answer s took c.ended.result t) node
+    (subst (λ (o : Operation). EndsOne n fits c.unwrap-node.result o o.answer s took c.ended.result t) was here) in
+    let each : EndsEach n fits (suc k) ops (set c.loop-number.ops k c.ended.result) (state_of c.rest.new.whole) (so_far + took) t = one_further n fits k ops c.loop-number.ops c.ended.result (state_of c.rest.new.whole) s t so_far took inside i.ends.2 one in
     let next : suc k ≡ k + 1 = omega arith in
     let part : c.ended.new.steps ≤ c.loop-number.steps + (3 * n + 16) = omega (arith, c.ended.ensures.bound, i.same.nodes) in
     record {
@@ -61,19 +64,26 @@ loop-number-preserved g c =
       rest = c.ended.ensures.rest;
       count = length-set c.loop-number.ops c.from-place.result c.ended.result ∙ i.count;
       left = λ j l. get_or-set_other c.loop-number.ops c.from-place.result j c.ended.result (begun Goal.Load) (λ q. omega (arith, l, q, place)) ∙ i.left j (omega (arith, l));
-      ends = subst (λ (p : ℕ). EndsEach n fits (k + 1) ops (set c.loop-number.ops p c.ended.result) (state_of c.rest.new.whole) t) (sym place) (subst (λ (m : ℕ). EndsEach n fits m ops (set c.loop-number.ops k c.ended.result) (state_of c.rest.new.whole) t) next each);
+      ends = (
+        so_far + took,
+        counted,
+        subst (λ (p : ℕ). EndsEach n fits (k + 1) ops (set c.loop-number.ops p c.ended.result) (state_of c.rest.new.whole) (so_far + took) t) (sym place) (subst (λ (m : ℕ). EndsEach n fits m ops (set c.loop-number.ops k c.ended.result) (state_of c.rest.new.whole) (so_far + took) t) next each),
+      );
       bound = one_more_part c.ended.new.steps c.loop-number.steps c.rest.new.steps k (3 * n + 16) i.bound part;
     }
 
 pub returns-clause-ends : goal.returns-clause-ends
 returns-clause-ends g c =
     let all : c.loop-number.number ≡ nodes_of c.args.whole.now = omega (arith, c.loop-number-test.false, c.loop-number.auto.number-end, c.nodes-number-end.ensures.nodes, c.rest.ensures.same.nodes) in
-    let turns = c.rest.ensures.turns in (
+    let turns = c.rest.ensures.turns in
+    let ends = c.loop-number.invariant.ends in (
       state_of c.rest.new.whole,
       turns.0,
+      ends.0,
+      omega (arith, turns.1, ends.1),
       turns.2,
       c.rest.ensures.rest,
-      subst (λ (m : ℕ). EndsEach (nodes_of c.args.whole.now) (g.K.Keeps.fits c.args.whole.now.keep c.args.whole.now.number) m c.args.ops.now c.loop-number.ops (state_of c.rest.new.whole) (state_of c.loop-number.whole)) all c.loop-number.invariant.ends,
+      subst (λ (m : ℕ). EndsEach (nodes_of c.args.whole.now) (g.K.Keeps.fits c.args.whole.now.keep c.args.whole.now.number) m c.args.ops.now c.loop-number.ops (state_of c.rest.new.whole) ends.0 (state_of c.loop-number.whole)) all ends.2,
     )
 
 pub returns-clause-rest : goal.returns-clause-rest

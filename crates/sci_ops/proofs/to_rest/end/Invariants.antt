@@ -11,6 +11,6 @@ invariant-loop-number g l = record {
   rest : IsAtRest (state_of l.whole);
   count : length l.ops ≡ length l.fn.ops;
   left : (i : ℕ) → l.number ≤ i → op_at l.ops i ≡ op_at l.fn.ops i;
-  ends : EndsEach (nodes_of l.fn.whole) (g.K.Keeps.fits l.fn.whole.keep l.fn.whole.number) l.number l.fn.ops l.ops (state_of l.initial.whole) (state_of l.whole);
+  ends : (turns : ℕ) × (l.steps ≡ l.initial.steps + turns) × EndsEach (nodes_of l.fn.whole) (g.K.Keeps.fits l.fn.whole.keep l.fn.whole.number) l.number l.fn.ops l.ops (state_of l.initial.whole) turns (state_of l.whole);
   bound : l.steps ≤ l.initial.steps + l.number * (3 * nodes_of l.fn.whole + 16);
 }

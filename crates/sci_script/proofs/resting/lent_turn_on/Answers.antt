@@ -6,7 +6,7 @@ use Rattle.sci_script.proofs.resting.lent_turn_on.Goals as goal
 
 pub returns-clause-lent : goal.returns-clause-lent
 returns-clause-lent c =
-    lent_over (λ b. lent_lines b.keep b.node b.wholes.items) _ (λ u l call v h. h) c.args.node.now c.args.node.now.call c.args.bank.now c.in-Ok.turn c.turn.new.bank c.turn.new.self
+    lent_over (λ b. lent_lines b.keep b.node b.wholes.items) _ (λ u l call v h. h.0) c.args.node.now c.args.node.now.call c.args.bank.now c.in-Ok.turn c.turn.new.bank c.turn.new.self
     (sym c.requires.seat) c.in-Ok.ensures.turns
 
 pub turn-requires-clause-node : goal.turn-requires-clause-node

@@ -10,6 +10,6 @@ invariant-loop-line g l = record {
   count : length l.wholes.items ≡ length l.initial.wholes.items;
   same : (line : ℕ) → IsSameLine (whole_of l.initial.wholes.items line) (whole_of l.wholes.items line);
   left : (line : ℕ) → l.line ≤ line → whole_of l.wholes.items line ≡ whole_of l.initial.wholes.items line;
-  rested : ComeToRest l.fn.size.nodes l.line l.initial.wholes.items l.wholes.items;
+  rested : (k : ℕ) × (l.steps ≡ l.initial.steps + k) × ComeToRest l.fn.size.nodes l.line l.initial.wholes.items k l.wholes.items;
   bound : l.steps ≤ l.initial.steps + l.line * (l.fn.size.nodes * l.fn.size.nodes + 9 * l.fn.size.nodes);
 }

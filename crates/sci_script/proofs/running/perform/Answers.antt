@@ -1,5 +1,5 @@
-use Rattle.std.proofs.lemmas.Bool.{and_parts, ltb-true}
-use Rattle.sci_script.specs.declared.commands.Command.TheVariants.{Begin, Turn, Done, List as ListLine, Tag as ShowTag, Residents}
+use Rattle.std.proofs.lemmas.Bool.{and_parts, eqb-true, ltb-true}
+use Rattle.sci_script.specs.declared.commands.Command.TheVariants.{Begin, Turn, Done, Rest, End, List as ListLine, Tag as ShowTag, Residents}
 use Rattle.sci_script.proofs.Runs.{stopped}
 use Rattle.sci_script.proofs.running.perform.Goals as goal
 
@@ -8,6 +8,14 @@ begin-requires g c = record { command = rw c.in-Begin.is at c.requires.command }
 
 pub turn-requires : goal.turn-requires
 turn-requires g c = record { empty = c.requires.empty; node = ltb-true _ _ (rw c.in-Turn.is at c.requires.command); few = c.requires.few; words = c.requires.words }
+
+pub rest-requires : goal.rest-requires
+rest-requires g c = eqb-true _ _ (rw c.in-Rest.is at c.requires.command)
+
+pub end-requires : goal.end-requires
+end-requires g c =
+    let p = and_parts _ _ (rw c.in-End.is at c.requires.command) in
+    record { empty = c.requires.empty; nodes = eqb-true _ _ p.0; lines = eqb-true _ _ p.1; few = c.requires.few; words = c.requires.words }
 
 pub list-requires : goal.list-requires
 list-requires g c = ltb-true _ _ (rw c.in-List.is at c.requires.command)
@@ -47,6 +55,26 @@ returns-in-Done-clause-err g c =
 
 pub returns-in-Done-clause-size : goal.returns-in-Done-clause-size
 returns-in-Done-clause-size g c = c.done.ensures.size
+
+pub returns-in-Rest-clause-ok : goal.returns-in-Rest-clause-ok
+returns-in-Rest-clause-ok g c = rw (c.in-Rest.is, c.requires.empty) c.rest.ensures.ok
+
+pub returns-in-Rest-clause-err : goal.returns-in-Rest-clause-err
+returns-in-Rest-clause-err g c =
+    stopped g.D.Desk.is_open g.D.Desk.does c.args.nodes c.args.desk.now c.rest.new.desk c.args.step (Rest c.in-Rest.lines) c.rest.result c.in-Rest.is c.rest.ensures.err
+
+pub returns-in-Rest-clause-size : goal.returns-in-Rest-clause-size
+returns-in-Rest-clause-size g c = c.rest.ensures.size
+
+pub returns-in-End-clause-ok : goal.returns-in-End-clause-ok
+returns-in-End-clause-ok g c = rw c.in-End.is c.end.ensures.ok
+
+pub returns-in-End-clause-err : goal.returns-in-End-clause-err
+returns-in-End-clause-err g c =
+    stopped g.D.Desk.is_open g.D.Desk.does c.args.nodes c.args.desk.now c.end.new.desk c.args.step (End c.in-End.nodes c.in-End.lines) c.end.result c.in-End.is c.end.ensures.err
+
+pub returns-in-End-clause-size : goal.returns-in-End-clause-size
+returns-in-End-clause-size g c = c.end.ensures.size
 
 pub returns-in-List-clause-ok : goal.returns-in-List-clause-ok
 returns-in-List-clause-ok g c = rw c.in-List.is c.list.ensures.ok

@@ -13,7 +13,7 @@ pub returns-clause-turns : goal.returns-clause-turns
 returns-clause-turns c =
     let named = turn_keeps _ _ (λ b. b.bank.ghost_name) (λ u l call v h. h.2) c.args.node.now c.args.node.now.call _ c.in-Ok.turn c.turn.new.bank c.turn.new.self c.in-Ok.ensures.turns in
     subst (λ (l : List (WholeLine AnyWords)). TurnsOverOf c.args.bank.now.wholes.items c.args.node.now c.args.node.now.call c.in-Ok.turn l c.turn.new.self) (search (rules, named))
-    (turned (λ _ _ _. Unit {0}) (λ b. lent_lines b.bank.now.keep b.bank.now.node b.bank.now.wholes.items) _ (λ u l call v h. h.0) c.args.node.now c.args.node.now.call _ c.in-Ok.turn c.turn.new.bank c.turn.new.self
+    (turned (λ _ _ _. Unit {0}) (λ b. lent_lines b.bank.now.keep b.bank.now.node b.bank.now.wholes.items) _ (λ u l call v h. h.0.0) c.args.node.now c.args.node.now.call _ c.in-Ok.turn c.turn.new.bank c.turn.new.self
     (sym c.requires.seat) c.in-Ok.ensures.turns)
 
 pub returns-clause-same_lines : goal.returns-clause-same_lines
@@ -32,5 +32,5 @@ returns-clause-passed c =
     let called = turn_keeps _ _ (λ b. b.passed.ghost_name) (λ u l call v h. h.3) c.args.node.now c.args.node.now.call _ c.in-Ok.turn c.turn.new.bank c.turn.new.self c.in-Ok.ensures.turns in
     subst (λ (q : Passed). PassesOverOf c.args.bank.now.wholes.items c.args.node.now c.args.node.now.call c.bank-1.given.0.wholes.items c.args.passed.now q) (search (rules, called))
     (subst (λ (l : List (WholeLine AnyWords)). PassesOverOf c.args.bank.now.wholes.items c.args.node.now c.args.node.now.call l c.args.passed.now c.turn.new.bank.passed.now) (search (rules, named))
-    (watched (λ _ _ _. Unit {0}) (λ b. lent_lines b.bank.now.keep b.bank.now.node b.bank.now.wholes.items) _ (λ u l call v h. h.0) (λ b. b.passed.now) (λ u l call v h. h.1) c.args.node.now c.args.node.now.call _ c.in-Ok.turn c.turn.new.bank c.turn.new.self
+    (watched (λ _ _ _. Unit {0}) (λ b. lent_lines b.bank.now.keep b.bank.now.node b.bank.now.wholes.items) _ (λ u l call v h. h.0.0) (λ b. b.passed.now) (λ u l call v h. h.1) c.args.node.now c.args.node.now.call _ c.in-Ok.turn c.turn.new.bank c.turn.new.self
     (sym c.requires.seat) c.in-Ok.ensures.turns))

@@ -7,7 +7,8 @@ use Rattle.sci_script.specs.declared.commands.Step.{Step}
 use Rattle.sci_script.specs.declared.refusals.ScriptRefusal.TheVariants.{NotDone}
 use Rattle.sci_ops.specs.declared.answers.Turn.{Turn}
 use Rattle.sci_script.specs.Event.{Turned, IsEnd, IsNoEnd}
-use Rattle.sci_script.specs.Run.{Unended}
+use Rattle.sci_script.specs.Run.{Repeats}
+use Rattle.sci_script.proofs.Runs.{moves_unended}
 use Rattle.sci_script.specs.Shared.{Shared, shared_is_open, shared_does}
 use Rattle.sci_script.specs.Wholes.{shared_of}
 use Rattle.sci_script.specs.Text.{turn_text}
@@ -15,8 +16,8 @@ use Rattle.sci_trace.specs.Coding.{coded}
 use Rattle.sci_trace.specs.NoteText.{note_bytes}
 use Rattle.sci_trace.specs.Telling.{is_wait, telling, telling_of, tells}
 use Rattle.sci_trace.proofs.Coded.{coded_nil, coded_behind}
-use Rattle.sci_trace.proofs.Tellings.{with_front, tells_once, end_no_wait, wait_is, unended_first, unended_put, ends_behind, waits_behind, unended_behind}
-use Rattle.sci_trace.proofs.Tracing.{step_left, notes_left, hang_left}
+use Rattle.sci_trace.proofs.Tellings.{with_front, tells_once, end_no_wait, wait_is, moved, moves_first, moves_put, ends_behind, waits_behind, moves_behind}
+use Rattle.sci_trace.proofs.Tracing.{moves_left, notes_left, hang_left}
 use Rattle.sci_trace.proofs.Weaving.{notes_none, notes_append}
 use Rattle.sci_trace.proofs.running.trace_done.Goals as goal
 
@@ -35,7 +36,7 @@ loop-taken-init g c =
       empty = c.requires.empty;
       size = refl;
       is_still_open = sym c.if-not-open.ensures;
-      written = ([], notes_none, unended_first c.args.node (shared_of desk.desk) (note_bytes desk.notes.text) desk.notes.is_cut c.requires.none c.requires.whole, coded_nil c.args.coding _);
+      written = ([], notes_none, moves_first c.args.node (shared_of desk.desk) (note_bytes desk.notes.text) desk.notes.is_cut c.requires.none c.requires.whole, coded_nil c.args.coding _);
     }
 
 pub loop-taken-preserved : goal.loop-taken-preserved
@@ -57,7 +58,7 @@ loop-taken-preserved g c =
       written = (
         put ++ now,
         notes_append put now are also,
-        unended_put c.args.node c.loop-taken.taken turn (telling (shared_of c.args.desk.now.desk) []) before mid (shared_of desk.desk) put now (note_bytes desk.notes.text) desk.notes.is_cut so_far no-end told parts c.in_ok-put_long_notes.ensures.cut same,
+        moves_put c.args.node c.loop-taken.taken turn (telling (shared_of c.args.desk.now.desk) []) before mid (shared_of desk.desk) put now (note_bytes desk.notes.text) desk.notes.is_cut so_far (moved turn no-end no-wait) told parts c.in_ok-put_long_notes.ensures.cut same,
         coded_behind c.args.coding _ _ _ put now appended more,
       );
     }
@@ -116,7 +117,7 @@ returns-then-is_end g c =
       ok = (
         put ++ note_bytes notes.text,
         notes_append put (note_bytes notes.text) are notes.lines,
-        (sym c.if-not-open.ensures, c.loop-taken.taken, c.loop-taken-test.true, with_front put before, so_far, turn, end, last, text),
+        (sym c.if-not-open.ensures, c.loop-taken.taken, c.loop-taken-test.true, with_front put before, moves_unended tells c.args.node c.loop-taken.taken (telling (shared_of c.args.desk.now.desk) []) (with_front put before) so_far, turn, end, last, text),
         coded_behind c.args.coding _ _ _ put (note_bytes notes.text) appended c.in_ok-put_notes.ensures.ok,
       );
       err = tt;
@@ -213,16 +214,15 @@ returns g c =
     let (put, are, so_far, appended) = c.loop-taken.invariant.written in
     let notes = c.loop-taken.desk.notes in
     let all = put ++ note_bytes notes.text in
-    let step : Step = record { number = c.args.number; command = Done c.args.node } in
     let count : c.loop-taken.taken ≡ 100000 = omega (arith, c.loop-taken-test.false, c.loop-taken.auto.taken-end) in
     let same = ap shared_of c.in_ok-put_notes-3.ensures.desk in
-    let taken = unended_behind c.args.node c.loop-taken.taken (telling s []) (telling_of c.loop-taken.desk) t put so_far c.in_ok-put_notes-3.ensures.whole same in
-    let ended = subst (λ (n : ℕ). Unended tells c.args.node n (telling s []) (telling t all)) count taken in
+    let taken = moves_behind c.args.node c.loop-taken.taken (telling s []) (telling_of c.loop-taken.desk) t put so_far c.in_ok-put_notes-3.ensures.whole same in
+    let moves = subst (λ (n : ℕ). Repeats tells (Turned c.args.node Turn.Moved) n (telling s []) (telling t all)) count taken in
     record {
       ok = tt;
       err = (
         coded c.args.coding all,
-        step_left c.args.coding nodes s step all (NotDone c.args.number) t (notes_append put (note_bytes notes.text) are notes.lines) (refl, (sym c.if-not-open.ensures, ended)),
+        moves_left c.args.coding nodes c.args.node c.args.number s all t (notes_append put (note_bytes notes.text) are notes.lines) (sym c.if-not-open.ensures) moves,
         coded_behind c.args.coding _ _ _ put (note_bytes notes.text) appended c.in_ok-put_notes-3.ensures.ok,
       );
       dropped = tt;

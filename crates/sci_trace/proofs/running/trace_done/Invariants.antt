@@ -1,6 +1,8 @@
 use Rattle.std.proofs.Common.{◌≡◌, ℕ, List, [], string_bytes, true}
 use Rattle.std.specs.Io.KnownBytes.{Appends}
-use Rattle.sci_script.specs.Run.{Unended}
+use Rattle.sci_ops.specs.declared.answers.Turn.{Turn}
+use Rattle.sci_script.specs.Event.{Turned}
+use Rattle.sci_script.specs.Run.{Repeats}
 use Rattle.sci_script.specs.Shared.{shared_is_open}
 use Rattle.sci_script.specs.Wholes.{shared_of}
 use Rattle.sci_trace.specs.Coding.{coded}
@@ -16,6 +18,6 @@ invariant-loop-taken g l =
       empty : string_bytes l.text ≡ [];
       size : l.desk.size ≡ l.fn.desk.size;
       is_still_open : shared_is_open (shared_of l.desk.desk) l.node ≡ true;
-      written : (put : List ℕ) × AreNotes put × Unended tells l.node l.taken (telling (shared_of l.fn.desk.desk) []) (with_front put (telling_of l.desk))
+      written : (put : List ℕ) × AreNotes put × Repeats tells (Turned l.node Turn.Moved) l.taken (telling (shared_of l.fn.desk.desk) []) (with_front put (telling_of l.desk))
           × Appends (g.W.Write.contents l.fn.out) (g.W.Write.contents l.out) (coded l.coding put);
     }

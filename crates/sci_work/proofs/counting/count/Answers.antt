@@ -10,9 +10,6 @@ use Rattle.sci_work.proofs.Refusing.{in_count}
 use Rattle.sci_work.proofs.Residual.{passed_on}
 use Rattle.sci_work.proofs.counting.count.Goals as goal
 
-pub value_of-requires : goal.value_of-requires
-value_of-requires g c = c.in_ok-closed.ensures.ok
-
 pub returns-then-not-is_count_size : goal.returns-then-not-is_count_size
 returns-then-not-is_count_size g c = record {
   limits = ((λ _ size. let e = c.is_count_size.ensures.1 size in cc), λ _. refl);
@@ -44,7 +41,7 @@ returns g c =
     let one = c.in-Ok.ensures.items ∙ ap (λ (l : List ClosedLine). l ++ closed ∷ []) c.new-lines.ensures.items in
     record {
       limits = ((λ e _. cc), λ no. absurd (no size));
-      ok = (closed, one, told.ok, ap (λ l. slice_index l.words 0) c.value_of.ensures);
+      ok = (closed, one, told.ok, ap (λ l. slice_index l.words 0) c.value.ensures.value);
       nodes = subst (λ (z : List _). HaveNodes c.args.nodes z) (sym one) (All-cons (λ (x : ClosedLine). length x.tags ≡ c.args.nodes) closed [] told.nodes (All-nil _));
       err = tt;
     }

@@ -1,5 +1,15 @@
+use Rattle.std.proofs.Common.{◌≡◌}
+use Rattle.sci_core.specs.declared.pending.Pending.{Pending}
+use Rattle.sci_fine.specs.Seats.{IsSeatOf}
+use Rattle.sci_fine.proofs.Elements.{each_all}
 use Rattle.sci_work.proofs.Fitting.{closed_of}
 use Rattle.sci_work.proofs.lines.finished.Goals as goal
+
+pub finish-requires : goal.finish-requires
+finish-requires g c = record {
+  seats = each_all (λ s. IsSeatOf c.args.line s) c.args.seats.items (λ k s e. (c.requires k s e).0);
+  rest = each_all (λ s. s.standing.pending ≡ Pending.Idle) c.args.seats.items (λ k s e. (c.requires k s e).1);
+}
 
 pub returns-in-Ok-clause-ok : goal.returns-in-Ok-clause-ok
 returns-in-Ok-clause-ok g c = closed_of g.K.Keeps.fits c.args.line _ c.in-Ok.closed c.in-Ok.ensures.ok

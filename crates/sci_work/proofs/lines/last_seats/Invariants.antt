@@ -1,7 +1,6 @@
 use Rattle.std.proofs.Common.{◌≡◌, ◌+◌, ◌≤◌, ◌++◌, ◌∷◌, [], vec_items, vec_len, vec_capacity}
 use Rattle.std.specs.Vec.Iter.{into_iter_items, into_iter_len}
-use Rattle.sci_fine.specs.Seats.{AreIdle}
-use Rattle.sci_work.specs.Hands.{AtEach, IsHandOf}
+use Rattle.sci_work.specs.Hands.{AreIdle, AtEach, IsHandOf}
 use Rattle.sci_work.proofs.lines.last_seats.Given as goal
 
 abbrev pub invariant-loop-one : goal.invariant-loop-one

@@ -1,7 +1,6 @@
 use Rattle.std.proofs.Common.{ℕ, ◌+◌, ◌∷◌, [], vec_items, vec_len}
 use Rattle.std.specs.Vec.Iter.{into_iter_items}
-use Rattle.sci_fine.specs.Seats.{AreIdle}
-use Rattle.sci_work.specs.Hands.{AtEach, IsHandOf}
+use Rattle.sci_work.specs.Hands.{AreIdle, AtEach, IsHandOf}
 use Rattle.sci_work.proofs.seating.gathered.Given as goal
 
 abbrev pub invariant-loop-hand : goal.invariant-loop-hand

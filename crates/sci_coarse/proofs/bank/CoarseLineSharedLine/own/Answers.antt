@@ -4,4 +4,4 @@ pub own-requires : goal.own-requires
 own-requires g c = record { of = c.requires }
 
 pub returns : goal.returns
-returns g c = c.own.ensures.made
+returns g c = (c.own.ensures.made, c.own.ensures.receives)

@@ -1,10 +1,11 @@
 use Rattle.std.proofs.Common.{rules, ◌≡◌, ◌≤◌, ℕ, refl, sym, ◌∙◌, subst, inl, inr, arith}
 use Rattle.std.specs.Prelude.{vec_capacity}
+use Rattle.sci_core.specs.declared.pending.Pending.{Pending}
 use Rattle.sci_port.specs.History.{value_of}
 use Rattle.sci_coarse.specs.Runs.{calls_in}
-use Rattle.sci_coarse.specs.Seats.{IsOnePerNode}
+use Rattle.sci_coarse.specs.Seats.{IsOnePerNode, IsSeatOf}
 use Rattle.sci_coarse.proofs.Histories.{ended, unused}
-use Rattle.sci_coarse.proofs.Listed.{clash, inside_of, seat_or}
+use Rattle.sci_coarse.proofs.Listed.{all_each, clash, inside_of, seat_or}
 use Rattle.sci_coarse.proofs.line.CoarseLine.finish.Goals as goal
 
 pub returns-then-not-has_seats : goal.returns-then-not-has_seats
@@ -25,7 +26,7 @@ pub join_all-root-requires : goal.join_all-root-requires
 join_all-root-requires g c =
     let one = subst (λ l. IsOnePerNode c.args.self l) c.deref.ensures.value (c.has_seats.ensures.0 c.if-not-has_seats.false) in
     record {
-      seats = λ k s e. let n : s.node ≡ k = (one.1 k s e).0 in let r = c.requires k s e in (r.0, omega (arith, n), r.1);
+      seats = λ k s e. let n : s.node ≡ k = (one.1 k s e).0 in (all_each (λ s. IsSeatOf c.args.self s) c.args.seats.items c.requires.seats k s e, omega (arith, n), all_each (λ s. s.standing.pending ≡ Pending.Idle) c.args.seats.items c.requires.rest k s e);
       len = c.args.seats.ok.0 ∙ one.0;
     }
 

@@ -1,7 +1,10 @@
-use Rattle.std.proofs.Common.{ℕ, ◌≤◌, [], inl, inr, refl, sym, ap, ◌∙◌, subst, ⊎_elim}
+use Rattle.std.proofs.Common.{◌≡◌, ℕ, ◌≤◌, [], inl, inr, refl, sym, ap, ◌∙◌, subst, ⊎_elim}
 use Rattle.std.proofs.Math.Nat.{pos_of_ne-zero, not-le_of_lt}
 use Rattle.std.specs.Prelude.{vec_capacity}
+use Rattle.sci_core.specs.declared.pending.Pending.{Pending}
+use Rattle.sci_coarse.specs.Seats.{IsSeatOf}
 use Rattle.sci_coarse.specs.Views.{first_view}
+use Rattle.sci_coarse.proofs.Listed.{each_all}
 use Rattle.sci_coarse.proofs.Seating.{no_refusal, other_refusal}
 use Rattle.sci_coarse.proofs.line.CoarseLine.new.Goals as goal
 
@@ -11,6 +14,8 @@ returns-then-nodes-eq0 g c = record {
   terms = tt;
   seats = tt;
   new = tt;
+  own = tt;
+  rest = tt;
 }
 
 pub open-requires : goal.open-requires
@@ -22,6 +27,8 @@ returns-in_default g c = record {
   terms = tt;
   seats = tt;
   new = tt;
+  own = tt;
+  rest = tt;
 }
 
 pub seat_all-requires : goal.seat_all-requires
@@ -41,4 +48,6 @@ returns g c =
       terms = record { nodes = ap (λ t. t.nodes) terms; number = ap (λ t. t.number) terms; opening = ap (λ t. t.opening) terms; keep = ap (λ t. t.keep) terms };
       seats = (made.len ∙ ap (λ t. t.nodes) terms, made.seats);
       new = made.new;
+      own = each_all (λ s. IsSeatOf c.in-Ok.line s) c.seat_all.new.seats.items (λ k s e. (made.seats k s e).0);
+      rest = each_all (λ s. s.standing.pending ≡ Pending.Idle) c.seat_all.new.seats.items (λ k s e. (made.seats k s e).2);
     }

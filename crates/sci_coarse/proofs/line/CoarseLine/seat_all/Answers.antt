@@ -1,4 +1,5 @@
 use Rattle.std.proofs.Common.{◌≡◌, ◌<◌, ◌≤◌, ℕ, ◌+◌, ◌∷◌, Bool, not, if◌then◌else◌, vec_len, length, arith, sym, ap, ◌∙◌, subst}
+use Rattle.sci_port.specs.Readying.{no_receipts}
 use Rattle.sci_coarse.specs.Seats.{AreIdleFrom, AreNew}
 use Rattle.sci_coarse.proofs.Seating.{splits_as}
 use Rattle.sci_coarse.specs.Views.{HasMadeNone}
@@ -69,7 +70,7 @@ loop-number-preserved g c =
       seats = subst (AreIdleFrom c.args.self.now 1) (sym c.push_reserved.ensures.items)
           (one_more c.args.self.now 1 old.items c.idle_seat.result i.seats (ap (λ t. t.table_id) made.token ∙ apart.3 ∙ i.of, made.standing.0) (made.node ∙ c.node_of.ensures ∙ here) made.standing.1);
       none = (ap (λ v. v.log) me ∙ i.none.0, ap (λ v. v.take) me ∙ i.none.1, ap (λ v. v.give) me ∙ i.none.2);
-      fresh = subst AreNew (sym c.push_reserved.ensures.items) (each_more (λ x. HasMadeNone x.token.me.0) old.items c.idle_seat.result i.fresh (ap (λ v. v.log) new, ap (λ v. v.take) new, ap (λ v. v.give) new));
+      fresh = subst AreNew (sym c.push_reserved.ensures.items) (each_more (λ x. HasMadeNone x.token.me.0 × (x.receipts ≡ no_receipts)) old.items c.idle_seat.result i.fresh ((ap (λ v. v.log) new, ap (λ v. v.take) new, ap (λ v. v.give) new), made.receipts));
     }
 
 pub idle_seat-first-requires : goal.idle_seat-first-requires
@@ -98,5 +99,5 @@ returns g c =
       len = c.insert.ensures.len ∙ ap (λ (b : Bool). if b then vec_len seats + 1 else vec_len seats) ok ∙ i.len ∙ number;
       seats = subst (AreIdleFrom c.args.self.now 0) (sym all)
           (one_before c.args.self.now seats.items first i.seats (ap (λ t. t.table_id) made.token ∙ i.of, made.standing.0) (made.node ∙ c.node_of-2.ensures) made.standing.1);
-      new = subst AreNew (sym all) (each_first (λ x. HasMadeNone x.token.me.0) seats.items first i.fresh (ap (λ v. v.log) me ∙ i.none.0, ap (λ v. v.take) me ∙ i.none.1, ap (λ v. v.give) me ∙ i.none.2));
+      new = subst AreNew (sym all) (each_first (λ x. HasMadeNone x.token.me.0 × (x.receipts ≡ no_receipts)) seats.items first i.fresh ((ap (λ v. v.log) me ∙ i.none.0, ap (λ v. v.take) me ∙ i.none.1, ap (λ v. v.give) me ∙ i.none.2), made.receipts));
     }

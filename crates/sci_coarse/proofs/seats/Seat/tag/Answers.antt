@@ -1,5 +1,6 @@
 use Rattle.std.proofs.Common.{◌<◌, Some, refl, sym, ap, ◌∙◌, subst}
 use Rattle.sci_port.specs.declared.calls.Call.TheVariants.{TagWas}
+use Rattle.sci_port.proofs.Before.{tag_keeps}
 use Rattle.sci_coarse.specs.declared.views.Terms.{Terms}
 use Rattle.sci_coarse.proofs.Composing.{was_taken, was_missed, hand_of, still_of, still_holds, to_give, region, sits, owing, calls, still}
 use Rattle.sci_coarse.proofs.seats.Seat.tag.Goals as goal
@@ -26,10 +27,11 @@ returns g c = let s = c.args.self.now in let t = c.args.line.now.terms in let of
     came = region g.K.Keeps.fits s.standing.terms s.node s.token.me c.take.new.token.me s.of s.seen.0 taken (TagWas c.args.other (Some c.tag_in_hand-tag.result)) c.tag_in_hand-tag.new.token.me (c.tag_in_hand-tag.ensures.called s.node) c.give.new.token.me c.give.ensures.given;
     owes = owing g.K.Keeps.fits s.standing.terms s.node s.token.me c.take.new.token.me s.of s.seen.0 taken (TagWas c.args.other (Some c.tag_in_hand-tag.result)) c.tag_in_hand-tag.new.token.me (c.tag_in_hand-tag.ensures.called s.node) c.give.new.token.me c.give.ensures.given s.standing.pending s.standing.pending (still g.K.Keeps.fits t s.node s.token.me c.take.new.token.me of s.seen.0 taken (TagWas c.args.other (Some c.tag_in_hand-tag.result)) c.tag_in_hand-tag.new.token.me (c.tag_in_hand-tag.ensures.called s.node) c.give.new.token.me c.give.ensures.given (calls g.K.Keeps.fits t s.node s.token.me c.take.new.token.me of s.seen.0 taken (TagWas c.args.other (Some c.tag_in_hand-tag.result)) c.tag_in_hand-tag.new.token.me (c.tag_in_hand-tag.ensures.called s.node)).gives.1 ∙ s.seen.1) s.seen.1;
   };
+  receives = tag_keeps _ _ _ _ _ refl;
 }
 
 pub invariant_of-self : goal.invariant_of-self
 invariant_of-self g c = let s = c.args.self.now in let h = was_missed _ _ c.take.result c.take.ensures.taken c.if-not-take.true in record { of = ap (λ v. v.of) h.1 ∙ s.of; seen = (ap (λ v. v.node) h.1 ∙ s.seen.0, ap (λ v. v.pending) h.1 ∙ s.seen.1, ap (λ v. v.joined) h.1 ∙ s.seen.2, ap (λ v. v.holds) h.1 ∙ s.seen.3); hand = h.2; below = s.below }
 
 pub returns-then-not-take : goal.returns-then-not-take
-returns-then-not-take g c = let s = c.args.self.now in let h = was_missed _ _ c.take.result c.take.ensures.taken c.if-not-take.true in record { made = record { same = (c.take.ensures.same.0, c.take.ensures.same.1, refl, refl); came = (h.0, h.1, h.3 s.standing.terms s.of); owes = (refl, tt) } }
+returns-then-not-take g c = let s = c.args.self.now in let h = was_missed _ _ c.take.result c.take.ensures.taken c.if-not-take.true in record { made = record { same = (c.take.ensures.same.0, c.take.ensures.same.1, refl, refl); came = (h.0, h.1, h.3 s.standing.terms s.of); owes = (refl, tt) }; receives = tag_keeps _ _ _ _ _ refl }

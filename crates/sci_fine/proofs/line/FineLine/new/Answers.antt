@@ -1,8 +1,11 @@
-use Rattle.std.proofs.Common.{ℕ, ◌≤◌, [], inl, inr, refl, sym, ap, ◌∙◌, subst, ⊎_elim}
+use Rattle.std.proofs.Common.{◌≡◌, ℕ, ◌≤◌, [], inl, inr, refl, sym, ap, ◌∙◌, subst, ⊎_elim}
 use Rattle.std.proofs.Math.Nat.{pos_of_ne-zero, not-le_of_lt}
 use Rattle.std.specs.Prelude.{vec_capacity}
 use Rattle.sci_fine.specs.declared.views.Terms.{Terms}
+use Rattle.sci_core.specs.declared.pending.Pending.{Pending}
+use Rattle.sci_fine.specs.Seats.{IsSeatOf}
 use Rattle.sci_fine.specs.Views.{first_view}
+use Rattle.sci_fine.proofs.Elements.{each_all}
 use Rattle.sci_fine.proofs.Seating.{no_refusal, other_refusal}
 use Rattle.sci_fine.proofs.line.FineLine.new.Goals as goal
 
@@ -12,6 +15,8 @@ returns-then-nodes-eq0 g c = record {
   terms = tt;
   seats = tt;
   new = tt;
+  own = tt;
+  rest = tt;
 }
 
 pub open-requires : goal.open-requires
@@ -23,6 +28,8 @@ returns-in_default g c = record {
   terms = tt;
   seats = tt;
   new = tt;
+  own = tt;
+  rest = tt;
 }
 
 pub seat_all-requires : goal.seat_all-requires
@@ -43,4 +50,6 @@ returns g c =
       terms = record { nodes = ap (λ t. t.nodes) terms; number = ap (λ t. t.number) terms; opening = ap (λ t. t.opening) terms; keep = ap (λ t. t.keep) terms };
       seats = (made.len ∙ ap (λ t. t.nodes) terms, made.seats);
       new = made.new;
+      own = each_all (λ s. IsSeatOf c.in-Ok.line s) c.seat_all.new.seats.items (λ k s e. (made.seats k s e).0);
+      rest = each_all (λ s. s.standing.pending ≡ Pending.Idle) c.seat_all.new.seats.items (λ k s e. (made.seats k s e).2);
     }

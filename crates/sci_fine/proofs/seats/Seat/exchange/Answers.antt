@@ -93,7 +93,7 @@ returns-then-found-old g c =
     let s = c.args.self.now in let t = s.standing.terms in let x : ℕ = s.standing.node in let p : Pending = s.standing.pending in let e : Event = c.args.event.now in
     let miss = landing.missed g.K.Keeps.fits t x p e s.token.me c.lay.new.token.me c.swap-found.new.token.me _ c.swap-found.result s.seen.0 s.seen.1 s.of s.below c.requires.allowed c.requires.fits c.lay.ensures.same.2 c.lay.ensures.hand (c.codes-number.ensures.before ∙ ap (λ (o : Outline). before_of o.change) c.outline-outline.ensures.value) c.swap-found.ensures.exchanged c.if-found-old.true in
     let q = landing.sits g.K.Keeps.fits t x p (Stepped e (Outcome.Missed c.swap-found.result)) s.token.me.0 c.swap-found.new.token.me.0 _ _ p s.of s.seen s.hand miss (landing.missed_step g.K.Keeps.fits t x p e s.token.me c.lay.new.token.me c.swap-found.new.token.me _ c.swap-found.result s.seen.0 s.seen.1 s.of s.below c.requires.allowed c.requires.fits c.lay.ensures.same.2 c.lay.ensures.hand (c.codes-number.ensures.before ∙ ap (λ (o : Outline). before_of o.change) c.outline-outline.ensures.value) c.swap-found.ensures.exchanged c.if-found-old.true) in
-    record { made = record { same = (c.swap-found.ensures.same.0 ∙ c.lay.ensures.same.0, c.swap-found.ensures.same.1 ∙ c.lay.ensures.same.1, refl, refl); came = miss.step; owes = q.owes } }
+    record { made = record { same = (c.swap-found.ensures.same.0 ∙ c.lay.ensures.same.0, c.swap-found.ensures.same.1 ∙ c.lay.ensures.same.1, refl, refl); came = miss.step; owes = q.owes }; kept = refl }
 
 pub invariant_of-self-2 : goal.invariant_of-self-2
 invariant_of-self-2 g c =
@@ -124,4 +124,5 @@ returns g c =
         came = done.0.step;
         owes = q.owes;
       };
+      kept = refl;
     }

@@ -1,4 +1,4 @@
-use Rattle.std.proofs.Common.{◌<◌, ◌≤◌, ℕ, Some, sym, ap, ◌∙◌, subst, arith, map}
+use Rattle.std.proofs.Common.{◌<◌, ◌≤◌, ℕ, Some, refl, sym, ap, ◌∙◌, subst, arith, map}
 use Rattle.sci_core.specs.Carrying.{hand_of}
 use Rattle.sci_core.specs.declared.pending.Pending.{Pending}
 use Rattle.sci_fine.specs.declared.views.Terms.{Terms}
@@ -60,4 +60,4 @@ returns g c =
     let came = reading.own_came g.K.Keeps.fits t s.token.me c.look-found.new.token.me c.look-found.result small below _ c.requires.note looks _ c.read_tag.ensures.of_code c.in-Ok.tag c.in-Ok.is in
     let next = reading.own_next g.K.Keeps.fits t s.token.me c.look-found.new.token.me c.look-found.result small below _ looks _ c.read_tag.ensures.of_code c.in-Ok.tag c.in-Ok.is in
     let q = sits g.K.Keeps.fits t x p _ s.token.me.0 c.look-found.new.token.me.0 _ _ c.look.new.self.pending s.of s.seen s.hand came (next ∙ (ap (λ (z : Pending). look_of z c.in-Ok.tag) s.seen.1 ∙ sym c.look.ensures.pending)) in
-    record { made = record { same = (c.look-found.ensures.same.0, c.look-found.ensures.same.1, c.look.ensures.same.1, c.look.ensures.same.0); came = came.step; owes = q.owes } }
+    record { made = record { same = (c.look-found.ensures.same.0, c.look-found.ensures.same.1, c.look.ensures.same.1, c.look.ensures.same.0); came = came.step; owes = q.owes }; kept = refl }

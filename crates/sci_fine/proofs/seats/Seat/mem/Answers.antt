@@ -1,6 +1,7 @@
 use Rattle.std.proofs.Common.{◌<◌, ◌≤◌, ℕ, Some, refl, sym, ap, ◌∙◌, subst, arith}
 use Rattle.sci_core.specs.declared.pending.Pending.{Pending}
 use Rattle.sci_port.specs.declared.calls.Call.TheVariants.{MemWas}
+use Rattle.sci_port.proofs.Before.{mem_keeps}
 use Rattle.sci_fine.specs.Steps.{slots_in}
 use Rattle.sci_fine.proofs.Landing.{sits}
 use Rattle.sci_fine.proofs.Reading as reading
@@ -30,4 +31,4 @@ returns g c =
     let below : s.token.me.0.node < t.nodes = subst (λ (z : ℕ). z < t.nodes) (sym s.seen.0) s.below in
     let came = reading.mem_came g.K.Keeps.fits t s.token.me c.load-found.new.token.me c.load-found.result small below (c.load-found.ensures.loaded t s.of) _ c.read_mem.ensures.of_code c.in-Ok.mem c.in-Ok.is in
     let q = sits g.K.Keeps.fits t x p (MemWas (Some c.in-Ok.mem)) s.token.me.0 c.load-found.new.token.me.0 _ _ p s.of s.seen s.hand came (ap (λ u. u.pending) (c.load-found.ensures.loaded t s.of).view ∙ s.seen.1) in
-    record { made = record { same = (c.load-found.ensures.same.0, c.load-found.ensures.same.1, refl, refl); came = came.step; owes = q.owes } }
+    record { made = record { same = (c.load-found.ensures.same.0, c.load-found.ensures.same.1, refl, refl); came = came.step; owes = q.owes }; receives = mem_keeps _ _ _ _ refl }

@@ -1,16 +1,23 @@
-use Rattle.std.proofs.Common.{None, sym, subst}
-use Rattle.sci_core.specs.declared.events.Event.{Event}
-use Rattle.sci_core.specs.declared.outcomes.Outcome.{Outcome}
+use Rattle.std.proofs.Common.{◌∙◌, sym, subst}
 use Rattle.sci_port.specs.declared.calls.Call.TheVariants.{Stepped}
-use Rattle.sci_fine.specs.Seats.{HasMade}
-use Rattle.sci_fine.proofs.Asking.{row_allowed}
+use Rattle.sci_port.specs.ReceiptList.{ReceiptList, ReceivesIfRoom}
+use Rattle.sci_port.proofs.Before.{kept_so, room_to_keep, unkept}
 use Rattle.sci_fine.proofs.seats.Seat.step.Goals as goal
 
-pub returns-in-Look : goal.returns-in-Look
-returns-in-Look g c = record { made = subst (λ (e : Event). HasMade g.K.Keeps.fits c.args.self.now (Stepped e (Outcome.Done None)) c.look.new.self) (sym c.in-Look.is) c.look.ensures.made }
+pub make_kept-requires : goal.make_kept-requires
+make_kept-requires g c =
+    let s = c.args.self.now in
+    record { of = c.requires.of; allowed = c.requires.allowed; fits = c.requires.fits; room = room_to_keep c.args.event.now s.receipts (sym c.keeps.ensures ∙ c.if-keeps.true) }
 
-pub exchange-requires : goal.exchange-requires
-exchange-requires g c = let s = c.args.self.now.standing in record { of = c.requires.of; allowed = row_allowed s.terms.nodes s.node s.pending c.args.event.now c.in_default.not-Look c.requires.allowed; fits = c.requires.fits }
+pub returns-then-keeps : goal.returns-then-keeps
+returns-then-keeps g c =
+    let s = c.args.self.now in
+    record { made = c.make_kept.ensures.made; receives = kept_so s.standing.pending c.args.event.now c.make_kept.result s.receipts c.make_kept.new.self.receipts (sym c.keeps.ensures ∙ c.if-keeps.true) c.make_kept.ensures.received }
 
-pub returns-in_default : goal.returns-in_default
-returns-in_default g c = record { made = c.exchange.ensures.made }
+pub returns-else-keeps : goal.returns-else-keeps
+returns-else-keeps g c =
+    let s = c.args.self.now in let p = s.standing.pending in
+    record {
+      made = c.make.ensures.made;
+      receives = subst (λ (r : ReceiptList). ReceivesIfRoom p (Stepped c.args.event.now c.make.result) s.receipts r) (sym c.make.ensures.kept) (unkept p c.args.event.now c.make.result s.receipts (sym c.keeps.ensures ∙ c.if-keeps.false));
+    }

@@ -8,6 +8,7 @@ use Rattle.sci_ops.specs.Operation.{Operation}
 use Rattle.sci_ops.specs.Table.{after_turn}
 use Rattle.sci_ops.proofs.Ending.Falls.{alone_at_rest, bound_at_rest}
 use Rattle.sci_ops.proofs.Ending.Turning.{turns}
+use Rattle.sci_ops.proofs.Less.{takes_less}
 use Rattle.sci_ops.proofs.Staged.{stores_on}
 use Rattle.sci_ops.proofs.ops.Op.alone.Goals as goal
 
@@ -30,7 +31,7 @@ turn-requires g c =
 pub turns-preserved : goal.turns-preserved
 turns-preserved g c =
     let i = c.turns.invariant in
-    let h = turns (Solo g.row.K.Denot g.K.Keeps) g.K.Keeps.fits (λ s. s.whole.ghost_name) (λ s. s.whole.now) (λ s. s.node) c.args.solo.now c.turns.solo c.turn.new.port c.args.self.now c.turns.self Turn.Moved c.requires.begins i.same_op i.same_way i.same_fact i.alone c.in-Moved.ensures.calls in
+    let h = turns (Solo g.row.K.Denot g.K.Keeps) g.K.Keeps.fits (λ s. s.whole.ghost_name) (λ s. s.whole.now) (λ s. s.node) c.args.solo.now c.turns.solo c.turn.new.port c.args.self.now c.turns.self Turn.Moved c.requires.begins i.same_op i.same_way i.same_fact i.alone (takes_less (λ s call t h. h.0) c.in-Moved.ensures.calls) in
     record {
       same_op = c.in-Moved.ensures.op ∙ i.same_op;
       same_way = c.in-Moved.ensures.same_way ∙ i.same_way;
@@ -43,17 +44,17 @@ turns-preserved g c =
 pub turns-smaller : goal.turns-smaller
 turns-smaller g c =
     let i = c.turns.invariant in
-    (turns (Solo g.row.K.Denot g.K.Keeps) g.K.Keeps.fits (λ s. s.whole.ghost_name) (λ s. s.whole.now) (λ s. s.node) c.args.solo.now c.turns.solo c.turn.new.port c.args.self.now c.turns.self Turn.Moved c.requires.begins i.same_op i.same_way i.same_fact i.alone c.in-Moved.ensures.calls).1.1
+    (turns (Solo g.row.K.Denot g.K.Keeps) g.K.Keeps.fits (λ s. s.whole.ghost_name) (λ s. s.whole.now) (λ s. s.node) c.args.solo.now c.turns.solo c.turn.new.port c.args.self.now c.turns.self Turn.Moved c.requires.begins i.same_op i.same_way i.same_fact i.alone (takes_less (λ s call t h. h.0) c.in-Moved.ensures.calls)).1.1
 
 pub unreachable-requires : goal.unreachable-requires
 unreachable-requires g c =
     let i = c.turns.invariant in
-    (turns (Solo g.row.K.Denot g.K.Keeps) g.K.Keeps.fits (λ s. s.whole.ghost_name) (λ s. s.whole.now) (λ s. s.node) c.args.solo.now c.turns.solo c.turn.new.port c.args.self.now c.turns.self Turn.Waiting c.requires.begins i.same_op i.same_way i.same_fact i.alone c.in-Waiting.ensures.calls).1
+    (turns (Solo g.row.K.Denot g.K.Keeps) g.K.Keeps.fits (λ s. s.whole.ghost_name) (λ s. s.whole.now) (λ s. s.node) c.args.solo.now c.turns.solo c.turn.new.port c.args.self.now c.turns.self Turn.Waiting c.requires.begins i.same_op i.same_way i.same_fact i.alone (takes_less (λ s call t h. h.0) c.in-Waiting.ensures.calls)).1
 
 pub returns-in-Done : goal.returns-in-Done
 returns-in-Done g c =
     let i = c.turns.invariant in
-    let h = turns (Solo g.row.K.Denot g.K.Keeps) g.K.Keeps.fits (λ s. s.whole.ghost_name) (λ s. s.whole.now) (λ s. s.node) c.args.solo.now c.turns.solo c.turn.new.port c.args.self.now c.turns.self (Turn.Done c.in-Done.answer) c.requires.begins i.same_op i.same_way i.same_fact i.alone c.in-Done.ensures.calls in
+    let h = turns (Solo g.row.K.Denot g.K.Keeps) g.K.Keeps.fits (λ s. s.whole.ghost_name) (λ s. s.whole.now) (λ s. s.node) c.args.solo.now c.turns.solo c.turn.new.port c.args.self.now c.turns.self (Turn.Done c.in-Done.answer) c.requires.begins i.same_op i.same_way i.same_fact i.alone (takes_less (λ s call t h. h.0) c.in-Done.ensures.calls) in
     let bound = bound_at_rest (nodes_of c.args.solo.now.whole.now) c.args.self.now.goal c.args.solo.now.node (state_of c.args.solo.now.whole.now) c.requires.rest in
     record {
       turns = (suc i.turns.0, omega (arith, i.turns.1), record { before = i.turns.0; mid = state_of c.turns.solo.whole.now; moves = i.turns.2; last = h.0; count = refl });

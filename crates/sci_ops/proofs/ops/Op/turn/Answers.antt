@@ -10,6 +10,7 @@ use Rattle.sci_ops.specs.Operation.{Operation}
 use Rattle.sci_ops.specs.Plan.{Takes}
 use Rattle.sci_ops.specs.Table.{turn_of, turn_again, after_turn}
 use Rattle.sci_ops.proofs.Answering.{answers_at}
+use Rattle.sci_ops.proofs.Noted.{keeps_answer}
 use Rattle.sci_ops.proofs.Short.{three_loads}
 use Rattle.sci_ops.proofs.Took.{taken_as, took_none, turn_keeps}
 use Rattle.sci_ops.proofs.ops.Op.turn.Goals as goal
@@ -38,6 +39,7 @@ returns-in-Some g c =
     record {
       calls = taken_as (ap (λ (x : Option Answer). turn_again op.goal x (g.P.Port.way c.args.port.now).node (g.P.Port.at_step c.args.port.now)) answered) took_none;
       answers = λ none. absurd (no_answer c.in-Some.answer (sym answered ∙ none));
+      last = λ none. absurd (no_answer c.in-Some.answer (sym answered ∙ none));
       loads = three_loads op _ _;
       op = ap (with_answer op.goal) answered;
       same_way = refl;
@@ -51,11 +53,14 @@ pub returns-in-Done : goal.returns-in-Done
 returns-in-Done g c =
     let me = (g.P.Port.way c.args.port.now).node in
     let op : Operation = record { goal = c.self.inside.goal; answer = c.self.inside.answer } in
+    let answered : AnswersAt g.P.Port.gives g.P.Port.at_step c.args.self.now me c.args.port.now (Turn.Done c.in-Done.answer) c.turn_towards-turn.new.port =
+    subst (λ (x : Operation). AnswersAt g.P.Port.gives g.P.Port.at_step x me c.args.port.now (Turn.Done c.in-Done.answer) c.turn_towards-turn.new.port) c.self.view_is
+    (answers_at g.P.Port.gives g.P.Port.at_step _ _ _ g.met.P.Port.owes op me c.args.port.now c.turn_towards-turn.new.port (Turn.Done c.in-Done.answer) (c.in-Done.ensures.stamp c.in-Done.answer refl) c.in-Done.ensures.calls) in
     record {
       calls = subst (λ (x : Operation). Takes g.P.Port.gives (turn_of x me (g.P.Port.at_step c.args.port.now)) c.args.port.now (Turn.Done c.in-Done.answer) c.turn_towards-turn.new.port) c.self.view_is
           (taken_as (ap (λ (x : Option Answer). turn_again op.goal x me (g.P.Port.at_step c.args.port.now)) c.in_default.is) c.in-Done.ensures.calls);
-      answers = subst (λ (x : Operation). AnswersAt g.P.Port.gives g.P.Port.at_step x me c.args.port.now (Turn.Done c.in-Done.answer) c.turn_towards-turn.new.port) c.self.view_is
-          (answers_at g.P.Port.gives g.P.Port.at_step _ _ _ g.met.P.Port.owes op me c.args.port.now c.turn_towards-turn.new.port (Turn.Done c.in-Done.answer) (c.in-Done.ensures.stamp c.in-Done.answer refl) c.in-Done.ensures.calls);
+      answers = answered;
+      last = keeps_answer g.P.Port.gives g.P.Port.at_step g.P.Port.told g.met.P.Port.receives c.args.self.now me c.args.port.now c.turn_towards-turn.new.port (Turn.Done c.in-Done.answer) answered;
       loads = three_loads c.args.self.now _ _;
       op = ap (λ (x : Operation). after_turn x (Turn.Done c.in-Done.answer)) c.self.view_is;
       same_way = turn_keeps g.P.Port.way g.met.P.Port.same_way c.in-Done.ensures.calls;
@@ -70,6 +75,7 @@ returns-in_default-turn g c =
       calls = subst (λ (x : Operation). Takes g.P.Port.gives (turn_of x me (g.P.Port.at_step c.args.port.now)) c.args.port.now turn c.turn_towards-turn.new.port) c.self.view_is
           (taken_as (ap (λ (x : Option Answer). turn_again c.self.inside.goal x me (g.P.Port.at_step c.args.port.now)) c.in_default.is) c.turn_towards-turn.ensures.calls);
       answers = answers_none g.P.Port.gives g.P.Port.at_step c.args.self.now me c.args.port.now c.turn_towards-turn.new.port turn c.in_default-turn.not-Done;
+      last = keeps_answer g.P.Port.gives g.P.Port.at_step g.P.Port.told g.met.P.Port.receives c.args.self.now me c.args.port.now c.turn_towards-turn.new.port turn (answers_none g.P.Port.gives g.P.Port.at_step c.args.self.now me c.args.port.now c.turn_towards-turn.new.port turn c.in_default-turn.not-Done);
       loads = three_loads c.args.self.now _ _;
       op = stays_so c.args.self.now turn c.in_default-turn.not-Done;
       same_way = turn_keeps g.P.Port.way g.met.P.Port.same_way c.turn_towards-turn.ensures.calls;

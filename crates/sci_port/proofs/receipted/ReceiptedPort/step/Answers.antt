@@ -11,3 +11,6 @@ returns-clause-gives g c =
     let o = c.step-outcome.result in
     let kept = kept_so c.pending-before.result c.args.event o s.receipts.now c.keep.new.self (sym c.keeps.ensures ∙ c.if-not-keeps.false) c.keep.ensures in
     (c.step-outcome.ensures.gives, subst (λ (p : Pending). ReceivesIfRoom p (Stepped c.args.event o) s.receipts.now c.keep.new.self) c.pending-before.ensures.value kept, refl, refl)
+
+pub returns-clause-receipts : goal.returns-clause-receipts
+returns-clause-receipts g c = (returns-clause-gives g c).1

@@ -3,7 +3,8 @@ use Rattle.std.proofs.Common.{rules, refl, ap, get_or}
 use Rattle.sci_core.specs.Answers.{FitsEvent}
 use Rattle.sci_port.specs.declared.calls.Call.TheVariants.{Stepped}
 use Rattle.sci_port.proofs.Banked.{written_back}
-use Rattle.sci_port.proofs.SeatBanked.{allowed_there, gives, inside, near, of_line, sit_after, there, with_it}
+use Rattle.sci_port.proofs.SeatBanked.{allowed_there, gives, inside, near, of_line, sit_after, there}
+use Rattle.sci_port.proofs.SeatReceipts.{with_receipts}
 use Rattle.sci_port.proofs.seat_bank.SeatBankBank.step.Goals as goal
 
 pub step-requires-clause-of : goal.step-requires-clause-of
@@ -19,7 +20,7 @@ pub invariant_of-self : goal.invariant_of-self
 invariant_of-self g c = record { of = sit_after g.met.L.SharedLine.laws c.args.self.now.of c.args.line c.requires.line c.from-2.result c.index-seats-from.result (get_or c.as_mut_slice-seats.result.now c.from-2.result c.index-seats-from.result) c.from-2.ensures (ap (λ l. get_or l c.from-2.result c.index-seats-from.result) c.as_mut_slice-seats.ensures.value) (Stepped c.args.event c.step.result) c.step.new.seat c.step.ensures _ (written_back c.args.self.now.seats.items c.as_mut_slice-seats.result.now c.args.self.now.seats.len c.from-2.result c.step.new.seat c.as_mut_slice-seats.ensures.value c.as_mut_slice-seats.ensures.len) }
 
 pub returns-clause-gives : goal.returns-clause-gives
-returns-clause-gives g c = with_it refl (gives g.met.L.SharedLine.laws c.args.self.now.of c.args.line c.requires.line c.from-2.result c.index-seats-from.result (get_or c.as_mut_slice-seats.result.now c.from-2.result c.index-seats-from.result) c.from-2.ensures (ap (λ l. get_or l c.from-2.result c.index-seats-from.result) c.as_mut_slice-seats.ensures.value) (Stepped c.args.event c.step.result) c.step.new.seat c.step.ensures _ (written_back c.args.self.now.seats.items c.as_mut_slice-seats.result.now c.args.self.now.seats.len c.from-2.result c.step.new.seat c.as_mut_slice-seats.ensures.value c.as_mut_slice-seats.ensures.len))
+returns-clause-gives g c = with_receipts g.met.L.SharedLine.kept (near g.met.L.SharedLine.laws c.args.self.now.of c.args.line c.requires.line) refl (gives g.met.L.SharedLine.laws c.args.self.now.of c.args.line c.requires.line c.from-2.result c.index-seats-from.result (get_or c.as_mut_slice-seats.result.now c.from-2.result c.index-seats-from.result) c.from-2.ensures (ap (λ l. get_or l c.from-2.result c.index-seats-from.result) c.as_mut_slice-seats.ensures.value) (Stepped c.args.event c.step.result) c.step.new.seat c.step.ensures _ (written_back c.args.self.now.seats.items c.as_mut_slice-seats.result.now c.args.self.now.seats.len c.from-2.result c.step.new.seat c.as_mut_slice-seats.ensures.value c.as_mut_slice-seats.ensures.len))
 
 pub returns-clause-others : goal.returns-clause-others
 returns-clause-others g c = (returns-clause-gives g c).2.others
@@ -50,3 +51,6 @@ returns-clause-same_nodes g c = λ m. refl
 
 pub returns-clause-same_fact : goal.returns-clause-same_fact
 returns-clause-same_fact g c = refl
+
+pub returns-clause-receipts : goal.returns-clause-receipts
+returns-clause-receipts g c = (returns-clause-gives g c).3

@@ -1,5 +1,4 @@
-use Rattle.std.proofs.Common.{refl}
 use Rattle.sci_port.proofs.solo_bank.SoloBank.into_wholes.Goals as goal
 
 pub returns : goal.returns
-returns g c = refl
+returns g c = c.into_parts.ensures.same_lines

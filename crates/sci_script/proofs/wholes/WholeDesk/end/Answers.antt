@@ -15,7 +15,7 @@ loop-number-init g c = record {
   size = refl;
   count = refl;
   rest = c.rest-desk.ensures.rest;
-  ends = refl;
+  ends = (0, omega arith, (refl, refl));
   closed = λ i lt. absurd (omega (arith, lt));
   bound = omega arith;
 }
@@ -45,16 +45,22 @@ loop-number-preserved g c =
     let place : c.from-place.result ≡ k = c.from-place.ensures in
     let inside : c.from-place.result < length desk.nodes.items = omega (arith, place, below, desk.count, desk.nodes.ok.0) in
     let node : c.id-node.result ≡ k = c.id-node.ensures ∙ ap (λ (x : NodeState). x.id) c.index.ensures ∙ (desk.of c.from-place.result c.index.result.now inside).0 ∙ place in
-    let one : EndsIfOpen (shared_is_open mid k) k mid a t = subst (λ (j : ℕ). EndsIfOpen (shared_is_open mid j) j mid a t) node c.ended_if_open-answer.ensures.ends in
+    let took : ℕ = c.ended_if_open-answer.ensures.ends.0 in
+    let so_far : ℕ = i.ends.0 in
+    let one : EndsIfOpen (shared_is_open mid k) k mid took a t = subst (λ (j : ℕ). EndsIfOpen (shared_is_open mid j) j mid took a t) node c.ended_if_open-answer.ensures.ends.2 in
     let room : k < length answers = omega (arith, below, i.count, c.requires, ap (λ (z : Size). z.nodes) i.size, ap (λ (z : Size). z.nodes) c.rest-desk.ensures.size) in
-    let more : EndsCalls (suc k) first (set answers k a) t = ends_more k first mid t answers a room i.ends one in
+    let more : EndsCalls (suc k) first (so_far + took) (set answers k a) t = ends_more k first mid t so_far took answers a room i.ends.2 one in
     let next : suc k ≡ k + 1 = omega arith in
     let part : c.ended_if_open-answer.new.steps ≤ c.loop-number.steps + 2 * (3 * n + 16) = subst (λ (z : Size). c.ended_if_open-answer.new.steps ≤ c.loop-number.steps + 2 * (3 * z.nodes + 16)) i.size c.ended_if_open-answer.ensures.bound in
     record {
       size = c.ended_if_open-answer.ensures.size ∙ i.size;
       count = length-set answers c.from-place.result a ∙ i.count;
       rest = c.ended_if_open-answer.ensures.rest;
-      ends = subst (λ (p : ℕ). EndsCalls (k + 1) first (set answers p a) t) (sym place) (subst (λ (m : ℕ). EndsCalls m first (set answers k a) t) next more);
+      ends = (
+        so_far + took,
+        omega (arith, i.ends.1, c.ended_if_open-answer.ensures.ends.1),
+        subst (λ (p : ℕ). EndsCalls (k + 1) first (so_far + took) (set answers p a) t) (sym place) (subst (λ (m : ℕ). EndsCalls m first (so_far + took) (set answers k a) t) next more),
+      );
       closed = closed_more k mid t i.closed (subst (λ (j : ℕ). shared_is_open t j ≡ false) node c.ended_if_open-answer.ensures.closed) (subst (λ (j : ℕ). (l : ℕ) → (l ≡ j → ⊥) → t.nodes l ≡ mid.nodes l) node c.ended_if_open-answer.ensures.others);
       bound = one_more_part c.ended_if_open-answer.new.steps c.loop-number.steps c.rest-desk.new.steps k (2 * (3 * n + 16)) i.bound part;
     }
@@ -72,7 +78,15 @@ returns g c =
     let ended : c.loop-number.steps ≤ c.rest-desk.new.steps + n * (2 * (3 * n + 16)) = subst (λ (x : ℕ). c.loop-number.steps ≤ c.rest-desk.new.steps + n * (2 * (3 * x + 16))) nodes made in
     let rested : c.rest-desk.new.steps ≤ c.args.steps.now + c.args.self.size.lines * (n * n + 9 * n) = c.rest-desk.ensures.bound in
     record {
-      ends = (mid, c.rest-desk.ensures.rested, c.rest-desk.ensures.rest, subst (λ (m : ℕ). EndsCalls m mid c.loop-number.answers (shared_of desk)) all i.ends);
+      ends = (
+        mid,
+        c.rest-desk.ensures.rested.0,
+        i.ends.0,
+        omega (arith, c.rest-desk.ensures.rested.1, i.ends.1),
+        c.rest-desk.ensures.rested.2,
+        c.rest-desk.ensures.rest,
+        subst (λ (m : ℕ). EndsCalls m mid i.ends.0 c.loop-number.answers (shared_of desk)) all i.ends.2,
+      );
       bound = omega (arith, ended, rested);
       rest = i.rest;
       closed = λ node lt. i.closed node (omega (arith, lt, all));

@@ -10,7 +10,7 @@ invariant-loop-number g l = record {
   size : l.desk.size ≡ l.initial.desk.size;
   count : length l.answers ≡ length l.initial.answers;
   rest : AreAtRest (shared_of l.desk);
-  ends : EndsCalls l.number (shared_of l.initial.desk) l.answers (shared_of l.desk);
+  ends : (turns : ℕ) × (l.steps ≡ l.initial.steps + turns) × EndsCalls l.number (shared_of l.initial.desk) turns l.answers (shared_of l.desk);
   closed : (i : ℕ) → i < l.number → shared_is_open (shared_of l.desk) i ≡ false;
   bound : l.steps ≤ l.initial.steps + l.number * (2 * (3 * l.initial.desk.size.nodes + 16));
 }

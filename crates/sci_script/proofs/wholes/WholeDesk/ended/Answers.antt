@@ -2,11 +2,12 @@ use Rattle.std.proofs.Common.{◌≡◌, ◌∙◌, ◌+◌, ◌*◌, ◌<◌, �
 use Rattle.sci_core.specs.Whole.{nodes_of}
 use Rattle.sci_ops.specs.declared.answers.Turn.{Turn}
 use Rattle.sci_script.specs.declared.commands.Size.{Size}
+use Rattle.sci_script.specs.Event.{Turned}
 use Rattle.sci_script.specs.Shared.{Shared, shared_does}
 use Rattle.sci_script.specs.Wholes.{shared_of}
 use Rattle.sci_script.proofs.AloneCalls.{left, comes, left_at_rest, open_stands, stands_open}
 use Rattle.sci_script.proofs.Lent.{lent_does, lent_others}
-use Rattle.sci_script.proofs.Runs.{unended_none, unended_more}
+use Rattle.sci_script.proofs.Runs.{repeats_none, repeats_more}
 use Rattle.sci_script.proofs.wholes.WholeDesk.ended.Goals as goal
 
 pub turns-init : goal.turns-init
@@ -14,7 +15,7 @@ turns-init g c =
     let s = shared_of c.args.self.now in
     record {
       size = refl;
-      turns = (0, omega arith, unended_none shared_does c.args.node s);
+      turns = (0, omega arith, repeats_none shared_does (Turned c.args.node Turn.Moved) s);
       stands = open_stands c.args.node s (s.nodes c.args.node).call c.requires.open c.requires.rest;
       cost = let most = left_at_rest c.args.node s (s.nodes c.args.node).call c.requires.rest in omega (arith, most);
       others = λ i d. refl;
@@ -40,7 +41,7 @@ turns-preserved g c =
     let now : left me t (t.nodes me).call < left me s (s.nodes me).call = k.1 in
     record {
       size = c.in-Moved.ensures.size ∙ i.size;
-      turns = (i.turns.0 + 1, omega (arith, i.turns.1, c.count.ensures), unended_more shared_does me i.turns.0 (shared_of c.args.self.now) s t Turn.Moved i.turns.2 tt (lent_does s me (s.nodes me).call Turn.Moved t lent));
+      turns = (i.turns.0 + 1, omega (arith, i.turns.1, c.count.ensures), repeats_more shared_does (Turned me Turn.Moved) i.turns.0 (shared_of c.args.self.now) s t i.turns.2 (lent_does s me (s.nodes me).call Turn.Moved t lent));
       stands = k.0;
       cost = omega (arith, now, i.cost, c.count.ensures);
       others = λ j d. lent_others s me (s.nodes me).call Turn.Moved t lent j d ∙ i.others j d;
@@ -69,7 +70,11 @@ returns-in-Done g c =
     let k = comes me s t (s.nodes me).call last i.stands lent in
     let some : 0 < left me s (s.nodes me).call = k.0 in
     record {
-      ends = record { before = i.turns.0; few = omega (arith, i.turns.1, i.cost, some); mid = s; goes_on = i.turns.2; last = lent_does s me (s.nodes me).call last t lent };
+      ends = (
+        i.turns.0 + 1,
+        omega (arith, i.turns.1, c.count.ensures),
+        record { before = i.turns.0; count = omega arith; few = omega (arith, i.turns.1, i.cost, some); mid = s; goes_on = i.turns.2; last = lent_does s me (s.nodes me).call last t lent },
+      );
       bound = omega (arith, some, i.cost, c.count.ensures);
       rest = k.1;
       closed = ap is_some k.2;

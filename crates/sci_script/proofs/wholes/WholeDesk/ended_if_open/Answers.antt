@@ -11,7 +11,7 @@ returns-then-not-open g c =
     let closed = sym c.open.ensures ∙ c.if-not-open.true in
     let s = shared_of c.args.self.now in
     record {
-      ends = subst (λ (b : Bool). EndsIfOpen b c.args.node s None s) (sym closed) (refl, refl);
+      ends = (0, omega arith, subst (λ (b : Bool). EndsIfOpen b c.args.node s 0 None s) (sym closed) (refl, refl, refl));
       bound = omega arith;
       rest = c.requires.rest;
       closed = closed;
@@ -23,7 +23,11 @@ pub returns : goal.returns
 returns g c =
     let s = shared_of c.args.self.now in
     record {
-      ends = subst (λ (b : Bool). EndsIfOpen b c.args.node s (Some c.ended.result) (shared_of c.ended.new.self)) c.if-not-open.ensures c.ended.ensures.ends;
+      ends = (
+        c.ended.ensures.ends.0,
+        c.ended.ensures.ends.1,
+        subst (λ (b : Bool). EndsIfOpen b c.args.node s c.ended.ensures.ends.0 (Some c.ended.result) (shared_of c.ended.new.self)) c.if-not-open.ensures c.ended.ensures.ends.2,
+      );
       bound = c.ended.ensures.bound;
       rest = c.ended.ensures.rest;
       closed = c.ended.ensures.closed;

@@ -10,11 +10,15 @@ pub new-bank-requires : goal.new-bank-requires
 new-bank-requires c =
     let script = c.args.script.now in
     let first = c.in_ok-nodes.ensures.idle 0 c.index.result.now (omega (arith, script.is_size.some_nodes)) in
-    let id : c.id.result ≡ 0 = c.id.ensures ∙ ap (λ (n : NodeState). n.id) (c.index.ensures ∙ first) in (
-      record {},
-      are_lines script.size.nodes script.openings.items c.in_ok-wholes.wholes.items script.size.lines c.id.result c.in_ok-wholes.ensures.count (omega (arith, script.is_size.some_lines)) script.is_size.few_lines
-          (omega (arith, id, script.is_size.some_nodes)) c.in_ok-wholes.ensures.opened,
-    )
+    let id : c.id.result ≡ 0 = c.id.ensures ∙ ap (λ (n : NodeState). n.id) (c.index.ensures ∙ first) in
+    record {
+      lines = (
+        record {},
+        are_lines script.size.nodes script.openings.items c.in_ok-wholes.wholes.items script.size.lines c.id.result c.in_ok-wholes.ensures.count (omega (arith, script.is_size.some_lines)) script.is_size.few_lines
+            (omega (arith, id, script.is_size.some_nodes)) c.in_ok-wholes.ensures.opened,
+      );
+      count = c.in_ok-receipts.ensures.count ∙ (c.from.ensures ∙ sym c.in_ok-wholes.ensures.count);
+    }
 
 pub invariant_of-result : goal.invariant_of-result
 invariant_of-result c =

@@ -34,8 +34,8 @@ loop-number-preserved c =
       ];
     }
 
-pub new-requires : goal.new-requires
-new-requires c =
+pub new-requires-clause-lines : goal.new-requires-clause-lines
+new-requires-clause-lines c =
     let n : length c.loop-number.wholes.items ≡ c.args.count = search rules in
     let all : c.loop-number.number ≡ c.args.count = search rules in
     let asked = c.requires.count in (

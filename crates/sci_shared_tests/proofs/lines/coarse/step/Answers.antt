@@ -8,4 +8,4 @@ step-requires-clause-fits c = any_event_fits c.args.event
 pub returns-then-allows-clause-logged : goal.returns-then-allows-clause-logged
 returns-then-allows-clause-logged c =
     let s = c.args.port.now.seat.now in
-    c.law_of_one_run.ensures.logs s.standing.terms s.token.me.0 (Stepped c.args.event c.step.result) c.step.new.self.seat.now.token.me.0 c.step.ensures.gives.2.came
+    c.law_of_one_run.ensures.logs s.standing.terms s.token.me.0 (Stepped c.args.event c.step.result) c.step.new.self.seat.now.token.me.0 c.step.ensures.gives.2.0.came

@@ -1,0 +1,59 @@
+//! The states of a race: a node that loads a line which nobody has used, worked out by hand.
+use super::LOAD;
+use sci_outcomes::{SearchRefusal, Unwatched};
+use sci_play::play_text;
+use sci_races::race_after;
+use sci_script::read_script;
+use sci_serve::{RaceFault, serve_play};
+use std::alloc::Global;
+use std::io::sink;
+use std::test::Fail;
+
+const STATES: &str = "\
+state
+line 0 is HOME forw none; has 0 0 0 0 0 0 0 0 0
+node 0 is INVALID forw none back none; Idle; has 0 0 0 0 0 0 0 0 0
+turn 0 1 Queue(none) Done; 
+state
+line 0 is HOME forw none; has 0 0 0 0 0 0 0 0 0
+node 0 is QUEUED forw none back none; Queueing(none); 
+turn 0 2 PrependValid Done; 
+state
+line 0 is FRESH forw 0 lent
+node 0 is QUEUED forw none back none; Fetching(none);  keeps 0 0 0 0 0 0 0 0 0
+turn 0 3 ReturnMemory Done; 
+state
+line 0 is FRESH forw 0; has 0 0 0 0 0 0 0 0 0
+node 0 is QUEUED forw none back none; InQueue(none);  keeps 0 0 0 0 0 0 0 0 0
+turn 0 4 Settle Done; 
+node 0 read 0 stamp 0
+state
+line 0 is FRESH forw 0; has 0 0 0 0 0 0 0 0 0
+node 0 is ONLY_FRESH forw none back none; Idle; has 0 0 0 0 0 0 0 0 0
+";
+
+// The states of a load, at most so many.
+fn states(alloc: Global, most: usize) -> Result<Vec<u8>, Fail> {
+    let script = read_script(alloc, LOAD.as_bytes()).map_err(|_| Fail::new("a script is refused"))?;
+    let race = race_after(alloc, &script).map_err(|_| Fail::new("a run is refused"))?;
+    match play_text(alloc, &Unwatched, race, most) {
+        Ok(text) => Ok(text),
+        Err(SearchRefusal::TooManyStates) => Ok(Vec::new(alloc)),
+        Err(SearchRefusal::OutOfMemory) => Err(Fail::new("memory ran out")),
+    }
+}
+
+#[test]
+fn a_load_has_five_states(rt: HostRuntime) -> Result<(), Fail> {
+    assert_eq!(rt; states(rt.alloc(), 5)?.as_slice(), STATES.as_bytes());
+    assert_eq!(rt; states(rt.alloc(), 4)?.len(), 0);
+    Ok(())
+}
+
+#[test]
+fn a_page_of_too_many_states_is_refused(rt: HostRuntime) -> Result<(), Fail> {
+    let mut input = LOAD.as_bytes();
+    let result = serve_play(rt.alloc(), &Unwatched, 4, &mut input, &mut sink());
+    assert_eq!(rt; result.err(), Some(RaceFault::TooManyStates));
+    Ok(())
+}

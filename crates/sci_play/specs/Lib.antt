@@ -1,0 +1,5 @@
+pub mod Taking
+pub mod Pieces
+pub mod States
+pub mod Turns
+pub mod Plays

@@ -1,0 +1,108 @@
+-- Why a command of a script is refused over its desk, as that stands behind the refusal. This project's profile.
+use Rattle.std.specs.Prelude.{◌≡◌, ℕ, Bool, true, false, List, [], Option, Some, None, Result, Ok, Err, slice_get, if◌then◌else◌}
+use Rattle.sci_core.specs.Stage.{stage_of}
+use Rattle.sci_core.specs.declared.stages.Stage.{Stage}
+use Rattle.sci_cache.specs.Nodes.{line_by}
+use Rattle.sci_cache.specs.declared.calls.OpenCall.{OpenCall}
+use Rattle.sci_script.specs.declared.commands.Size.{Size}
+use Rattle.sci_script.specs.declared.commands.Opening.{Opening}
+use Rattle.sci_script.specs.declared.commands.Step.{Step}
+use Rattle.sci_script.specs.declared.commands.Command.{Command}
+use Rattle.sci_script.specs.declared.commands.Command.TheVariants.{Begin, Turn, Done, Rest, End, List as ListLine, Tag as ShowTag, Residents}
+use Rattle.sci_script.specs.declared.places.Place.{Place}
+use Rattle.sci_script.specs.declared.places.Stand.{Stand}
+use Rattle.sci_script.specs.declared.places.Stand.TheVariants as stands
+use Rattle.sci_script.specs.declared.reasons.Reason.{Reason}
+use Rattle.sci_script.specs.declared.reasons.Reason.TheVariants.{CallOpen, NoCall, WaitsFor, Held, Unended}
+use Rattle.sci_script.specs.declared.refusals.ScriptRefusal.{ScriptRefusal}
+use Rattle.sci_script.specs.declared.refusals.ScriptRefusal.TheVariants as refusals
+use Rattle.sci_script.specs.Faults.{first_place, line_reason, text_reason}
+use Rattle.sci_script.specs.Run.{Leaves}
+use Rattle.sci_script.specs.ScriptText.{Opens, IsTextOf}
+use Rattle.sci_script.specs.Shared.{Shared, shared_is_open, shared_does}
+use Rattle.sci_script.specs.Talks.{Standing, Silent, Gathering, Going, command_of}
+use Rattle.sci_script.specs.Waiting.{IsAwaited}
+use Rattle.sci_script.specs.Words.{is_skipped, words_of}
+
+-- a node that waits for nobody is Idle, or could go on
+abbrev pub alone_reason : ℕ → Stage → Reason
+alone_reason node Stage.Idle = Held node
+alone_reason node stage = Unended node
+
+abbrev pub wait_reason : Shared → ℕ → ℕ → Option ℕ → Reason
+wait_reason s node line None = alone_reason node (stage_of ((s.lines line).steps node))
+wait_reason s node line (Some whom) = WaitsFor node whom
+
+-- why the node's call doesn't end: whom it waits for on the line at work
+abbrev pub IsUnendedBy : Shared → ℕ → Option OpenCall → Option Reason → Type 0
+IsUnendedBy s node None why = why ≡ Some (NoCall node)
+IsUnendedBy s node (Some call) why = (whom : Option ℕ) × IsAwaited s (line_by call.victim call.line) node whom
+    × (why ≡ Some (wait_reason s node (line_by call.victim call.line) whom))
+
+-- why a command that was refused is
+abbrev pub IsWhy : Shared → Command → Option Reason → Type 0
+IsWhy s (Begin node line request) why = why ≡ (if shared_is_open s node then Some (CallOpen node) else None)
+IsWhy s (Turn node) why = why ≡ (if shared_is_open s node then None else Some (NoCall node))
+IsWhy s (Done node) why = IsUnendedBy s node (s.nodes node).call why
+IsWhy s (ListLine line) why = why ≡ None
+IsWhy s (ShowTag line node) why = why ≡ None
+IsWhy s (Residents node) why = why ≡ None
+IsWhy s (Rest lines) why = why ≡ None
+IsWhy s (End nodes lines) why = why ≡ None
+
+-- over a desk just opened, where no call is open
+abbrev pub unbegun_reason : Command → Option Reason
+unbegun_reason (Turn node) = Some (NoCall node)
+unbegun_reason (Done node) = Some (NoCall node)
+unbegun_reason command = None
+
+-- a command of these stands on this line of text, and this is why it was refused over the desk
+abbrev pub IsWhyAt : List Step → Shared → ℕ → Option Reason → Type 0
+IsWhyAt steps s number why = (k : ℕ) × (step : Step) × (slice_get steps k ≡ Some step) × (step.number ≡ number) × IsWhy s step.command why
+
+-- the line of text that is refused
+abbrev pub refused_line : ScriptRefusal → Option ℕ
+refused_line (refusals.BadCommand line) = Some line
+refused_line (refusals.NotDone line) = Some line
+refused_line e = None
+
+abbrev pub IsWhyOn : List Step → Shared → Option ℕ → Option Reason → Type 0
+IsWhyOn steps s None why = ⊥
+IsWhyOn steps s (Some line) why = IsWhyAt steps s line why
+
+-- why a run is refused: it isn't, or the desk that it leaves says so
+pub data IsWhyStopped (size : Size) (capacity : ℕ) (openings : List Opening) (steps : List Step) (why : Option Reason) : Type 0 where
+  ends : (text : List ℕ) → IsTextOf size capacity openings steps text → why ≡ None → IsWhyStopped size capacity openings steps why
+  stops : (s t : Shared) → (e : ScriptRefusal) → (written : List ℕ) → Opens size capacity openings s
+      → Leaves shared_is_open shared_does size.nodes s steps e written t → IsWhyOn steps t (refused_line e) why → IsWhyStopped size capacity openings steps why
+
+-- why a script is refused: as it is read, or as it is run
+abbrev pub IsWhyScript : List (ℕ × List ℕ) → Result (Size × ℕ × List Opening × List Step) ScriptRefusal → Option Reason → Type 0
+IsWhyScript entries (Ok script) why = IsWhyStopped script.0 script.1 script.2 script.3 why
+IsWhyScript entries (Err e) why = why ≡ text_reason first_place entries
+
+-- where a line stands in a talk
+abbrev pub stand_by : Bool → Stand
+stand_by true = stands.Memory
+stand_by false = stands.Openings
+
+abbrev pub place_of : Standing → Place
+place_of Silent = first_place
+place_of (Gathering bare size capacity openings) = record { stand = stand_by bare; size = size }
+place_of (Going size shown s) = record { stand = stands.Commands; size = size }
+
+-- why a command that was understood is refused
+abbrev pub IsWhyOver : Standing → Result (Option Command) ScriptRefusal → Option Reason → Type 0
+IsWhyOver Silent said why = why ≡ None
+IsWhyOver s (Err e) why = why ≡ None
+IsWhyOver s (Ok None) why = why ≡ None
+IsWhyOver (Gathering bare size capacity openings) (Ok (Some command)) why = why ≡ unbegun_reason command
+IsWhyOver (Going size shown s) (Ok (Some command)) why = IsWhy s command why
+
+abbrev pub IsWhyTaken : Standing → List ℕ → Option Reason → Option Reason → Type 0
+IsWhyTaken s line (Some reason) why = why ≡ Some reason
+IsWhyTaken s line None why = IsWhyOver s (command_of s (words_of line)) why
+
+-- why a line of a talk was refused, by the talk as it stands behind the refusal
+abbrev pub IsWhySaid : Standing → List ℕ → Option Reason → Type 0
+IsWhySaid s line why = IsWhyTaken s line (line_reason (place_of s) line) why

@@ -1,0 +1,75 @@
+-- The lines of what a command prints, and of the answer with it.
+use Rattle.std.proofs.Common.{◌≡◌, ℕ, zero, suc, ◌+◌, ◌-◌, ◌<◌, ◌||◌, Bool, true, false, not, eqb, List, [], ◌∷◌, ◌++◌, length, get_or, slice_index, take, codes, bytes_eq, flat_map, refl, sym, ap, ap₂, subst, ◌∙◌, append_assoc, arith, if◌then◌else◌}
+use Rattle.std.specs.List.{list_all, list_any}
+use Rattle.std.specs.Str.Lines.{lines, strip_carriage_return}
+use Rattle.std.proofs.lemmas.Bool.{and_parts, or_from}
+use Rattle.std.proofs.lemmas.List.Folds.{list_any-append}
+use Rattle.std.proofs.lemmas.Grind.{flat_map-append}
+use Rattle.sci_script.proofs.Lines.{lines_at}
+use Rattle.sci_serve.specs.Accepted.{unless_ok, without_ok, is_refusal, refuses}
+use Rattle.sci_serve.proofs.Plain.{IsPlain, is_kept, Each, ended_line, AreOwn}
+
+un_not : (x : Bool) → not x ≡ true → x ≡ false
+un_not true h = absurd (cc)
+un_not false h = refl
+
+kept_byte : (b : ℕ) → is_kept b ≡ true → (eqb b 10 ≡ false) × (eqb b 13 ≡ false)
+kept_byte b k = let q = and_parts (not (eqb b 10)) (not (eqb b 13)) k in (un_not (eqb b 10) q.0, un_not (eqb b 13) q.1)
+
+plain_parts : (b : ℕ) (bytes : List ℕ) → IsPlain (b ∷ bytes) → (is_kept b ≡ true) × IsPlain bytes
+plain_parts b bytes p = and_parts (is_kept b) (list_all is_kept bytes) p
+
+-- plain bytes in front of a line feed are a line
+feed_at : (bytes : List ℕ) → IsPlain bytes → (i d : ℕ) → i < length bytes → eqb (get_or bytes i d) 10 ≡ false
+feed_at [] p i d lt = absurd (omega (arith, lt))
+feed_at (b ∷ bytes) p zero d lt = (kept_byte b (plain_parts b bytes p).0).0
+feed_at (b ∷ bytes) p (suc i) d lt = feed_at bytes (plain_parts b bytes p).1 i d (omega (arith, lt))
+
+return_at : (bytes : List ℕ) (i : ℕ) → IsPlain bytes → eqb (slice_index bytes i) 13 ≡ false
+return_at [] i p = refl
+return_at (b ∷ bytes) zero p = (kept_byte b (plain_parts b bytes p).0).1
+return_at (b ∷ bytes) (suc i) p = return_at bytes i (plain_parts b bytes p).1
+
+if_not : (b : Bool) (x y : List ℕ) → b ≡ false → (if b then x else y) ≡ y
+if_not true x y h = absurd (cc)
+if_not false x y h = refl
+
+stays : (line : List ℕ) → IsPlain line → strip_carriage_return line ≡ line
+stays line p = if_not (eqb (slice_index line (length line - 1)) 13) (take (length line - 1) line) line (return_at line (length line - 1) p)
+
+pub first_line : (line rest : List ℕ) → IsPlain line → lines ((line ++ codes "\n") ++ rest) ≡ line ∷ lines rest
+first_line line rest p =
+    ap lines (append_assoc line (codes "\n") rest) ∙ lines_at line rest (feed_at line p) ∙ ap (λ (l : List ℕ). l ∷ lines rest) (stays line p)
+
+own_lines : (own : List (List ℕ)) (rest : List ℕ) → Each own → lines (flat_map ended_line own ++ rest) ≡ own ++ lines rest
+own_lines [] rest each = refl
+own_lines (line ∷ own) rest each =
+    ap lines (append_assoc (ended_line line) (flat_map ended_line own) rest) ∙ first_line line (flat_map ended_line own ++ rest) each.0.0 ∙ ap (λ (l : List (List ℕ)). line ∷ l) (own_lines own rest each.1)
+
+keeps : (line : List ℕ) → bytes_eq line (codes "ok") ≡ false → unless_ok line ≡ ended_line line
+keeps line h = rw h refl
+
+kept_own : (own : List (List ℕ)) → Each own → flat_map unless_ok own ≡ flat_map ended_line own
+kept_own [] each = refl
+kept_own (line ∷ own) each = ap₂ (λ (a b : List ℕ). a ++ b) (keeps line each.0.1) (kept_own own each.1)
+
+none_refuses : (own : List (List ℕ)) → Each own → list_any is_refusal own ≡ false
+none_refuses [] each = refl
+none_refuses (line ∷ own) each = or_from (is_refusal line) (list_any is_refusal own) each.0.2 (none_refuses own each.1)
+
+-- the lines of an answer, and those behind it
+answer_lines : (own : List (List ℕ)) (rest : List ℕ) → Each own → lines ((flat_map ended_line own ++ codes "ok\n") ++ rest) ≡ own ++ (codes "ok" ∷ lines rest)
+answer_lines own rest each =
+    ap lines (append_assoc (flat_map ended_line own) (codes "ok\n") rest) ∙ own_lines own (codes "ok\n" ++ rest) each ∙ ap (λ (l : List (List ℕ)). own ++ l) (first_line (codes "ok") rest refl)
+
+without_answer : (own : List (List ℕ)) (rest : List ℕ) → Each own → without_ok ((flat_map ended_line own ++ codes "ok\n") ++ rest) ≡ flat_map ended_line own ++ without_ok rest
+without_answer own rest each =
+    ap (flat_map unless_ok) (answer_lines own rest each) ∙ flat_map-append unless_ok own (codes "ok" ∷ lines rest) ∙ ap (λ (l : List ℕ). l ++ without_ok rest) (kept_own own each)
+
+pub without_more : (printed rest : List ℕ) → AreOwn printed → without_ok ((printed ++ codes "ok\n") ++ rest) ≡ printed ++ without_ok rest
+without_more printed rest (own, each, is) = subst (λ (l : List ℕ). without_ok ((l ++ codes "ok\n") ++ rest) ≡ l ++ without_ok rest) (sym is) (without_answer own rest each)
+
+pub refuses_more : (printed rest : List ℕ) → AreOwn printed → refuses ((printed ++ codes "ok\n") ++ rest) ≡ refuses rest
+refuses_more printed rest (own, each, is) =
+    subst (λ (l : List ℕ). refuses ((l ++ codes "ok\n") ++ rest) ≡ refuses rest) (sym is)
+    (ap (list_any is_refusal) (answer_lines own rest each) ∙ list_any-append is_refusal own (codes "ok" ∷ lines rest) ∙ ap (λ (b : Bool). b || refuses rest) (none_refuses own each))

@@ -1,0 +1,14 @@
+-- What the command `play` writes. This project's profile.
+use Rattle.std.specs.Prelude.{◌≡◌, ℕ, List}
+use Rattle.sci_play.specs.Plays.{IsPlay}
+use Rattle.sci_races.specs.Race.{RaceState}
+use Rattle.sci_trace.specs.Pages.{play_page}
+use Rattle.sci_serve.specs.declared.racing.RaceFault.{RaceFault}
+use Rattle.sci_serve.specs.Races.{Halts, IsRaceIn}
+
+-- this is the page of a script and of all states that turns of the calls which it leaves open lead to, at most so many
+abbrev pub Plays : ℕ → List ℕ → List ℕ → Type 0
+Plays most input page = (race : RaceState) × IsRaceIn input race × (text : List ℕ) × IsPlay most race text × (page ≡ play_page input text)
+
+abbrev pub StopsPlaying : ℕ → RaceFault → List ℕ → List ℕ → Type 0
+StopsPlaying most e input written = Halts (Plays most input) most e input written

@@ -1,0 +1,42 @@
+//! Laws of what is written of a script.
+ghost use Rattle.std.specs.Prelude.{◌≡◌, ◌<◌, ◌++◌, ℕ, false, List, Ok, Some};
+ghost use Rattle.std.specs.List.{flat_map};
+ghost use Rattle.std.specs.Str.Lines.{lines};
+ghost use Rattle.sci_core.specs.declared.events.Event.{Event};
+ghost use Rattle.sci_dump.specs.ReadBack.{IsContent};
+ghost use Rattle.sci_follow.specs.LineText.{memory_at, noted_at, opening_at};
+ghost use Rattle.sci_script.specs.Size.{IsSize};
+ghost use Rattle.sci_script.specs.declared.watching.Ending.{Ending};
+ghost use Rattle.sci_script.specs.declared.watching.Passed.{Passed};
+ghost use Rattle.sci_serve.specs.ReadBack.{IsBehind, IsReadAs, MayEnd, claim_of, look_of, noted_of, told_of};
+ghost use Rattle.sci_trace.specs.Entries.{exchange_line, log_head, look_line, opening_line};
+ghost use Rattle.sci_script.specs.declared.commands.Size.{Size};
+ghost use Rattle.sci_script.specs.declared.commands.Opening.{Opening};
+ghost use Rattle.sci_script.specs.declared.commands.Step.{Step};
+ghost use Rattle.sci_script.specs.Format.{script_of};
+ghost use Rattle.sci_script.specs.ScriptText.{IsTextOf};
+ghost use Rattle.sci_script.specs.Talks.{Standing, Silent};
+ghost use Rattle.sci_serve.specs.declared.scripts.Form.TheVariants as forms;
+ghost use Rattle.sci_serve.specs.Accepted.{refuses, without_ok};
+ghost use Rattle.sci_serve.specs.Serve.{Serves};
+ghost use Rattle.sci_serve.specs.Talked.{Talks};
+
+/// What `serve_script` writes of a script that ends is what `serve_talk` writes without its lines `ok`, and the other way round where no
+/// line is refused. It computes nothing: its contract is the law, of every text that is a script and of all that may be written.
+pub fn script_is_talked()
+    ensures talked { (input text : List ℕ) → Serves forms.Script input text
+        → (talk : List ℕ) × (t : Standing) × Talks Silent (lines input) talk t × (refuses talk ≡ false) × (without_ok talk ≡ text) }
+    ensures printed { (input talk : List ℕ) (script : Size × ℕ × List Opening × List Step) (t : Standing) → script_of input ≡ Ok script
+        → Talks Silent (lines input) talk t → refuses talk ≡ false → IsTextOf script.0 script.1 script.2 script.3 (without_ok talk) }
+{}
+
+/// What `trace --log` writes line by line is read by `follow` as what it tells: the size, what a line opens with, each look, and each
+/// exchange with its outcome.
+pub fn entries_are_read_back()
+    ensures memory { (size : Size) (openings : List Opening) → IsSize size
+        → (line : List ℕ) × (log_head size openings ≡ line ++ flat_map opening_line openings) × IsReadAs memory_at line size }
+    ensures openings { (opening : Opening) → opening.line < 65536 → IsContent opening.content → IsReadAs opening_at (opening_line opening) (opening.line, opening.content) }
+    ensures looks { (node line : ℕ) → node < 65535 → line < 65536 → IsReadAs noted_at (look_line node line) (look_of node line) }
+    ensures exchanges { (node : ℕ) (passed : Passed) (event : Event) (ending : Ending) → passed.step ≡ Some (event, ending) → node < 65535 → passed.line < 65536
+        → IsBehind passed.load event → MayEnd (told_of passed.load event) ending → IsReadAs noted_at (exchange_line node passed) (noted_of node passed event ending) }
+{}

@@ -1,0 +1,79 @@
+//! Why lines are refused, told beside what is written.
+ghost use Rattle.std.specs.Prelude.{◌≡◌, ◌≤◌, IsTrue, false, length, IfSome};
+ghost use Rattle.sci_serve.specs.Explained.{IsExplained};
+
+use crate::faults::SimFault;
+use sci_script::{Reason, ScriptRefusal, why_script};
+use std::alloc::Global;
+
+/// Whom the reasons of refusals are told to.
+pub trait Explain {
+    /// Whether they are wanted.
+    fn is_wanted(&self) -> bool;
+
+    /// A line was answered; where it was refused, and why is known, this is why.
+    fn explain(&self, why: Option<Reason>);
+}
+
+/// Reasons aren't told.
+#[derive(Clone, Copy, Debug, PartialEq, Eq)]
+pub struct Untold;
+
+impl Explain for Untold {
+    fn is_wanted(&self) -> bool
+        ensures { result ≡ false }
+    {
+        false
+    }
+
+    fn explain(&self, _why: Option<Reason>) {}
+}
+
+/// Each reason is a line of the console.
+#[derive(Drop)]
+pub struct Told<'c, C> {
+    console: &'c C,
+}
+
+impl<'c, C> Told<'c, C> {
+    /// Reasons are told to this console.
+    pub fn new(console: &'c C) -> Told<'c, C> {
+        Told { console }
+    }
+}
+
+impl<C: Eprint> Explain for Told<'_, C> {
+    fn is_wanted(&self) -> bool
+        ensures { IsTrue result }
+    {
+        true
+    }
+
+    fn explain(&self, why: Option<Reason>) {
+        if let Some(reason) = why {
+            // a line that isn't written changes nothing of the talk
+            let _ = eprintln!(self.console; "{reason}");
+        }
+    }
+}
+
+/// Why a command over a script, as `serve` or `serve_outcomes`, is refused so, in words: of a line that is faulty, or of one that is
+/// refused as it is run. None where the fault is of no line, or memory ran out.
+pub fn explanation(alloc: Global, fault: SimFault, input: &[u8]) -> Option<Reason>
+    requires { length input.now ≤ 1048576 }
+    ensures { IfSome result (λ reason. IsExplained input.now reason) }
+{
+    let is_of_line = matches!(
+        fault,
+        SimFault::Refused(
+            ScriptRefusal::BadCommand(_) | ScriptRefusal::BadNumber(_) | ScriptRefusal::NotDone(_),
+        )
+    );
+    if !is_of_line {
+        return None;
+    }
+    match why_script(alloc, input) {
+        Ok(why) => why,
+        Err(_) => None,
+    }
+}

@@ -1,0 +1,85 @@
+"""What the commands over scripts say of a refusal where `--why` asks for more."""
+
+from kinds import AT_LIMIT, CLOSED, FULL, READ, WRITE
+from kinds import Drawn, Little, Traced, refused
+from scripts import LARGEST, ROW, TEXT, UNENDED
+
+# A script, the number and line of its refusal, the reason, and what it prints before.
+REASONS = [
+    ("", "16 at line 1", "memory wanted first", ""),
+    ("# nothing\n", "16 at line 2", "memory wanted first", ""),
+    ("load 0 0 0\nmemory 1 1\n", "16 at line 1", "memory wanted first", ""),
+    ("memory 1 1\nlode 0 0 0\n", "16 at line 2", "unknown command", ""),
+    ("memory 1 1\nlist\x010\n", "16 at line 2", "a byte that is no printable ASCII", ""),
+    ("memory 1 1\nevict 0\n", "16 at line 2", "3 words wanted, 2 found", ""),
+    ("memory 1 1\nload 0 0\n", "16 at line 2", "4 words wanted, 3 found", ""),
+    ("memory 1 1\nstore 0 0 0 1 2\n", "16 at line 2", "5 words wanted, 6 found", ""),
+    ("memory 1 1\nopen 0 0\n", "16 at line 2", "11 words wanted, 3 found", ""),
+    ("memory 1\n", "16 at line 1", "3 words wanted, 2 found", ""),
+    ("memory 1 1\nmemory 1 1\n", "16 at line 2", "too late for this command", ""),
+    ("memory 1 1\nopen 0 0 0 0 0 0 0 0 0 0\ncapacity 1\n", "16 at line 3", "too late for this command", ""),
+    ("memory 1 1\nlist 0\nopen 0 0 0 0 0 0 0 0 0 0\n", "16 at line 3", "too late for this command", ""),
+    ("memory 1025 1\n", "17 at line 1", "word 2: a number from 1 to 1024 wanted", ""),
+    ("memory 1 1\ncapacity 0\n", "17 at line 2", "word 2: a number from 1 to 1024 wanted", ""),
+    ("memory 1 1\nload 0 0 8\n", "17 at line 2", "word 4: a number from 0 to 7 wanted", ""),
+    ("memory 2 3\nload 2 0 0\n", "17 at line 2", "word 2: a number from 0 to 1 wanted", ""),
+    ("memory 2 3\ntag 3 2\n", "17 at line 2", "word 2: a number from 0 to 2 wanted", ""),
+    ("memory 2 3\nturn x\n", "17 at line 2", "word 2: a number from 0 to 1 wanted", ""),
+    ("memory 1 1\nadd 0 0 0 18446744073709551616\n", "17 at line 2", "word 5: a number from 0 to 18446744073709551615 wanted", ""),
+    ("memory 4 1\nload 3 0 0\nload 3 0 0\n", "16 at line 3", "node 3 has a call open", ""),
+    ("memory 1 1\nlist 0\nturn 0\n", "16 at line 3", "node 0 has no call open", "line 0 HOME\n"),
+    ("memory 2 1\ndone 1\n", "16 at line 2", "node 1 has no call open", ""),
+    (UNENDED, "18 at line 7", "node 1 waits for node 0", "node 0 wrote stamp 1\n"),
+    # A head that is to leave, and in front of which another stands by now, has no step pending.
+    (
+        "memory 2 1\nstore 0 0 0 7\ndone 0\nevict 0 0\nturn 0\nload 1 0 0\nturn 1\nturn 1\nturn 0\ndone 0\n",
+        "18 at line 10",
+        "node 0 is Idle, and waits",
+        "node 0 wrote stamp 1\n",
+    ),
+    # Its victim is another node's to purge first.
+    (
+        "memory 2 2\ncapacity 1\nload 1 0 0\ndone 1\nload 0 0 0\ndone 0\nstore 0 0 0 5\nturn 0\nturn 0\nturn 0\nturn 0\nload 1 1 0\ndone 1\n",
+        "18 at line 13",
+        "node 1 is Idle, and waits",
+        "node 1 read 0 stamp 0\nnode 0 read 0 stamp 0\n",
+    ),
+]
+
+ONE, ONE_TEXT = "memory 1 1\nload 0 0 0\nload 0 0 0\n", "16 at line 3"
+OPEN = refused(ONE_TEXT) + "node 0 has a call open\n"
+SAID = "load 0 0 0\nmemory 1 1\nturn 0\nlode\nload 0 0\nload 0 0 8\nload 0 0 0\nload 0 0 0\ndone 0\ndone 0\n"
+ANSWERED = "refused 16\nok\nrefused 16\nrefused 16\nrefused 16\nrefused 17\nok\nrefused 16\nnode 0 read 0 stamp 0\nok\nrefused 16\n"
+WHYS = (
+    "memory wanted first\nnode 0 has no call open\nunknown command\n4 words wanted, 3 found\nword 4: a number from 0 to 7 wanted\n"
+    "node 0 has a call open\nnode 0 has no call open\n"
+)
+# Each reason stands behind the answer that it is of.
+MIXED = (
+    "refused 16\nmemory wanted first\nok\nrefused 16\nnode 0 has no call open\nrefused 16\nunknown command\nrefused 16\n4 words wanted, 3 found\n"
+    "refused 17\nword 4: a number from 0 to 7 wanted\nok\nrefused 16\nnode 0 has a call open\nnode 0 read 0 stamp 0\nok\nrefused 16\n"
+    "node 0 has no call open\n"
+)
+
+CASES = [
+    *[(["script", "--why"], script, 1, text, refused(rest) + why + "\n") for script, rest, why, text in REASONS],
+    *[(["trace", "--why"], script, 1, Traced(text), refused(rest) + why + "\n") for script, rest, why, text in REASONS],
+    *[(["draw", "--why"], script, 1, Drawn(text), refused(rest) + why + "\n") for script, rest, why, text in REASONS],
+    *[(["outcomes", "--why"], script, 1, "", refused(rest) + why + "\n") for script, rest, why, _ in REASONS],
+    (["script", "--why"], ROW, 0, TEXT, ""),
+    (["script", "--why", "row"], "", 0, TEXT, ""),
+    (["script", "bad", "--why"], "", 1, "", refused("17 at line 1") + "word 2: a number from 1 to 1024 wanted\n"),
+    (["trace", "--log", "--why"], ONE, 1, "memory 1 1\n", OPEN),
+    (["script", "--why", "long"], "", 1, "", refused("23")),
+    (["script", "--why"], AT_LIMIT, 1, "", refused("16 at line 2") + "memory wanted first\n"),
+    (["script", "--why", "missing"], "", 1, "", READ),
+    (["script", "--why"], CLOSED, 1, "", READ),
+    (["script", "--why"], ROW, 1, FULL, WRITE),
+    (["script", "--why"], ONE, 1, "", CLOSED),
+    (["script", "--why"], Little(LARGEST), 1, "", refused("7")),
+    (["outcomes", "--why", "--most", "1"], "memory 1 1\nload 0 0 0\n", 1, "", "scisim: too many states\n"),
+    (["talk", "--why"], SAID, 0, ANSWERED, WHYS),
+    (["talk", "--why"], AT_LIMIT + "xx\n" + AT_LIMIT + "x\n", 0, "refused 16\nrefused 16\n", "a line of more than 1048576 bytes\n" * 2),
+    (["talk", "--why"], UNENDED, 0, "ok\nok\nnode 0 wrote stamp 1\nok\nok\nok\nok\nrefused 18\n", "node 1 waits for node 0\n"),
+    (["talk", "--why"], "memory 1 1\nlode\nlist 0\n", 0, "ok\nrefused 16\nline 0 HOME\nok\n", CLOSED),
+]
