@@ -1,12 +1,18 @@
-//! A law of scripts.
-ghost use Rattle.std.specs.Prelude.{◌≡◌, ℕ, List, Ok};
+//! Laws of scripts.
+ghost use Rattle.std.specs.Prelude.{◌≡◌, ℕ, List, Ok, Some, take, slice_get};
 ghost use Rattle.std.specs.Str.Lines.{lines};
 ghost use Rattle.sci_script.specs.declared.commands.Size.{Size};
 ghost use Rattle.sci_script.specs.declared.commands.Opening.{Opening};
 ghost use Rattle.sci_script.specs.declared.commands.Step.{Step};
+ghost use Rattle.sci_script.specs.declared.commands.Command.{Command};
+ghost use Rattle.sci_script.specs.declared.refusals.ScriptRefusal.TheVariants.{NotDone};
 ghost use Rattle.sci_script.specs.Format.{script_of};
-ghost use Rattle.sci_script.specs.ScriptText.{IsTextOf};
-ghost use Rattle.sci_script.specs.Talks.{Says, Silent};
+ghost use Rattle.sci_script.specs.Request.{no_words};
+ghost use Rattle.sci_script.specs.Run.{IsNoRest, PrintsAll, StopsAt};
+ghost use Rattle.sci_script.specs.ScriptText.{IsTextOf, Opens};
+ghost use Rattle.sci_script.specs.Shared.{Shared, shared_is_open, shared_does};
+ghost use Rattle.sci_script.specs.Size.{AreIn, IsSize};
+ghost use Rattle.sci_script.specs.Talks.{Hears, Says, Silent, Standing, Stops, command_of};
 
 /// A script's text is what its lines print, said one by one (`Talk::say`), part by part, each of them accepted. It computes nothing: its
 /// contract is the law, of every text that is a script and of all that it may print.
@@ -15,4 +21,16 @@ pub fn script_is_said()
         → IsTextOf script.0 script.1 script.2 script.3 text → Says Silent (lines input) text }
     ensures heard { (input text : List ℕ) (script : Size × ℕ × List Opening × List Step) → script_of input ≡ Ok script
         → Says Silent (lines input) text → IsTextOf script.0 script.1 script.2 script.3 text }
+{}
+
+/// `rest` and `end` are never refused 18 over whole lines: whatever commands of a script were run before. It computes nothing: its contract
+/// is the law. A command that stops with 18 (`Script::run` over a `WholeDesk`, and whatever else runs a script) is another. `rest`
+/// always finds a node that moves, and at rest a call ends within 2 * (3 * n + 16) turns of n nodes, 6,176 at most.
+pub fn rest_and_end_are_done()
+    ensures run { (size : Size) (capacity : ℕ) (openings : List Opening) (steps : List Step) (step : Step) (k n : ℕ) (text : List ℕ) (s mid t : Shared) → IsSize size → AreIn size steps
+        → Opens size capacity openings s → PrintsAll shared_is_open shared_does no_words s (take k steps) text mid → slice_get steps k ≡ Some step
+        → StopsAt shared_is_open shared_does size.nodes mid step (NotDone n) t → IsNoRest step.command }
+    ensures read { (input : List ℕ) (script : Size × ℕ × List Opening × List Step) → script_of input ≡ Ok script → IsSize script.0 × AreIn script.0 script.3 }
+    ensures talk { (before words : List (List ℕ)) (command : Command) (n : ℕ) (s t : Standing) → Hears Silent before s → command_of s words ≡ Ok (Some command)
+        → Stops s command (NotDone n) t → IsNoRest command }
 {}
