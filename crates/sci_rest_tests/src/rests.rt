@@ -153,6 +153,9 @@ fn operations_end(rt: HostRuntime) -> Result<(), Fail> {
     };
     let first = wrote([0; 8], 1);
     let second = wrote([0, 7, 0, 0, 0, 0, 0, 0], 2);
-    assert_eq!(rt; answers, Some([Some(Answer::Out), Some(seen), first, second]));
+    assert_eq!(rt;
+        answers,
+        Some([Some(Answer::Out), Some(seen), first, second])
+    );
     Ok(())
 }

@@ -26,9 +26,10 @@ module _ (n : ℕ) (s : State) (h : HasNoCircle n s) where
 
   -- a node that waits stands no lower than itself
   other : (i y : ℕ) → Waits n s i y → (z : ℕ) → Lower i z → eqb i z ≡ false
-  other i y a z f = ⊎_elim (λ q. let less = f y (subst (λ (j : ℕ). Waits n s j y) q a) in absurd (omega (arith, less, q))) (λ d. grind (arith, nat_tests, d)) (cases_eq i z)
+  other i y a z f = ⊎_elim (λ q. let less : h.0 z < h.0 z = subst (λ (j : ℕ). h.0 z < h.0 j) q (f y (subst (λ (j : ℕ). Waits n s j y) q a)) in absurd (omega (arith, less))) (λ d. grind (arith, nat_tests, d)) (cases_eq i z)
 
   apart : (nodes : List ℕ) → EachWaits n s nodes → IsDistinct eqb nodes
+  unfolding IsDistinct
   apart [] c = tt
   apart (i ∷ []) c = (tt, tt)
   apart (i ∷ (y ∷ more)) c = (mapped (Lower i) (λ z. eqb i z ≡ false) (other i y c.1) (y ∷ more) (all_lower i y more c.1 c.2.1 c.2.2), apart (y ∷ more) c.2)
