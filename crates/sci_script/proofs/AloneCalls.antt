@@ -10,7 +10,7 @@ use Rattle.sci_ops.specs.declared.answers.Turn.{Turn}
 use Rattle.sci_ops.specs.declared.goals.Goal.{Goal}
 use Rattle.sci_ops.specs.Alone.{TakesTurn, on_line}
 use Rattle.sci_ops.specs.Operation.{Operation}
-use Rattle.sci_ops.specs.Plan.{Plan, Follows, Takes, ends}
+use Rattle.sci_ops.specs.Plan.{Follows, Takes, ends}
 use Rattle.sci_ops.specs.Table.{turn_again, begun}
 use Rattle.sci_ops.proofs.Ending.Counting.{updated}
 use Rattle.sci_ops.proofs.Ending.Falls.{alone_at_rest, bound_at_rest, turn_falls}

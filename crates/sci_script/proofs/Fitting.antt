@@ -1,5 +1,5 @@
 -- A script that was read has a size, and its commands are of what there is.
-use Rattle.std.proofs.Common.{◌≡◌, ◌<◌, ◌≤◌, ◌-◌, ◌^◌, ◌&&◌, ℕ, Bool, true, false, nat_le, nat_lt, nat_eq, List, [], ◌∷◌, length, ◌==◌, Option, Some, None, Result, Ok, Err, codes, if◌then◌else◌, refl, sym, subst, arith}
+use Rattle.std.proofs.Common.{◌≡◌, ◌<◌, ◌≤◌, ◌-◌, ◌&&◌, ℕ, Bool, true, false, nat_le, nat_lt, List, [], ◌∷◌, Option, Some, None, Result, Ok, Err, codes, if◌then◌else◌, refl, subst, arith}
 use Rattle.std.proofs.lemmas.Bool.{eq-eqb}
 use Rattle.std.proofs.lemmas.Bool.Decides.{nat_tests}
 use Rattle.std.specs.List.{list_all}
@@ -9,14 +9,13 @@ use Rattle.sci_core.specs.declared.whole.TheConstants.{MOST_NODES}
 use Rattle.sci_script.specs.declared.commands.Command.{Command}
 use Rattle.sci_script.specs.declared.commands.Command.TheVariants.{Begin, Turn, Done, Rest, End, List as ListLine, Tag as ShowTag, Residents}
 use Rattle.sci_script.specs.declared.commands.Opening.{Opening}
-use Rattle.sci_script.specs.declared.commands.Request.{Request}
 use Rattle.sci_script.specs.declared.commands.Request.TheVariants.{Load, Store, Add, Evict}
 use Rattle.sci_script.specs.declared.commands.Size.{Size}
 use Rattle.sci_script.specs.declared.commands.Step.{Step}
 use Rattle.sci_script.specs.declared.refusals.ScriptRefusal.{ScriptRefusal}
 use Rattle.sci_script.specs.declared.refusals.ScriptRefusal.TheVariants.{BadCommand, BadNumber}
 use Rattle.sci_script.specs.Format.{◌>>=◌, within, node_at, line_at, value_at, words_at, size_at, place_at, change_at, load_at, store_at, add_at, evict_at, turn_at, done_at, rest_at, end_at, list_at, tag_at, residents_at, other_at, command_at, openings_of, capacity_of, entries_from, steps_of, sized_script, meaning_of, script_of}
-use Rattle.sci_script.specs.Size.{AreIn, IsIn, IsSize, is_in, is_request}
+use Rattle.sci_script.specs.Size.{AreIn, IsIn, IsSize, is_in}
 use Rattle.sci_script.specs.Words.{number_of}
 use Rattle.sci_script.proofs.Arguments.{below, begin_fits}
 
@@ -173,7 +172,7 @@ module _ (n : ℕ) (size : Size) (few : IsSize size) where
   unfolding Of
   reads_command words command e = reads_of words command e
 
-both_true : (a b : Bool) → a ≡ true → b ≡ true → a && b ≡ true
+pub both_true : (a b : Bool) → a ≡ true → b ≡ true → a && b ≡ true
 both_true true b h k = k
 both_true false b h k = h
 

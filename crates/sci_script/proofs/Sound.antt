@@ -1,5 +1,5 @@
 -- A script's memory stays lawful, and its calls stay on its lines.
-use Rattle.std.proofs.Common.{◌≡◌, ◌<◌, ℕ, Bool, true, false, if◌then◌else◌, List, Option, Some, None, refl, sym, ap, subst, ◌∙◌, ⊎_elim}
+use Rattle.std.proofs.Common.{◌≡◌, ◌<◌, ℕ, Bool, true, false, if◌then◌else◌, List, Option, Some, None, refl, sym, subst, ◌∙◌, ⊎_elim}
 use Rattle.std.proofs.lemmas.Bool.{cases_eq}
 use Rattle.sci_core.specs.State.{State, update}
 use Rattle.sci_core.specs.Whole.{IsRuled}
@@ -11,7 +11,7 @@ use Rattle.sci_ops.specs.Table.{begun}
 use Rattle.sci_ops.proofs.Ending.Counting.{updated, not_updated}
 use Rattle.sci_cache.specs.declared.calls.OpenCall.{OpenCall}
 use Rattle.sci_cache.specs.declared.requests.Request.{Request}
-use Rattle.sci_cache.specs.Nodes.{NodeState, IsLine, IsSoundCall, IsSoundNode, call_after, line_by, node_after, node_with, op_by, residents_after, residents_with, taken_by, victim_with}
+use Rattle.sci_cache.specs.Nodes.{NodeState, IsLine, IsSoundCall, IsSoundNode, call_after, line_by, node_after, node_with, op_by, residents_after, taken_by}
 use Rattle.sci_cache.specs.Requests.{line_of, is_evict}
 use Rattle.sci_cache.specs.Residents.{AreBelow, displaced_by, used}
 use Rattle.sci_cache.proofs.Ordered.{below_displaced, below_used, below_without}
@@ -63,7 +63,7 @@ sound_after k c turn is h = record {
   call = sound_call k.lines c c.victim turn (subst (λ (x : Option OpenCall). IsSoundCall k.lines x) is h.call);
 }
 
-line_below : (lines line : ℕ) (victim : Option ℕ) → line < lines → IsLine lines victim → line_by victim line < lines
+pub line_below : (lines line : ℕ) (victim : Option ℕ) → line < lines → IsLine lines victim → line_by victim line < lines
 line_below lines line None inside h = inside
 line_below lines line (Some victim) inside h = h
 

@@ -1,18 +1,18 @@
 -- A talk's desk stays lawful, whatever was said and whatever was refused.
-use Rattle.std.proofs.Common.{◌≡◌, ◌⊎◌, ℕ, Bool, true, false, List, [], ◌∷◌, Option, Some, None, Result, Ok, Err, sym, subst, ⊎_elim}
+use Rattle.std.proofs.Common.{◌≡◌, ◌⊎◌, ℕ, Bool, true, false, List, [], ◌∷◌, Option, Some, None, Result, Ok, Err, refl, sym, subst, ⊎_elim}
 use Rattle.sci_script.specs.declared.commands.Command.{Command}
 use Rattle.sci_script.specs.declared.commands.Opening.{Opening}
 use Rattle.sci_script.specs.declared.commands.Size.{Size}
 use Rattle.sci_script.specs.declared.refusals.ScriptRefusal.{ScriptRefusal}
-use Rattle.sci_script.specs.declared.refusals.ScriptRefusal.TheVariants.{OutOfMemory, BadCommand, BadNumber, NotDone, WriteFailed}
+use Rattle.sci_script.specs.declared.refusals.ScriptRefusal.TheVariants.{NotDone}
 use Rattle.sci_script.specs.declared.talk.Said.{Said}
 use Rattle.sci_script.specs.declared.talk.Said.TheVariants.{Bound, Opened, Commanded}
-use Rattle.sci_script.specs.Format.{◌>>=◌, Fails, words_at, size_at, bound_of, opening_of, command_at}
+use Rattle.sci_script.specs.Format.{◌>>=◌, bound_of, opening_of, command_at}
 use Rattle.sci_script.specs.Request.{no_words}
-use Rattle.sci_script.specs.Run.{IsNoRest, StopsAt}
-use Rattle.sci_script.specs.Shared.{Shared, shared_is_open, shared_does}
+use Rattle.sci_script.specs.Run.{IsNoRest}
+use Rattle.sci_script.specs.Shared.{shared_is_open, shared_does}
 use Rattle.sci_script.specs.Size.{IsIn, IsSize}
-use Rattle.sci_script.specs.Talks.{Standing, Silent, Gathering, Going, Accepts, AcceptsBy, Declines, FailsFirst, Gathers, Hears, Refuses, Stops, Takes, command_of, commanded, said_at, said_behind, said_step}
+use Rattle.sci_script.specs.Talks.{Standing, Silent, Gathering, Going, AcceptsBy, Declines, Gathers, Hears, Refuses, Stops, Takes, command_of, commanded, said_at, said_behind, said_step}
 use Rattle.sci_script.specs.Words.{is_skipped}
 use Rattle.sci_script.proofs.Fitting.{Reads, reads_command, reads_size, reads_then}
 use Rattle.sci_script.proofs.Lasting.{prints_keeps, stops_keeps}
@@ -31,22 +31,30 @@ ok_of size said h x e = let q : said ≡ x = cc in subst (λ (y : Said). IsOf si
 any_of : {A : Type 0} (r : Result A ScriptRefusal) → Reads (λ (a : A). Unit {0}) r
 any_of r x e = tt
 
+behind_by : (size : Size) (words : List (List ℕ)) → IsSize size → (found : Option Opening) → Reads (IsOf size) (elim found [
+  | None ↦ command_at 1 size words >>= λ command. Ok (Commanded command)
+  | Some opening ↦ Ok (Opened opening)
+])
+unfolding IsOf
+behind_by size words few None = reads_then (λ command. IsIn size command) (IsOf size) (command_at 1 size words) _ (reads_command 1 size few words) (λ command f. ok_of size (Commanded command) f)
+behind_by size words few (Some opening) = ok_of size (Opened opening) tt
+
 behind_of : (size : Size) (words : List (List ℕ)) → IsSize size → Reads (IsOf size) (said_behind size words)
-unfolding said_behind IsOf
-behind_of size words few = reads_then (λ found. Unit {0}) (IsOf size) (opening_of 1 size words) _ (any_of (opening_of 1 size words))
-    (λ found u. elim found [
-      | None ↦ reads_then (λ command. IsIn size command) (IsOf size) (command_at 1 size words) _ (reads_command 1 size few words) (λ command f. ok_of size (Commanded command) f)
-      | Some opening ↦ ok_of size (Opened opening) tt
-    ])
+unfolding said_behind
+behind_of size words few = reads_then (λ found. Unit {0}) (IsOf size) (opening_of 1 size words) _ (any_of (opening_of 1 size words)) (λ found u. behind_by size words few found)
+
+said_by : (size : Size) (words : List (List ℕ)) → IsSize size → (found : Option ℕ) → Reads (IsOf size) (elim found [
+  | None ↦ said_behind size words
+  | Some capacity ↦ Ok (Bound capacity)
+])
+unfolding IsOf
+said_by size words few None = behind_of size words few
+said_by size words few (Some capacity) = ok_of size (Bound capacity) tt
 
 said_of : (bare : Bool) (size : Size) (words : List (List ℕ)) → IsSize size → Reads (IsOf size) (said_at bare size words)
-unfolding said_at IsOf
+unfolding said_at
 said_of false size words few = behind_of size words few
-said_of true size words few = reads_then (λ found. Unit {0}) (IsOf size) (bound_of 1 words) _ (any_of (bound_of 1 words))
-    (λ found u. elim found [
-      | None ↦ behind_of size words few
-      | Some capacity ↦ ok_of size (Bound capacity) tt
-    ])
+said_of true size words few = reads_then (λ found. Unit {0}) (IsOf size) (bound_of 1 words) _ (any_of (bound_of 1 words)) (λ found u. said_by size words few found)
 
 -- the desk, where there is one, is lawful
 abbrev IsSteady : Standing → Type 0

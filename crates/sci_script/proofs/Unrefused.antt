@@ -1,29 +1,29 @@
 -- `end` is never without an end, on a script's memory.
-use Rattle.std.proofs.Common.{◌≡◌, ◌≢◌, ◌<◌, ◌≤◌, ◌+◌, ◌*◌, ℕ, zero, suc, Bool, true, false, is_some, ◌&&◌, List, [], ◌∷◌, Option, Some, None, take, slice_get, refl, sym, ap, subst, ◌∙◌, ⊎_elim, arith}
+use Rattle.std.proofs.Common.{◌≡◌, ◌≢◌, ◌<◌, ◌≤◌, ◌+◌, ℕ, zero, suc, Bool, true, false, ◌&&◌, List, [], ◌∷◌, Option, Some, None, take, slice_get, refl, sym, ap, subst, ◌∙◌, ⊎_elim, arith}
 use Rattle.std.proofs.lemmas.Bool.{cases_eq}
 use Rattle.std.specs.List.{list_all}
-use Rattle.sci_core.specs.declared.whole.TheConstants.{MOST_NODES}
 use Rattle.sci_core.specs.Progress.{IsAtRest}
 use Rattle.sci_core.specs.State.{State}
 use Rattle.sci_ops.specs.declared.answers.Turn.{Turn}
 use Rattle.sci_cache.specs.declared.calls.OpenCall.{OpenCall}
-use Rattle.sci_cache.specs.Nodes.{IsLine, IsSoundCall, line_by}
+use Rattle.sci_cache.specs.Nodes.{IsSoundCall}
 use Rattle.sci_script.specs.declared.commands.Command.{Command}
-use Rattle.sci_script.specs.declared.commands.Command.TheVariants.{Begin, Turn as TurnOnce, Done, Rest as RestLines, End, List as ListLine, Tag as ShowTag, Residents}
+use Rattle.sci_script.specs.declared.commands.Command.TheVariants.{Done, Rest as RestLines, End}
 use Rattle.sci_script.specs.declared.commands.Opening.{Opening}
 use Rattle.sci_script.specs.declared.commands.Size.{Size}
 use Rattle.sci_script.specs.declared.commands.Step.{Step}
 use Rattle.sci_script.specs.declared.desk.Toward.{Toward}
 use Rattle.sci_script.specs.declared.refusals.ScriptRefusal.TheVariants.{NotDone}
-use Rattle.sci_script.specs.Event.{Event, Turned, IsEnd, IsNoEnd}
+use Rattle.sci_script.specs.Event.{Turned, IsEnd, IsNoEnd}
 use Rattle.sci_script.specs.Request.{no_words}
 use Rattle.sci_script.specs.Run.{Unended, Calms, CalmsTo, RestsLines, RestsNot, CallEnds, EndsOpenBy, EndsOpen, EndsTo, IsNoRest, IsUnended, PrintsAll, StopsAt}
 use Rattle.sci_script.specs.ScriptText.{Opens}
 use Rattle.sci_script.specs.Shared.{Shared, shared_is_open, shared_does}
 use Rattle.sci_script.specs.Size.{AreIn, IsIn, IsSize, is_in}
 use Rattle.sci_script.proofs.AloneCalls.{IsOn, Rest, Stands, Comes, comes, left, left_at_rest, open_stands}
+use Rattle.sci_script.proofs.Fitting.{both_true}
 use Rattle.sci_script.proofs.Lasting.{all_keep, end_in, rests_keeps, unended_keeps}
-use Rattle.sci_script.proofs.Sound.{IsSound, call_in, does_keeps, opens_sound, turn_lent}
+use Rattle.sci_script.proofs.Sound.{IsSound, call_in, does_keeps, line_below, opens_sound, turn_lent}
 
 -- ---- lines that were brought to rest are at rest
 
@@ -51,11 +51,7 @@ module _ (size : Size) where
   -- how a node's call stands there
   is_on : (call : Option OpenCall) → IsSoundCall size.lines call → IsOn inside call
   is_on None h = tt
-  is_on (Some c) h = (h.0, on_by c.line c.victim h.0 h.2)
-    where
-      on_by : (line : ℕ) (victim : Option ℕ) → line < size.lines → IsLine size.lines victim → line_by victim line < size.lines
-      on_by line None a b = a
-      on_by line (Some victim) a b = b
+  is_on (Some c) h = (h.0, line_below size.lines c.line c.victim h.0 h.2)
 
   -- what is left of a call behind turns that don't end it
   moved_on : (me : ℕ) (s t : Shared) (o : Turn) (k most : ℕ) → IsNoEnd o → Comes inside me s (s.nodes me).call o t → left me s (s.nodes me).call + k ≤ most → Stands inside me t (t.nodes me).call × (left me t (t.nodes me).call + suc k ≤ most)
@@ -136,10 +132,6 @@ first_true false b h = h
 second_true : (a b : Bool) → a && b ≡ true → b ≡ true
 second_true true b h = h
 second_true false b h = absurd (cc)
-
-both_true : (a b : Bool) → a ≡ true → b ≡ true → a && b ≡ true
-both_true true b h k = k
-both_true false b h k = h
 
 -- the commands in front of a place are of what there is, and so is the one there
 front_in : (size : Size) (k : ℕ) (steps : List Step) → AreIn size steps → AreIn size (take k steps)

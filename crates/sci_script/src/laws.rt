@@ -23,9 +23,11 @@ pub fn script_is_said()
         → Says Silent (lines input) text → IsTextOf script.0 script.1 script.2 script.3 text }
 {}
 
-/// `rest` and `end` are never refused 18 over whole lines: whatever commands of a script were run before. It computes nothing: its contract
-/// is the law. A command that stops with 18 (`Script::run` over a `WholeDesk`, and whatever else runs a script) is another. `rest`
-/// always finds a node that moves, and at rest a call ends within 2 * (3 * n + 16) turns of n nodes, 6,176 at most.
+/// `rest` and `end` are never refused 18 over whole lines. It computes nothing: its contract is the law. Of commands that are run one
+/// after another over a desk just opened (`Script::run` over a `WholeDesk`, and so whatever traces, draws or logs a script) one that stops
+/// with 18 is another: `rest` always finds a node that moves, and at rest a call ends within 2 * (3 * n + 16) turns of n nodes, 6,176
+/// at most. A text that is a script has what the law asks of it. So it is of what is said to a talk, whatever was accepted and
+/// refused before.
 pub fn rest_and_end_are_done()
     ensures run { (size : Size) (capacity : ℕ) (openings : List Opening) (steps : List Step) (step : Step) (k n : ℕ) (text : List ℕ) (s mid t : Shared) → IsSize size → AreIn size steps
         → Opens size capacity openings s → PrintsAll shared_is_open shared_does no_words s (take k steps) text mid → slice_get steps k ≡ Some step
