@@ -22,13 +22,19 @@ fn turns_to_rest(desk: &mut WholeDesk, most: u32) -> Option<u32> {
 }
 
 // How many calls ended.
-fn ended(desk: WholeDesk) -> Option<usize> {
+fn ended(desk: WholeDesk) -> Option<u32> {
     if desk.size().nodes != 4 {
         return None;
     }
     let mut answers: [Option<Answer>; 4] = [None; 4];
     let _ = take_to_end(desk, &mut answers);
-    Some(answers.iter().filter(|it| it.is_some()).count())
+    let mut ended: u32 = 0;
+    for answer in &answers {
+        if answer.is_some() {
+            ended = ended.saturating_add(1);
+        }
+    }
+    Some(ended)
 }
 
 #[test]

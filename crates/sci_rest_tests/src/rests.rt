@@ -117,12 +117,11 @@ fn take_to_end(whole: &mut Whole<AnyWords>, ops: &mut [Op])
 
 // What operations of four nodes answer that are taken to their ends, each behind one turn.
 fn answers_of(whole: &mut Whole<AnyWords>, ops: [Op; 4]) -> Option<[Option<Answer>; 4]> {
-    let [mut evict, mut load, mut store, mut add] = ops;
-    let _ = last_turn(whole, 0, &mut evict, 1)?;
-    let _ = last_turn(whole, 1, &mut load, 1)?;
-    let _ = last_turn(whole, 2, &mut store, 1)?;
-    let _ = last_turn(whole, 3, &mut add, 1)?;
-    let mut begun = [evict, load, store, add];
+    let mut begun = ops;
+    let _ = last_turn(whole, 0, &mut begun[0], 1)?;
+    let _ = last_turn(whole, 1, &mut begun[1], 1)?;
+    let _ = last_turn(whole, 2, &mut begun[2], 1)?;
+    let _ = last_turn(whole, 3, &mut begun[3], 1)?;
     if whole.nodes() != 4 {
         return None;
     }
