@@ -1,25 +1,30 @@
 -- The receipts of seats that have kept all are one history, whole; and how they are moved out of the seats.
-use Rattle.std.proofs.Common.{◌≡◌, ℕ, zero, suc, ◌+◌, ◌<◌, ◌≤◌, List, [], ◌∷◌, ◌++◌, All, length, map, reverse, get_or, take, drop, append-nil, vec_items, refl, sym, ap, ◌∙◌, subst, arith}
+use Rattle.std.proofs.Common.{◌≡◌, ℕ, zero, suc, ◌+◌, ◌<◌, ◌≤◌, true, List, [], ◌∷◌, ◌++◌, All, length, map, reverse, get_or, take, drop, append-nil, vec_items, refl, sym, ap, ◌∙◌, subst, arith}
 use Rattle.std.proofs.lemmas.List.{length-map, reverse-append}
 use Rattle.std.proofs.lemmas.List.Elements.{All-head, All-tail}
 use Rattle.std.specs.Global.{Vec}
 use Rattle.sci_core.specs.declared.keeps.Keeps as keeps
 use Rattle.sci_core.specs.declared.lines.Line.{Line}
+use Rattle.sci_core.specs.declared.pending.Pending.{Pending}
 use Rattle.sci_core.specs.declared.receipts.Receipt.{Receipt}
 use Rattle.sci_core.specs.Closed.{ClosedLine}
 use Rattle.sci_core.specs.State.{opened, blank}
 use Rattle.sci_core.proofs.Lawfully.{ruled_value}
 use Rattle.sci_port.specs.declared.calls.Call.{Call}
-use Rattle.sci_port.specs.KeepsTo.{KeepsTo}
-use Rattle.sci_port.specs.ReceiptList.{AreReceiptsOf}
+use Rattle.sci_port.specs.KeepsTo.{KeepsTo, apart, keeps_told}
+use Rattle.sci_port.specs.Readying.{Readying, Readies}
+use Rattle.sci_port.specs.Readying.Readying.{Aimed, Reserved}
+use Rattle.sci_port.specs.ReceiptList.{AreReceiptsOf, ReceiptList}
 use Rattle.sci_port.specs.Receipts.{IsWhole}
 use Rattle.sci_port.specs.Shown.{shown_in, told_in}
 use Rattle.sci_port.proofs.Counted.{run_whole}
+use Rattle.sci_port.proofs.Receiving.{receipts_none, receipts_on}
 use Rattle.sci_port.proofs.Told.{loosened, told_of, told_shown}
 use Rattle.sci_fine.specs.declared.seats.Seat.{Seat}
 use Rattle.sci_fine.specs.declared.views.Terms.{Terms}
+use Rattle.sci_fine.specs.declared.views.View.{View}
 use Rattle.sci_fine.specs.Ends.{IsEnd}
-use Rattle.sci_fine.specs.Kept.{HasKeptAll, IsFinished, list_at, lists_of}
+use Rattle.sci_fine.specs.Kept.{BeginsKept, HasKeptAll, IsFinished, StaysKept, StaysKeptReadied, list_at, lists_of}
 use Rattle.sci_fine.specs.Seats.{logs_of}
 use Rattle.sci_fine.proofs.Seating.{opened_ruled}
 
@@ -48,6 +53,31 @@ module _ {K : Type 0} {g : keeps.Ghosts K} where
           (λ i far. e.ran.each i ∙ get_far (logs_of seats) i [] (omega (arith, long)))
           (λ j. subst (λ (z : List (List Receipt) × List (ℕ × Call)). KeepsTo (get_or z.0 j []) (shown_in blank z.1)) (λ i. (sym are i, sym (e.ran.each j) i)) (each_keeps seats all j))) in
       record { end = e; own = are; whole = whole }
+
+-- a list that stays keeps to the same
+same_list : (log : List (ℕ × Call)) (p : Pending) (s t : ReceiptList) → t.list ≡ s.list → AreReceiptsOf log p s → AreReceiptsOf log p t
+same_list log p s t same h = record {
+  keeps = subst (λ (l : List Receipt). keeps_told l (told_in blank log) ≡ true) (sym same) h.keeps;
+  lone = subst (λ (l : List Receipt). apart l ≡ true) (sym same) h.lone;
+  kept = h.kept;
+}
+
+readied_list : (r : Readying) (s t : ReceiptList) → Readies r s t → t.list ≡ s.list
+readied_list (Reserved n ok) s t h = h.list
+readied_list (Aimed passing) s t h = h.list
+
+module _ {K : Type 0} {g : keeps.Ghosts K} (s : Seat K g) where
+  pub begins_kept : BeginsKept s
+  begins_kept none idle new = subst (λ (z : List (ℕ × Call) × Pending). AreReceiptsOf z.0 z.1 s.receipts) (λ i. (sym none.1 i, sym idle i)) (receipts_none Pending.Idle s.receipts (ap (λ (l : ReceiptList). l.list) new) refl)
+
+  pub stays_kept : (fits : K → ℕ → List ℕ → Type 0) → StaysKept fits s
+  stays_kept fits call t made received room h =
+      let p = s.standing.pending in let q = t.standing.pending in let u = s.standing.terms in
+      subst (λ (l : List (ℕ × Call)). AreReceiptsOf l q t.receipts) (sym (ap (λ (v : View K). v.log) made.came.view))
+      (receipts_on u.nodes (fits u.keep u.number) s.standing.node p q s.token.me.0.log made.came.turn call s.receipts t.receipts made.owes (received.kept room) h)
+
+  pub stays_readied : StaysKeptReadied s
+  stays_readied r t made h = subst (λ (z : List (ℕ × Call) × Pending). AreReceiptsOf z.0 z.1 t.receipts) (λ i. (sym (ap (λ z. z.me.0.log) made.token) i, sym (ap (λ z. z.pending) made.standing) i)) (same_list s.token.me.0.log s.standing.pending s.receipts t.receipts (readied_list r s.receipts t.receipts made.receipts) h)
 
 -- receipts that were moved out, the last seat's first
 abbrev pub moved_out : List (Vec Receipt) → List (List Receipt)

@@ -17,7 +17,7 @@ mod views;
 
 pub use bank::{FineBank, SeatOfAnother};
 pub use closing::{FinishRefusal, Finished};
-pub use laws::law_of_one_run;
+pub use laws::{law_of_kept_receipts, law_of_one_run};
 pub use line::FineLine;
 pub use port::FinePort;
 pub use seats::Seat;
