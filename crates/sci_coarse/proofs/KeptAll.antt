@@ -54,6 +54,10 @@ get_far [] i d h = refl
 get_far (x ∷ xs) zero d h = absurd (omega arith)
 get_far (x ∷ xs) (suc i) d h = get_far xs i d (omega arith)
 
+pub no_length : {A : Type 0} (l : List A) → length l ≡ 0 → l ≡ []
+no_length [] e = refl
+no_length (x ∷ xs) e = absurd (omega arith)
+
 -- the call that a step of the lock word tells
 abbrev told_call : Entry → Option Call
 told_call (Gave call) = Some call
