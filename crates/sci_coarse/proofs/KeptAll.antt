@@ -111,8 +111,8 @@ module _ {K : Type 0} {g : keeps.Ghosts K} where
         let opening : HasValue n f (opened n t.opening) t.opening = subst (λ (s : State). HasValue n f s t.opening) opens (opened_value f t.keep t.number n t.opening e.fit) in
         let nodes : nodes_of (opened_on t) ≡ n = length-replicate n invalid in
         let leads : Leads (Gives n f) (opened n t.opening) (calls_in e.run) (state_of e.whole) =
-            subst (λ (s : State). Leads (Gives n f) s (calls_in e.run) (state_of e.whole)) opens
-            (subst (λ (m : ℕ). Leads (Gives m f) (state_of (opened_on t)) (calls_in e.run) (state_of e.whole)) nodes (led fits (None, opened_on t) e.run (None, e.whole) e.ran)) in
+        subst (λ (s : State). Leads (Gives n f) s (calls_in e.run) (state_of e.whole)) opens
+        (subst (λ (m : ℕ). Leads (Gives m f) (state_of (opened_on t)) (calls_in e.run) (state_of e.whole)) nodes (led fits (None, opened_on t) e.run (None, e.whole) e.ran)) in
         subst (λ (v : Line). IsWhole n t.opening v (λ j. get_or (lists_of seats) j [])) (sym e.history.last)
         (run_whole n f t.opening (calls_in e.run) (state_of e.whole) (λ j. get_or (lists_of seats) j []) opening leads (λ i far. no_calls 0 0 i e.run (e.nobody i far)) (each_keeps all))
 
@@ -169,8 +169,8 @@ module _ {K : Type 0} {g : keeps.Ghosts K} (s : Seat K g) where
     region_kept call region made received h =
         let u = s.standing.terms in let p = s.standing.pending in let q = t.standing.pending in
         let log : calls_in t.token.me.0.log ≡ calls_in s.token.me.0.log ++ (region.given_at, call) ∷ [] =
-            ap (λ (v : View K). calls_in v.log) region.view ∙ (calls_behind (s.token.me.0.log ++ (region.taken_at, Took) ∷ []) ((region.given_at, Gave call) ∷ [])
-            ∙ ap (λ (l : List (ℕ × Call)). l ++ (region.given_at, call) ∷ []) (calls_behind s.token.me.0.log ((region.taken_at, Took) ∷ []) ∙ append-nil (calls_in s.token.me.0.log))) in
+        ap (λ (v : View K). calls_in v.log) region.view ∙ (calls_behind (s.token.me.0.log ++ (region.taken_at, Took) ∷ []) ((region.given_at, Gave call) ∷ [])
+        ∙ ap (λ (l : List (ℕ × Call)). l ++ (region.given_at, call) ∷ []) (calls_behind s.token.me.0.log ((region.taken_at, Took) ∷ []) ∙ append-nil (calls_in s.token.me.0.log))) in
         subst (λ (l : List (ℕ × Call)). AreReceiptsOf l q t.receipts) (sym log)
         (receipts_on u.nodes (fits u.keep u.number) s.node p q (calls_in s.token.me.0.log) region.given_at call s.receipts t.receipts made.owes received h)
 

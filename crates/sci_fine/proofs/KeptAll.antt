@@ -48,10 +48,10 @@ module _ {K : Type 0} {g : keeps.Ghosts K} where
       let opening = ruled_value n (fits t.keep t.number) (opened n t.opening) (opened_ruled n (fits t.keep t.number) t.opening e.fit) in
       let long : length (logs_of seats) ≡ n = length-map _ _ ∙ count in
       let whole : All (λ (s : Seat K g). HasKeptAll s) seats → IsWhole n t.opening e.value (λ j. get_or lists j []) = λ all.
-          subst (λ (v : Line). IsWhole n t.opening v (λ j. get_or lists j [])) (sym e.history.last)
-          (run_whole n (fits t.keep t.number) t.opening e.ran.run e.state (λ j. get_or lists j []) opening e.ran.led
-          (λ i far. e.ran.each i ∙ get_far (logs_of seats) i [] (omega (arith, long)))
-          (λ j. subst (λ (z : List (List Receipt) × List (ℕ × Call)). KeepsTo (get_or z.0 j []) (shown_in blank z.1)) (λ i. (sym are i, sym (e.ran.each j) i)) (each_keeps seats all j))) in
+      subst (λ (v : Line). IsWhole n t.opening v (λ j. get_or lists j [])) (sym e.history.last)
+      (run_whole n (fits t.keep t.number) t.opening e.ran.run e.state (λ j. get_or lists j []) opening e.ran.led
+      (λ i far. e.ran.each i ∙ get_far (logs_of seats) i [] (omega (arith, long)))
+      (λ j. subst (λ (z : List (List Receipt) × List (ℕ × Call)). KeepsTo (get_or z.0 j []) (shown_in blank z.1)) (λ i. (sym are i, sym (e.ran.each j) i)) (each_keeps seats all j))) in
       record { end = e; own = are; whole = whole }
 
 -- a list that stays keeps to the same

@@ -5,8 +5,8 @@ pub(crate) mod adding;
 mod callers;
 mod coarse;
 mod fine;
-mod lawful;
 pub(crate) mod keeping;
+mod lawful;
 pub(crate) mod opening;
 pub(crate) mod replaying;
 pub(crate) mod stopping;
@@ -54,12 +54,7 @@ pub trait SharedLine: Sized + Drop {
         ensures { IsTrue result → is_at_rest seat.now };
 
     /// Readies the seat's receipts: room for so many more, and whether the next settle is only passed.
-    fn ready(
-        &self,
-        seat: &mut Self::Seat,
-        room: usize,
-        passing: bool,
-    ) -> Result<(), AllocError>
+    fn ready(&self, seat: &mut Self::Seat, room: usize, passing: bool) -> Result<(), AllocError>
         requires { is_seat self.now seat.old }
         ensures { is_seat self.now seat.new };
 
