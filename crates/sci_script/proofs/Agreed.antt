@@ -336,14 +336,14 @@ front_of size entry entries None = Ok ([], entry ∷ entries)
 front_of size entry entries (Some o) = openings_of size entries >>= λ more. Ok (o ∷ more.0, more.1)
 
 front_is : (size : Size) (entry : ℕ × List ℕ) (entries : List (ℕ × List ℕ)) (found : Result (Option Opening) ScriptRefusal)
-    → ◌≡◌ {A = Result (List Opening × List (ℕ × List ℕ)) ScriptRefusal} (found >>= λ it. elim it [ | None ↦ Ok ([], entry ∷ entries) | Some o ↦ openings_of size entries >>= λ more. Ok (o ∷ more.0, more.1) ])
+    → ◌≡◌ {A = Result (List Opening × List (ℕ × List ℕ)) ScriptRefusal} (found >>= λ it. elim it [ None ↦ Ok ([], entry ∷ entries) | Some o ↦ openings_of size entries >>= λ more. Ok (o ∷ more.0, more.1) ])
     (found >>= front_of size entry entries)
 front_is size entry entries (Ok None) = refl
 front_is size entry entries (Ok (Some o)) = refl
 front_is size entry entries (Err e) = refl
 
 openings_by : (size : Size) (entry : ℕ × List ℕ) (entries : List (ℕ × List ℕ)) (words : Result (List (List ℕ)) ScriptRefusal)
-    → ◌≡◌ {A = Result (List Opening × List (ℕ × List ℕ)) ScriptRefusal} (words >>= λ ws. opening_of entry.0 size ws >>= λ it. elim it [ | None ↦ Ok ([], entry ∷ entries) | Some o ↦ openings_of size entries >>= λ more. Ok (o ∷ more.0, more.1) ])
+    → ◌≡◌ {A = Result (List Opening × List (ℕ × List ℕ)) ScriptRefusal} (words >>= λ ws. opening_of entry.0 size ws >>= λ it. elim it [ None ↦ Ok ([], entry ∷ entries) | Some o ↦ openings_of size entries >>= λ more. Ok (o ∷ more.0, more.1) ])
     ((words >>= λ ws. opening_of entry.0 size ws) >>= front_of size entry entries)
 openings_by size entry entries (Ok ws) = front_is size entry entries (opening_of entry.0 size ws)
 openings_by size entry entries (Err e) = refl
@@ -364,7 +364,7 @@ openings_agree {B} size (entry ∷ entries) k h =
     let found = words_at entry.0 entry.1 >>= λ words. opening_of entry.0 size words in
     let rest = text_reason (place_behind place (words_of entry.1)) entries in
     let reads : (openings_of size (entry ∷ entries) >>= k) ≡ (found >>= λ it. front_of size entry entries it >>= k) =
-        ap (λ (r : Result (List Opening × List (ℕ × List ℕ)) ScriptRefusal). r >>= k) (openings_more size entry entries) ∙ assoc found (front_of size entry entries) k in
+    ap (λ (r : Result (List Opening × List (ℕ × List ℕ)) ScriptRefusal). r >>= k) (openings_more size entry entries) ∙ assoc found (front_of size entry entries) k in
     subst (λ (r : Result B ScriptRefusal). IsReasonOf r (text_reason place (entry ∷ entries))) (sym reads)
     (subst (λ (w : Option Reason). IsReasonOf (found >>= λ it. front_of size entry entries it >>= k) w) (sym (text_more place entry entries))
     (passes_then entry.0 found (λ it. front_of size entry entries it >>= k) (line_reason place entry.1) (line_reason (going size) entry.1) rest
@@ -382,13 +382,13 @@ bound_front entry entries None = Ok (1024, entry ∷ entries)
 bound_front entry entries (Some c) = Ok (c, entries)
 
 bound_front_is : (entry : ℕ × List ℕ) (entries : List (ℕ × List ℕ)) (found : Result (Option ℕ) ScriptRefusal)
-    → ◌≡◌ {A = Result (ℕ × List (ℕ × List ℕ)) ScriptRefusal} (found >>= λ it. elim it [ | None ↦ Ok (1024, entry ∷ entries) | Some c ↦ Ok (c, entries) ]) (found >>= bound_front entry entries)
+    → ◌≡◌ {A = Result (ℕ × List (ℕ × List ℕ)) ScriptRefusal} (found >>= λ it. elim it [ None ↦ Ok (1024, entry ∷ entries) | Some c ↦ Ok (c, entries) ]) (found >>= bound_front entry entries)
 bound_front_is entry entries (Ok None) = refl
 bound_front_is entry entries (Ok (Some c)) = refl
 bound_front_is entry entries (Err e) = refl
 
 capacity_by : (entry : ℕ × List ℕ) (entries : List (ℕ × List ℕ)) (words : Result (List (List ℕ)) ScriptRefusal)
-    → ◌≡◌ {A = Result (ℕ × List (ℕ × List ℕ)) ScriptRefusal} (words >>= λ ws. bound_of entry.0 ws >>= λ it. elim it [ | None ↦ Ok (1024, entry ∷ entries) | Some c ↦ Ok (c, entries) ])
+    → ◌≡◌ {A = Result (ℕ × List (ℕ × List ℕ)) ScriptRefusal} (words >>= λ ws. bound_of entry.0 ws >>= λ it. elim it [ None ↦ Ok (1024, entry ∷ entries) | Some c ↦ Ok (c, entries) ])
     ((words >>= λ ws. bound_of entry.0 ws) >>= bound_front entry entries)
 capacity_by entry entries (Ok ws) = bound_front_is entry entries (bound_of entry.0 ws)
 capacity_by entry entries (Err e) = refl
@@ -409,7 +409,7 @@ capacity_agree {B} size (entry ∷ entries) k h =
     let found = words_at entry.0 entry.1 >>= λ words. bound_of entry.0 words in
     let rest = text_reason (place_behind place (words_of entry.1)) entries in
     let reads : (capacity_of (entry ∷ entries) >>= k) ≡ (found >>= λ it. bound_front entry entries it >>= k) =
-        ap (λ (r : Result (ℕ × List (ℕ × List ℕ)) ScriptRefusal). r >>= k) (capacity_more entry entries) ∙ assoc found (bound_front entry entries) k in
+    ap (λ (r : Result (ℕ × List (ℕ × List ℕ)) ScriptRefusal). r >>= k) (capacity_more entry entries) ∙ assoc found (bound_front entry entries) k in
     subst (λ (r : Result B ScriptRefusal). IsReasonOf r (text_reason place (entry ∷ entries))) (sym reads)
     (subst (λ (w : Option Reason). IsReasonOf (found >>= λ it. bound_front entry entries it >>= k) w) (sym (text_more place entry entries))
     (passes_then entry.0 found (λ it. bound_front entry entries it >>= k) (line_reason place entry.1) (line_reason (opening size) entry.1) rest

@@ -118,9 +118,11 @@ counted n r size wanted args e h =
     subst (λ (b : Bool). Agrees n r (if b then number_reason 2 size wanted args else Some (Words (length wanted + 1) (length args + 1)))) (sym (same (length wanted) (length args) e)) h
 
 miscounted : (n : ℕ) (size : Size) (wanted : List Argument) (args : List (List ℕ)) → (length wanted ≡ length args → ⊥) → BadAt n (args_reason size wanted args)
-miscounted n size wanted args h =
-    (Words (length wanted + 1) (length args + 1),
-    ap (λ (b : Bool). if b then number_reason 2 size wanted args else Some (Words (length wanted + 1) (length args + 1))) (differ (length wanted) (length args) h), refl)
+miscounted n size wanted args h = (
+  Words (length wanted + 1) (length args + 1),
+  ap (λ (b : Bool). if b then number_reason 2 size wanted args else Some (Words (length wanted + 1) (length args + 1))) (differ (length wanted) (length args) h),
+  refl,
+)
 
 turn_agrees : (n : ℕ) (size : Size) (args : List (List ℕ)) → Agrees n (turn_at n size args) (args_reason size (arg.Node ∷ []) args)
 unfolding turn_at

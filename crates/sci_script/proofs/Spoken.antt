@@ -25,7 +25,7 @@ still n (Ok x) f why h = h
 still n (Err e) f why h = h
 
 next_by : {A B : Type 0} (n : ℕ) (found : Result (Option A) ScriptRefusal) (f : A → B) (rest : Result B ScriptRefusal) (why next : Option Reason) → Passes n found why next → Agrees n rest next
-    → Agrees {X = B} n (found >>= λ it. elim it [ | None ↦ rest | Some x ↦ Ok (f x) ]) why
+    → Agrees {X = B} n (found >>= λ it. elim it [ None ↦ rest | Some x ↦ Ok (f x) ]) why
 next_by n (Ok None) f rest why next h k = subst (λ (w : Option Reason). Agrees n rest w) (sym h) k
 next_by n (Ok (Some x)) f rest why next h k = h
 next_by n (Err e) f rest why next h k = h

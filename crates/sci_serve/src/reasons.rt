@@ -1,6 +1,6 @@
 //! Why lines are refused, told beside what is written.
 ghost use Rattle.std.specs.Prelude.{◌≡◌, ◌≤◌, IsTrue, false, length, IfOk};
-ghost use Rattle.sci_serve.specs.Explained.{is_of_line, IsExplained};
+ghost use Rattle.sci_serve.specs.Explained.{has_reason, is_of_line, IsExplained};
 
 use crate::faults::SimFault;
 use sci_script::{Reason, ScriptRefusal, why_script};
@@ -57,16 +57,26 @@ impl<C: Eprint> Explain for Told<'_, C> {
     }
 }
 
-/// Whether a line is at fault.
-fn is_of_line(fault: SimFault) -> bool
-    ensures { result ≡ is_of_line fault }
+/// Whether a refusal is of a line, and so has a reason.
+fn is_of_line(refusal: ScriptRefusal) -> bool
+    ensures { result ≡ is_of_line refusal }
 {
-    matches!(
-        fault,
-        SimFault::Refused(
-            ScriptRefusal::BadCommand(_) | ScriptRefusal::BadNumber(_) | ScriptRefusal::NotDone(_),
-        )
-    )
+    match refusal {
+        ScriptRefusal::BadCommand(_) | ScriptRefusal::BadNumber(_) | ScriptRefusal::NotDone(_) => {
+            true
+        }
+        ScriptRefusal::OutOfMemory | ScriptRefusal::WriteFailed => false,
+    }
+}
+
+/// Whether the answer to a line refuses it, and so has a reason.
+pub(crate) fn has_reason(said: &Result<(), ScriptRefusal>) -> bool
+    ensures { result ≡ has_reason said.now }
+{
+    match said {
+        Ok(()) => false,
+        Err(refusal) => is_of_line(*refusal),
+    }
 }
 
 /// Why a command over a script, as `serve` or `serve_outcomes`, is refused so, in words: of a line that is faulty, or of one that is
@@ -79,9 +89,19 @@ pub fn explanation(
     requires { length input.now ≤ 1048576 }
     ensures { IfOk result (IsExplained fault input.now) }
 {
-    if is_of_line(fault) {
-        why_script(alloc, input)
-    } else {
-        Ok(None)
+    match fault {
+        SimFault::Refused(refusal) => {
+            if is_of_line(refusal) {
+                why_script(alloc, input)
+            } else {
+                Ok(None)
+            }
+        }
+        SimFault::CannotRead
+        | SimFault::CannotWrite
+        | SimFault::InputTooLong
+        | SimFault::NoDump(_)
+        | SimFault::Unlawful
+        | SimFault::NoRun(_) => Ok(None),
     }
 }

@@ -9,7 +9,7 @@ ghost use Rattle.sci_serve.specs.Explained.{IsExplainedIn, IsToldOf};
 ghost use Rattle.sci_serve.specs.Talked.{refused_line, ending_line, IsAccepted, IsRefused, Answers, Talks, StopsTalking, IsKeptBut, IsPart, line_by, Ends, Begins};
 
 use crate::faults::SimFault;
-use crate::reasons::{Explain, Untold};
+use crate::reasons::{Explain, Untold, has_reason};
 use sci_script::{Reason, ScriptRefusal, Talk, WriteFailed, line_end, put, without_return};
 use std::alloc::{AllocError, Global};
 use std::io::{ErrorKind, Read, Write};
@@ -178,12 +178,10 @@ impl Talker {
     ) -> Result<Option<Reason>, AllocError>
         ensures { IfOk result (λ why. (seen : List ℕ) → IsPart self.now.held seen → IsToldOf is_wanted said.now (standing_of self.now.talk) (line_by is_ended seen) why) }
     {
-        if !is_wanted {
-            return Ok(None);
-        }
-        match said {
-            Ok(()) | Err(ScriptRefusal::OutOfMemory) => Ok(None),
-            Err(_) => self.held.why(is_ended, &self.talk),
+        if is_wanted && has_reason(said) {
+            self.held.why(is_ended, &self.talk)
+        } else {
+            Ok(None)
         }
     }
 
