@@ -124,28 +124,28 @@ miscounted n size wanted args h = (
   refl,
 )
 
-turn_agrees : (n : ℕ) (size : Size) (args : List (List ℕ)) → Agrees n (turn_at n size args) (args_reason size (arg.Node ∷ []) args)
+pub turn_agrees : (n : ℕ) (size : Size) (args : List (List ℕ)) → Agrees n (turn_at n size args) (args_reason size (arg.Node ∷ []) args)
 unfolding turn_at
 turn_agrees n size [] = miscounted n size (arg.Node ∷ []) [] (λ e. let f : 1 ≡ 0 = e in omega (arith, f))
 turn_agrees n size (a ∷ []) = counted n (turn_at n size (a ∷ [])) size (arg.Node ∷ []) (a ∷ []) refl
     (number_then n 2 size arg.Node [] a [] (λ v. Ok (Turn v)) (λ v. number_end n 3 size [] (Turn v)))
 turn_agrees n size (a ∷ b ∷ words) = miscounted n size (arg.Node ∷ []) (a ∷ b ∷ words) (λ e. let f : 1 ≡ suc (suc (length words)) = e in omega (arith, f))
 
-done_agrees : (n : ℕ) (size : Size) (args : List (List ℕ)) → Agrees n (done_at n size args) (args_reason size (arg.Node ∷ []) args)
+pub done_agrees : (n : ℕ) (size : Size) (args : List (List ℕ)) → Agrees n (done_at n size args) (args_reason size (arg.Node ∷ []) args)
 unfolding done_at
 done_agrees n size [] = miscounted n size (arg.Node ∷ []) [] (λ e. let f : 1 ≡ 0 = e in omega (arith, f))
 done_agrees n size (a ∷ []) = counted n (done_at n size (a ∷ [])) size (arg.Node ∷ []) (a ∷ []) refl
     (number_then n 2 size arg.Node [] a [] (λ v. Ok (Done v)) (λ v. number_end n 3 size [] (Done v)))
 done_agrees n size (a ∷ b ∷ words) = miscounted n size (arg.Node ∷ []) (a ∷ b ∷ words) (λ e. let f : 1 ≡ suc (suc (length words)) = e in omega (arith, f))
 
-residents_agrees : (n : ℕ) (size : Size) (args : List (List ℕ)) → Agrees n (residents_at n size args) (args_reason size (arg.Node ∷ []) args)
+pub residents_agrees : (n : ℕ) (size : Size) (args : List (List ℕ)) → Agrees n (residents_at n size args) (args_reason size (arg.Node ∷ []) args)
 unfolding residents_at
 residents_agrees n size [] = miscounted n size (arg.Node ∷ []) [] (λ e. let f : 1 ≡ 0 = e in omega (arith, f))
 residents_agrees n size (a ∷ []) = counted n (residents_at n size (a ∷ [])) size (arg.Node ∷ []) (a ∷ []) refl
     (number_then n 2 size arg.Node [] a [] (λ v. Ok (Residents v)) (λ v. number_end n 3 size [] (Residents v)))
 residents_agrees n size (a ∷ b ∷ words) = miscounted n size (arg.Node ∷ []) (a ∷ b ∷ words) (λ e. let f : 1 ≡ suc (suc (length words)) = e in omega (arith, f))
 
-list_agrees : (n : ℕ) (size : Size) (args : List (List ℕ)) → Agrees n (list_at n size args) (args_reason size (arg.Line ∷ []) args)
+pub list_agrees : (n : ℕ) (size : Size) (args : List (List ℕ)) → Agrees n (list_at n size args) (args_reason size (arg.Line ∷ []) args)
 unfolding list_at
 list_agrees n size [] = miscounted n size (arg.Line ∷ []) [] (λ e. let f : 1 ≡ 0 = e in omega (arith, f))
 list_agrees n size (a ∷ []) = counted n (list_at n size (a ∷ [])) size (arg.Line ∷ []) (a ∷ []) refl
@@ -165,26 +165,26 @@ bound_one : (n : ℕ) (size : Size) (x : List ℕ) → Agrees n (number_at n 1 1
 unfolding number_reason
 bound_one n size x = alone n 2 (1, 1024) (number_of x) (Number 2 1 1024) refl
 
-bound_agrees : (n : ℕ) (size : Size) (args : List (List ℕ)) → Agrees n (bound_at n args) (args_reason size (arg.Capacity ∷ []) args)
+pub bound_agrees : (n : ℕ) (size : Size) (args : List (List ℕ)) → Agrees n (bound_at n args) (args_reason size (arg.Capacity ∷ []) args)
 unfolding bound_at
 bound_agrees n size [] = miscounted n size (arg.Capacity ∷ []) [] (λ e. let f : 1 ≡ 0 = e in omega (arith, f))
 bound_agrees n size (a ∷ []) = counted n (bound_at n (a ∷ [])) size (arg.Capacity ∷ []) (a ∷ []) refl
     (bound_one n size a)
 bound_agrees n size (a ∷ b ∷ words) = miscounted n size (arg.Capacity ∷ []) (a ∷ b ∷ words) (λ e. let f : 1 ≡ suc (suc (length words)) = e in omega (arith, f))
 
-rest_agrees : (n : ℕ) (size : Size) (args : List (List ℕ)) → Agrees n (rest_at n size args) (args_reason size [] args)
+pub rest_agrees : (n : ℕ) (size : Size) (args : List (List ℕ)) → Agrees n (rest_at n size args) (args_reason size [] args)
 unfolding rest_at
 rest_agrees n size [] = counted n (rest_at n size []) size [] [] refl
     (number_end n 2 size [] (Rest size.lines))
 rest_agrees n size (a ∷ words) = miscounted n size [] (a ∷ words) (λ e. let f : 0 ≡ suc (length words) = e in omega (arith, f))
 
-end_agrees : (n : ℕ) (size : Size) (args : List (List ℕ)) → Agrees n (end_at n size args) (args_reason size [] args)
+pub end_agrees : (n : ℕ) (size : Size) (args : List (List ℕ)) → Agrees n (end_at n size args) (args_reason size [] args)
 unfolding end_at
 end_agrees n size [] = counted n (end_at n size []) size [] [] refl
     (number_end n 2 size [] (End size.nodes size.lines))
 end_agrees n size (a ∷ words) = miscounted n size [] (a ∷ words) (λ e. let f : 0 ≡ suc (length words) = e in omega (arith, f))
 
-evict_agrees : (n : ℕ) (size : Size) (args : List (List ℕ)) → Agrees n (evict_at n size args) (args_reason size (arg.Node ∷ arg.Line ∷ []) args)
+pub evict_agrees : (n : ℕ) (size : Size) (args : List (List ℕ)) → Agrees n (evict_at n size args) (args_reason size (arg.Node ∷ arg.Line ∷ []) args)
 unfolding evict_at
 evict_agrees n size [] = miscounted n size (arg.Node ∷ arg.Line ∷ []) [] (λ e. let f : 2 ≡ 0 = e in omega (arith, f))
 evict_agrees n size (a ∷ []) = miscounted n size (arg.Node ∷ arg.Line ∷ []) (a ∷ []) (λ e. let f : 2 ≡ 1 = e in omega (arith, f))
@@ -192,7 +192,7 @@ evict_agrees n size (a ∷ b ∷ []) = counted n (evict_at n size (a ∷ b ∷ [
     (place_then n 2 size [] a b [] (λ p. Ok (Begin p.0 p.1 Evict)) (λ p. number_end n 4 size [] (Begin p.0 p.1 Evict)))
 evict_agrees n size (a ∷ b ∷ c ∷ words) = miscounted n size (arg.Node ∷ arg.Line ∷ []) (a ∷ b ∷ c ∷ words) (λ e. let f : 2 ≡ suc (suc (suc (length words))) = e in omega (arith, f))
 
-tag_agrees : (n : ℕ) (size : Size) (args : List (List ℕ)) → Agrees n (tag_at n size args) (args_reason size (arg.Line ∷ arg.Node ∷ []) args)
+pub tag_agrees : (n : ℕ) (size : Size) (args : List (List ℕ)) → Agrees n (tag_at n size args) (args_reason size (arg.Line ∷ arg.Node ∷ []) args)
 unfolding tag_at
 tag_agrees n size [] = miscounted n size (arg.Line ∷ arg.Node ∷ []) [] (λ e. let f : 2 ≡ 0 = e in omega (arith, f))
 tag_agrees n size (a ∷ []) = miscounted n size (arg.Line ∷ arg.Node ∷ []) (a ∷ []) (λ e. let f : 2 ≡ 1 = e in omega (arith, f))
@@ -201,7 +201,7 @@ tag_agrees n size (a ∷ b ∷ []) = counted n (tag_at n size (a ∷ b ∷ [])) 
     number_then n 3 size arg.Node [] b [] (λ node. Ok (ShowTag line node)) (λ node. number_end n 4 size [] (ShowTag line node))))
 tag_agrees n size (a ∷ b ∷ c ∷ words) = miscounted n size (arg.Line ∷ arg.Node ∷ []) (a ∷ b ∷ c ∷ words) (λ e. let f : 2 ≡ suc (suc (suc (length words))) = e in omega (arith, f))
 
-load_agrees : (n : ℕ) (size : Size) (args : List (List ℕ)) → Agrees n (load_at n size args) (args_reason size (arg.Node ∷ arg.Line ∷ arg.Word ∷ []) args)
+pub load_agrees : (n : ℕ) (size : Size) (args : List (List ℕ)) → Agrees n (load_at n size args) (args_reason size (arg.Node ∷ arg.Line ∷ arg.Word ∷ []) args)
 unfolding load_at
 load_agrees n size [] = miscounted n size (arg.Node ∷ arg.Line ∷ arg.Word ∷ []) [] (λ e. let f : 3 ≡ 0 = e in omega (arith, f))
 load_agrees n size (a ∷ []) = miscounted n size (arg.Node ∷ arg.Line ∷ arg.Word ∷ []) (a ∷ []) (λ e. let f : 3 ≡ 1 = e in omega (arith, f))
@@ -211,7 +211,7 @@ load_agrees n size (a ∷ b ∷ c ∷ []) = counted n (load_at n size (a ∷ b �
     number_then n 4 size arg.Word [] c [] (λ w. Ok (Begin p.0 p.1 (Load w))) (λ w. number_end n 5 size [] (Begin p.0 p.1 (Load w)))))
 load_agrees n size (a ∷ b ∷ c ∷ d ∷ words) = miscounted n size (arg.Node ∷ arg.Line ∷ arg.Word ∷ []) (a ∷ b ∷ c ∷ d ∷ words) (λ e. let f : 3 ≡ suc (suc (suc (suc (length words)))) = e in omega (arith, f))
 
-store_agrees : (n : ℕ) (size : Size) (args : List (List ℕ)) → Agrees n (store_at n size args) (args_reason size (arg.Node ∷ arg.Line ∷ arg.Word ∷ arg.Value ∷ []) args)
+pub store_agrees : (n : ℕ) (size : Size) (args : List (List ℕ)) → Agrees n (store_at n size args) (args_reason size (arg.Node ∷ arg.Line ∷ arg.Word ∷ arg.Value ∷ []) args)
 unfolding store_at
 store_agrees n size [] = miscounted n size (arg.Node ∷ arg.Line ∷ arg.Word ∷ arg.Value ∷ []) [] (λ e. let f : 4 ≡ 0 = e in omega (arith, f))
 store_agrees n size (a ∷ []) = miscounted n size (arg.Node ∷ arg.Line ∷ arg.Word ∷ arg.Value ∷ []) (a ∷ []) (λ e. let f : 4 ≡ 1 = e in omega (arith, f))
@@ -222,7 +222,7 @@ store_agrees n size (a ∷ b ∷ c ∷ d ∷ []) = counted n (store_at n size (a
     change_then n 4 size [] c d [] (λ w. Ok (Begin p.0 p.1 (Store w.0 w.1))) (λ w. number_end n 6 size [] (Begin p.0 p.1 (Store w.0 w.1)))))
 store_agrees n size (a ∷ b ∷ c ∷ d ∷ e ∷ words) = miscounted n size (arg.Node ∷ arg.Line ∷ arg.Word ∷ arg.Value ∷ []) (a ∷ b ∷ c ∷ d ∷ e ∷ words) (λ e. let f : 4 ≡ suc (suc (suc (suc (suc (length words))))) = e in omega (arith, f))
 
-add_agrees : (n : ℕ) (size : Size) (args : List (List ℕ)) → Agrees n (add_at n size args) (args_reason size (arg.Node ∷ arg.Line ∷ arg.Word ∷ arg.Value ∷ []) args)
+pub add_agrees : (n : ℕ) (size : Size) (args : List (List ℕ)) → Agrees n (add_at n size args) (args_reason size (arg.Node ∷ arg.Line ∷ arg.Word ∷ arg.Value ∷ []) args)
 unfolding add_at
 add_agrees n size [] = miscounted n size (arg.Node ∷ arg.Line ∷ arg.Word ∷ arg.Value ∷ []) [] (λ e. let f : 4 ≡ 0 = e in omega (arith, f))
 add_agrees n size (a ∷ []) = miscounted n size (arg.Node ∷ arg.Line ∷ arg.Word ∷ arg.Value ∷ []) (a ∷ []) (λ e. let f : 4 ≡ 1 = e in omega (arith, f))
@@ -254,7 +254,7 @@ eight_agree n size words f e h = subst (λ (wanted : List Argument). Agrees n (v
 abbrev opening_with : ℕ → ℕ → List ℕ → Opening
 opening_with line stamp words = record { line = line; content = record { words = words; stamp = stamp } }
 
-opening_agrees : (n : ℕ) (size : Size) (args : List (List ℕ)) → Agrees n (opening_at n size args) (args_reason size (arguments_of verbs.Open) args)
+pub opening_agrees : (n : ℕ) (size : Size) (args : List (List ℕ)) → Agrees n (opening_at n size args) (args_reason size (arguments_of verbs.Open) args)
 unfolding opening_at
 opening_agrees n size [] = miscounted n size (arguments_of verbs.Open) [] (λ e. let f : 10 ≡ 0 = e in omega (arith, f))
 opening_agrees n size (l ∷ []) = miscounted n size (arguments_of verbs.Open) (l ∷ []) (λ e. let f : 10 ≡ 1 = e in omega (arith, f))
@@ -282,7 +282,7 @@ abbrev pub sized : ℕ → List (List ℕ) → Result Size ScriptRefusal
 sized n (nodes ∷ lines ∷ []) = number_at n 1 MOST_NODES nodes >>= λ a. number_at n 1 1024 lines >>= λ b. Ok (size_with a b)
 sized n _ = Err (BadCommand n)
 
-size_agrees : (n : ℕ) (size : Size) (args : List (List ℕ)) → Agrees n (sized n args) (args_reason size (arg.Nodes ∷ arg.Lines ∷ []) args)
+pub size_agrees : (n : ℕ) (size : Size) (args : List (List ℕ)) → Agrees n (sized n args) (args_reason size (arg.Nodes ∷ arg.Lines ∷ []) args)
 size_agrees n size [] = miscounted n size (arg.Nodes ∷ arg.Lines ∷ []) [] (λ e. let f : 2 ≡ 0 = e in omega (arith, f))
 size_agrees n size (a ∷ []) = miscounted n size (arg.Nodes ∷ arg.Lines ∷ []) (a ∷ []) (λ e. let f : 2 ≡ 1 = e in omega (arith, f))
 size_agrees n size (a ∷ b ∷ []) = counted n (sized n (a ∷ b ∷ [])) size (arg.Nodes ∷ arg.Lines ∷ []) (a ∷ b ∷ []) refl

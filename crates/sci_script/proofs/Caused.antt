@@ -93,8 +93,8 @@ turn_fits n number node s t why (at, was, same) is = turn_refused n node (shared
 done_fits : (n number node : ℕ) (s t : Shared) (why : Option Reason) → (n ≡ number) × (shared_is_open s node ≡ false) × (t ≡ s) → IsUnendedBy t node (t.nodes node).call why → IsRefusedFor (BadCommand n) why
 done_fits n number node s t why (at, was, same) is = closed_refused n t node (t.nodes node).call why (ap (λ (x : Shared). shared_is_open x node) same ∙ was) is
 
-unended_fits : (n number node : ℕ) (s t : Shared) (why : Option Reason) → (n ≡ number) × (shared_is_open s node ≡ true) × Unended shared_does node 100000 s t → IsUnendedBy t node (t.nodes node).call why → IsRefusedFor (NotDone n) why
-unended_fits n number node s t why (at, was, turns) is = unended_refused n t node (t.nodes node).call why (unended_open 100000 node s t was turns) is
+unended_fits : (n number node : ℕ) (s t : Shared) (why : Option Reason) → (n ≡ number) × ((shared_is_open s node ≡ true) × Unended shared_does node 100000 s t) → IsUnendedBy t node (t.nodes node).call why → IsRefusedFor (NotDone n) why
+unended_fits n number node s t why (at, (was, turns)) is = unended_refused n t node (t.nodes node).call why (unended_open 100000 node s t was turns) is
 
 fits_by : (command : Command) (number nodes : ℕ) (s t : Shared) (e : ScriptRefusal) (why : Option Reason) → StopsAt shared_is_open shared_does nodes s (record { number = number; command = command }) e t
     → (e ≡ OutOfMemory → ⊥) → IsWhy t command why → HasReason command e why
