@@ -1,5 +1,6 @@
 -- Why a command was refused is a reason of that refusal.
-use Rattle.std.proofs.Common.{◌≡◌, ◌∙◌, ℕ, zero, suc, Bool, true, false, List, Option, Some, None, Result, Ok, Err, is_some, if◌then◌else◌, refl, sym, ap, subst}
+use Rattle.std.proofs.Common.{◌≡◌, ◌∙◌, ℕ, zero, suc, ◌<◌, ◌&&◌, nat_lt, Bool, true, false, true≢false, List, Option, Some, None, Result, Ok, Err, is_some, if◌then◌else◌, refl, sym, ap, subst, arith}
+use Rattle.std.proofs.lemmas.Bool.Decides.{nat_tests}
 use Rattle.sci_core.proofs.Answered.{update_same}
 use Rattle.sci_core.specs.Stage.{stage_of}
 use Rattle.sci_core.specs.declared.stages.Stage.{Stage}
@@ -9,6 +10,8 @@ use Rattle.sci_cache.specs.declared.calls.OpenCall.{OpenCall}
 use Rattle.sci_cache.specs.Nodes.{NodeState, node_after, call_after, line_by, shown_by}
 use Rattle.sci_script.specs.declared.commands.Command.{Command}
 use Rattle.sci_script.specs.declared.commands.Command.TheVariants.{Begin, Turn as TakeTurn, Done, Rest, End, List as ListLine, Tag as ShowTag, Residents}
+use Rattle.sci_script.specs.declared.commands.Opening.{Opening}
+use Rattle.sci_script.specs.declared.commands.Size.{Size}
 use Rattle.sci_script.specs.declared.commands.Step.{Step}
 use Rattle.sci_script.specs.declared.reasons.Reason.{Reason}
 use Rattle.sci_script.specs.declared.reasons.Reason.TheVariants.{CallOpen, NoCall}
@@ -16,9 +19,12 @@ use Rattle.sci_script.specs.declared.refusals.ScriptRefusal.{ScriptRefusal}
 use Rattle.sci_script.specs.declared.refusals.ScriptRefusal.TheVariants.{OutOfMemory, BadCommand, BadNumber, NotDone, WriteFailed}
 use Rattle.sci_script.specs.Causes.{refused_for, IsRefusedFor, IsReasonOf, HasReason}
 use Rattle.sci_script.specs.Event.{Turned, IsNoEnd}
-use Rattle.sci_script.specs.Reasons.{IsWhy, IsUnendedBy, alone_reason, wait_reason}
+use Rattle.sci_script.specs.Reasons.{IsWhy, IsUnendedBy, alone_reason, wait_reason, unbegun_reason}
 use Rattle.sci_script.specs.Run.{Unended, StopsAt}
+use Rattle.sci_script.specs.ScriptText.{Opens}
 use Rattle.sci_script.specs.Shared.{Shared, TakesTurnOf, shared_is_open, shared_does}
+use Rattle.sci_script.specs.Size.{is_request, IsIn}
+use Rattle.sci_script.specs.Talks.{said_step, FailsFirst}
 
 -- a text that is refused has a reason of that refusal
 pub refused_has : {X : Type 0} (read : Result X ScriptRefusal) (e : ScriptRefusal) (why : Option Reason) → IsReasonOf read why → read ≡ Err e → IsRefusedFor e why
@@ -121,3 +127,51 @@ fits_by (Residents node) number nodes s t e why h some is = is
 
 pub reason_fits : (s t : Shared) (step : Step) (nodes : ℕ) (e : ScriptRefusal) (why : Option Reason) → StopsAt shared_is_open shared_does nodes s step e t → (e ≡ OutOfMemory → ⊥) → IsWhy t step.command why → HasReason step.command e why
 reason_fits s t step nodes e why h some is = fits_by step.command step.number nodes s t e why h some is
+
+below : (a b : ℕ) → nat_lt a b ≡ true → a < b
+below a b h = grind (arith, nat_tests, h)
+
+first_of : (b c : Bool) → (b && c) ≡ true → b ≡ true
+first_of true c h = refl
+first_of false c h = h
+
+-- over a desk just opened no call is open
+closed_first : (size : Size) (capacity : ℕ) (openings : List Opening) (s : Shared) (node : ℕ) → Opens size capacity openings s → node < size.nodes → shared_is_open s node ≡ false
+closed_first size capacity openings s node o inside = ap (λ (n : NodeState). is_some n.call) (o.nodes node inside)
+
+never : (size : Size) (capacity : ℕ) (openings : List Opening) (s : Shared) (node : ℕ) → Opens size capacity openings s → node < size.nodes → shared_is_open s node ≡ true → ⊥
+never size capacity openings s node o inside was = let closed = closed_first size capacity openings s node o inside in true≢false (sym was ∙ closed)
+
+begun_first : (size : Size) (capacity : ℕ) (openings : List Opening) (s end : Shared) (node n : ℕ) → Opens size capacity openings s → node < size.nodes → (n ≡ 1) × (shared_is_open s node ≡ true) × (end ≡ s) → ⊥
+begun_first size capacity openings s end node n o inside (at, was, same) = never size capacity openings s node o inside was
+
+done_first : (size : Size) (capacity : ℕ) (openings : List Opening) (s end : Shared) (node n : ℕ) → Opens size capacity openings s → node < size.nodes
+    → (n ≡ 1) × ((shared_is_open s node ≡ true) × Unended shared_does node 100000 s end) → ⊥
+done_first size capacity openings s end node n o inside (at, (was, turns)) = never size capacity openings s node o inside was
+
+first_by : (size : Size) (capacity : ℕ) (openings : List Opening) (command : Command) (e : ScriptRefusal) (s end : Shared) → IsIn size command → Opens size capacity openings s
+    → StopsAt shared_is_open shared_does size.nodes s (said_step command) e end → (e ≡ OutOfMemory → ⊥) → HasReason command e (unbegun_reason command)
+first_by size capacity openings (Begin node line request) OutOfMemory s end inside o h some = absurd (some refl)
+first_by size capacity openings (Begin node line request) (BadCommand n) s end inside o h some = absurd (begun_first size capacity openings s end node n o (below node size.nodes (first_of (nat_lt node size.nodes) (nat_lt line size.lines && is_request request) inside)) h)
+first_by size capacity openings (Begin node line request) (BadNumber n) s end inside o h some = absurd h
+first_by size capacity openings (Begin node line request) (NotDone n) s end inside o h some = absurd h.1
+first_by size capacity openings (Begin node line request) WriteFailed s end inside o h some = absurd h
+first_by size capacity openings (TakeTurn node) OutOfMemory s end inside o h some = absurd (some refl)
+first_by size capacity openings (TakeTurn node) (BadCommand n) s end inside o h some = (n, NoCall node, refl, refl)
+first_by size capacity openings (TakeTurn node) (BadNumber n) s end inside o h some = absurd h
+first_by size capacity openings (TakeTurn node) (NotDone n) s end inside o h some = absurd h.1
+first_by size capacity openings (TakeTurn node) WriteFailed s end inside o h some = absurd h
+first_by size capacity openings (Done node) OutOfMemory s end inside o h some = absurd (some refl)
+first_by size capacity openings (Done node) (BadCommand n) s end inside o h some = (n, NoCall node, refl, refl)
+first_by size capacity openings (Done node) (BadNumber n) s end inside o h some = absurd h
+first_by size capacity openings (Done node) (NotDone n) s end inside o h some = absurd (done_first size capacity openings s end node n o (below node size.nodes inside) h)
+first_by size capacity openings (Done node) WriteFailed s end inside o h some = absurd h
+first_by size capacity openings (Rest lines) e s end inside o h some = refl
+first_by size capacity openings (End ends lines) e s end inside o h some = refl
+first_by size capacity openings (ListLine line) e s end inside o h some = refl
+first_by size capacity openings (ShowTag line node) e s end inside o h some = refl
+first_by size capacity openings (Residents node) e s end inside o h some = refl
+
+pub first_fits : (size : Size) (capacity : ℕ) (openings : List Opening) (command : Command) (e : ScriptRefusal) → IsIn size command → FailsFirst size capacity openings command e → (e ≡ OutOfMemory → ⊥)
+    → HasReason command e (unbegun_reason command)
+first_fits size capacity openings command e inside (s, end, o, h) some = first_by size capacity openings command e s end inside o h some

@@ -1,6 +1,7 @@
 //! Laws of scripts.
 ghost use Rattle.std.specs.Prelude.{◌≡◌, ℕ, List, Ok, Option};
 ghost use Rattle.std.specs.Str.Lines.{lines};
+ghost use Rattle.sci_script.specs.declared.commands.Command.{Command};
 ghost use Rattle.sci_script.specs.declared.commands.Size.{Size};
 ghost use Rattle.sci_script.specs.declared.commands.Opening.{Opening};
 ghost use Rattle.sci_script.specs.declared.commands.Step.{Step};
@@ -10,11 +11,12 @@ ghost use Rattle.sci_script.specs.declared.refusals.ScriptRefusal.TheVariants.{O
 ghost use Rattle.sci_script.specs.Causes.{HasReason, IsReasonOf};
 ghost use Rattle.sci_script.specs.Faults.{words_reason};
 ghost use Rattle.sci_script.specs.Format.{script_of};
-ghost use Rattle.sci_script.specs.Reasons.{IsWhy, place_of};
+ghost use Rattle.sci_script.specs.Reasons.{IsWhy, place_of, unbegun_reason};
 ghost use Rattle.sci_script.specs.Run.{StopsAt};
 ghost use Rattle.sci_script.specs.ScriptText.{IsTextOf};
 ghost use Rattle.sci_script.specs.Shared.{Shared, shared_is_open, shared_does};
-ghost use Rattle.sci_script.specs.Talks.{Says, Silent, Standing, command_of};
+ghost use Rattle.sci_script.specs.Size.{IsIn};
+ghost use Rattle.sci_script.specs.Talks.{FailsFirst, Says, Silent, Standing, command_of};
 
 /// A script's text is what its lines print, said one by one (`Talk::say`), part by part, each of them accepted. It computes nothing: its
 /// contract is the law, of every text that is a script and of all that it may print.
@@ -26,11 +28,13 @@ pub fn script_is_said()
 {}
 
 /// Why a command was refused, by the desk as it stands behind that (`WholeDesk::why`), is a reason of just this refusal. Each refusal
-/// of a call, a turn or a `done` has one, but for want of memory; other commands wait for nobody, and have none. And what is wrong with
-/// the words of a line that is said (`Talk::why`) is there exactly where they are refused, and is a reason of just that refusal. It
-/// computes nothing: its contract is the law.
+/// of a call, a turn or a `done` has one, but for want of memory; other commands wait for nobody, and have none. So it is of the first
+/// command, over a desk just opened. And what is wrong with the words of a line that is said (`Talk::why`) is there exactly where they
+/// are refused, and is a reason of just that refusal. It computes nothing: its contract is the law.
 pub fn refusals_have_reasons()
     ensures fits { (s t : Shared) (step : Step) (nodes : ℕ) (e : ScriptRefusal) (why : Option Reason) → StopsAt shared_is_open shared_does nodes s step e t
         → (e ≡ OutOfMemory → ⊥) → IsWhy t step.command why → HasReason step.command e why }
+    ensures first { (size : Size) (capacity : ℕ) (openings : List Opening) (command : Command) (e : ScriptRefusal) → IsIn size command → FailsFirst size capacity openings command e
+        → (e ≡ OutOfMemory → ⊥) → HasReason command e (unbegun_reason command) }
     ensures words { (s : Standing) (words : List (List ℕ)) → IsReasonOf (command_of s words) (words_reason (place_of s) words) }
 {}
