@@ -30,5 +30,9 @@ pub mod Renumbered
 pub mod Saying
 pub mod Hearing
 pub mod Explaining
+pub mod Agreeing
+pub mod Agreed
+pub mod Caused
+pub mod CausedWords
 pub mod Spoken
 pub mod Printing
