@@ -98,11 +98,13 @@ gathered_in bare size words command few e =
     let one = found_in (IsOf size) (said_at bare size words) commanded command (said_of bare size words few) e in
     some_command size one.0 command one.1 one.2
 
+same_command : (a b : Command) → Some a ≡ Some b → a ≡ b
+same_command a b e = cc
+
 going_in : (size : Size) (words : List (List ℕ)) (command : Command) → IsSize size → (command_at 1 size words >>= (λ c. Ok (Some c))) ≡ Ok (Some command) → IsIn size command
 going_in size words command few e =
     let one = found_in (λ c. IsIn size c) (command_at 1 size words) (λ c. Some c) command (reads_command 1 size few words) e in
-    let q : one.0 ≡ command = let r = one.2 in cc in
-    subst (λ (c : Command). IsIn size c) q one.1
+    subst (λ (c : Command). IsIn size c) (same_command one.0 command one.2) one.1
 
 stops_keep : (s : Standing) (words : List (List ℕ)) (command : Command) (e : ScriptRefusal) (t : Standing) → command_of s words ≡ Ok (Some command) → Stops s command e t → IsSteady s → IsSteady t
 stops_keep Silent words command e t is h k = absurd h
