@@ -26,3 +26,4 @@ pub mod Saying
 pub mod Hearing
 pub mod Explaining
 pub mod Printing
+pub mod Awaiting
