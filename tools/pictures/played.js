@@ -95,6 +95,8 @@ function moves(s) {
     expect(card.disabled === !told, `in state ${s} the card of node ${i} is ${card.disabled}`);
     if (told) {
       const name = told.what.startsWith("waits") ? "waits" : told.what === "only looked" ? "no exchange" : /^\w+/.exec(told.what)[0], says = card.querySelector(".says").textContent;
+      const found = /^\w+\((\d+)/.exec(told.what), named = found ? Number(found[1]) : told.whom;
+      expect(named === null || new RegExp(named === i ? "itself" : "node " + named + "\\b", "i").test(says), `in state ${s} the card of node ${i} doesn't name node ${named}: ${says}`);
       expect(card.querySelector(".ev").textContent.startsWith(name) && says.length > 10, `in state ${s} the card of node ${i} says ${card.textContent}`);
       const then = card.querySelector(".then").textContent, left = trialLeft[told.to], lost = trialLeft[s].filter(it => !left.includes(it));
       const wanted = told.to === s ? "nothing changes" : outcomes.length < 2 ? "to a state" : lost.length ? "rules out " + lost.join(" ") : "then still possible: " + left.join(" ");

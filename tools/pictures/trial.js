@@ -9,7 +9,7 @@ console.error = console.warn = (...words) => blame("console: " + words.join(" ")
 const one = selector => document.querySelector(selector);
 const all = selector => [...document.querySelectorAll(selector)];
 const isWide = innerWidth >= 1000;
-const trialTurns = all("#trace a").filter(it => it.textContent.startsWith("# node ")).length;
+const trialRows = all("#trace a").map(it => it.textContent).filter(it => it.startsWith("# node ")), trialTurns = trialRows.length;
 let smallest = Infinity;
 
 function expect(holds, text) {
@@ -34,12 +34,20 @@ function look(turn) {
   expect(turn === 0 || one("#now").childNodes[1].textContent.trim().length > 10, `turn ${turn} has no sentence`);
   const text = now + one("#picture").textContent + one("#table").textContent + (row ? row.textContent : "");
   expect(!/undefined|NaN|null|can't be right|\[object/.test(text), `at turn ${turn} it says ${/.{0,20}(undefined|NaN|null|can't be right|\[object).{0,20}/.exec(text)}`);
+  if (turn > 0) told(one("#now").childNodes[1].textContent, turn);
   const isMany = row !== null && row.querySelectorAll("td.k:not(.k-INVALID)").length > 17;
   expect((drawn === null) === isMany, `turn ${turn} has ${isMany ? "a" : "no"} picture`);
   if (row) inSight(row, turn);
   if (row) counted(row, turn);
   if (drawn) measure(drawn, turn);
   if (drawn) arrows(row, drawn, turn);
+}
+
+// The sentence of a turn names the node that its event names, or for which it waits.
+function told(sentence, turn) {
+  const row = trialRows[turn - 1], found = /: \w+\((\d+)|; for node (\d+)$/.exec(row), itself = /^# node (\d+) .*; for node \1$/.test(row);
+  const name = found && (itself ? "itself" : "node " + (found[1] || found[2]));
+  expect(!found || new RegExp(name + "\\b", "i").test(sentence), `turn ${turn} is told without ${name}: ${sentence}`);
 }
 
 // An arrow for each node that waits for another; one more stands in the key.
