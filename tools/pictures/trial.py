@@ -18,8 +18,8 @@ SCRIPTS = {
     "(18 nodes)": "# A crowd.\n" + "memory 18 1\n" + "".join(f"load {node} 0 0\ndone {node}\n" for node in range(18)),
     "(Idle nodes that wait)": (
         f"# A leaver, a newcomer, a copy and a purge.\nmemory 3 1\n{SHARERS}evict 1 0\nturn 1\nturn 1\nstore 0 0 0 5\nturn 0\ndone 1\nload 2 0 0\nturn 2\n"
-        "turn 2\nturn 0\nturn 2\nturn 0\nend\nload 2 0 0\nturn 2\nturn 2\nturn 2\nload 0 0 0\nturn 0\ndone 2\nturn 0\nend\nstore 2 0 0 9\nturn 2\nturn 2\n"
-        "load 0 0 0\nturn 0\nturn 2\nturn 0\nend\n"
+        "turn 2\nturn 0\nturn 2\nturn 0\nend\nload 1 0 0\nturn 1\nturn 1\nturn 1\nstore 2 0 0 7\nturn 2\ndone 1\nend\nload 0 0 0\ndone 0\nstore 0 0 0 9\n"
+        "turn 0\nturn 0\nload 2 0 0\nturn 2\nturn 0\nturn 2\nend\n"
     ),
 }
 TOLD = re.compile(r'(?s)<pre id="told">(.*?)</pre>')

@@ -18,11 +18,12 @@ use Rattle.sci_core.specs.Fronts.{IsFrontWord, IsBodyWord, IsWaiting, IsAdvancin
 use Rattle.sci_core.specs.Law.{is_front, is_body}
 use Rattle.sci_core.specs.Outside.{IsClearing, IsPassing}
 use Rattle.sci_core.specs.PendingStep.{IsOwnWord, is_at_rest}
-use Rattle.sci_core.specs.Progress.{IsMover}
+use Rattle.sci_core.specs.Progress.{IsMover, Moves}
 use Rattle.sci_core.specs.Run.{HasValue}
 use Rattle.sci_core.specs.Shape.{Phase, phase_of}
 use Rattle.sci_core.specs.Stage.{stage_of}
 use Rattle.sci_core.specs.State.{State}
+use Rattle.sci_core.specs.Waiting.{Waits}
 use Rattle.sci_core.proofs.ReadBack.Elements.{contains_none, contains_head, contains_tail, contains_cases}
 use Rattle.sci_ops.specs.declared.goals.Goal.{Goal}
 use Rattle.sci_ops.specs.Plan.{Plan}
@@ -253,3 +254,9 @@ module _ (n : ℕ) (fits : List ℕ → Type 0) (s : State) (v : Line) (h : HasV
 -- an Idle node whose turn doesn't wait
 pub waits_for_none : (n : ℕ) (s : State) (goal : Goal) (i : ℕ) → s.steps i ≡ Pending.Idle → ((s.tags i).held || is_kept_out goal (names i s.memory.forw) (s.tags i).kind) ≡ false → IsAwaitedOn n s goal i None
 waits_for_none n s goal i idle e = inr (idle, idle_waits s goal i idle ∙ e)
+
+-- a node under way
+pub under_way : (n : ℕ) (s : State) (goal : Goal) (i : ℕ) → s.steps i ≢ Pending.Idle → (r : Option ℕ)
+    → MatchOption r ((s.steps i ≡ Pending.Idle) ⊎ Moves n s i) (λ y. (y < n) × (s.steps y ≢ Pending.Idle) × Waits n s i y) → IsAwaitedOn n s goal i r
+under_way n s goal i busy None h = ⊎_elim (λ e. absurd (busy e)) (λ m. inl (busy, m)) h
+under_way n s goal i busy (Some y) h = (h.0, h.1, inl h.2)

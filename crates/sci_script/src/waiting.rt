@@ -9,9 +9,9 @@ ghost use Rattle.sci_script.specs.Wholes.{shared_of};
 
 use crate::wholes::WholeDesk;
 use sci_cache::OpenCall;
-use sci_core::{Keeps, Stage, Whole};
+use sci_core::{AnyWords, Stage, Whole};
 use sci_ops::Goal;
-use sci_words::{Kind, LineNo, NodeId};
+use sci_words::{Kind, LineNo, NodeId, Tag};
 
 // The link names this node.
 fn names(node: NodeId, link: &Option<NodeId>) -> bool
@@ -39,7 +39,7 @@ fn keeps_waiting(entry: NodeId, stage: &Stage) -> bool
 }
 
 // The lowest of the nodes that keeps the Idle entry waiting.
-fn keeper<K: Keeps>(line: &Whole<K>, entry: NodeId, nodes: u16) -> Option<NodeId>
+fn keeper(line: &Whole<AnyWords>, entry: NodeId, nodes: u16) -> Option<NodeId>
     requires { nodes ≡ nodes_of line.now }
     ensures { MatchOption result ((y : ℕ) → y < nodes_of line.now → keeps_waiting entry (stage_of ((state_of line.now).steps y)) ≡ false)
         (λ y. (y < nodes_of line.now) × (keeps_waiting entry (stage_of ((state_of line.now).steps y)) ≡ true)) }
@@ -65,25 +65,32 @@ fn is_kept_out(goal: Goal, is_head: bool, kind: Kind) -> bool
     }
 }
 
+// A turn towards this goal, from Idle with this tag, waits.
+fn is_late(goal: Goal, is_head: bool, tag: &Tag) -> bool
+    ensures { result ≡ (tag.now.held || is_kept_out goal is_head tag.now.kind) }
+{
+    tag.held || is_kept_out(goal, is_head, tag.kind)
+}
+
 // Whom an Idle node waits for.
-fn idle_waits_for<K: Keeps>(line: &Whole<K>, node: NodeId, goal: Goal) -> Option<NodeId>
+fn idle_waits_for(line: &Whole<AnyWords>, node: NodeId, goal: Goal) -> Option<NodeId>
     requires node { node < nodes_of line.now }
     requires idle { (state_of line.now).steps node ≡ Idle }
     ensures { IsAwaitedOn (nodes_of line.now) (state_of line.now) goal node result }
 {
-    let tag = line.tag(node);
     let is_head = names(node, &line.mem().forw);
-    if !tag.held && !is_kept_out(goal, is_head, tag.kind) {
-        return None;
+    if is_late(goal, is_head, &line.tag(node)) {
+        let nodes = line.nodes();
+        keeper(line, node, nodes)
+    } else {
+        None
     }
-    let nodes = line.nodes();
-    keeper(line, node, nodes)
 }
 
 /// Whom a node with this goal waits for on the line, by its words as they stand: a node that isn't Idle. None exactly where the node's
 /// next turn, if nobody comes between, makes its exchange or ends the operation. Of a node under way it is `Whole::waits_for`. An Idle one
 /// waits for who copies from it or purges it; and, a head that is to write or to go, for who has come in front of it.
-pub fn waits_for<K: Keeps>(line: &Whole<K>, node: NodeId, goal: Goal) -> Option<NodeId>
+pub fn waits_for(line: &Whole<AnyWords>, node: NodeId, goal: Goal) -> Option<NodeId>
     requires { node < nodes_of line.now }
     ensures { IsAwaitedOn (nodes_of line.now) (state_of line.now) goal node result }
 {
@@ -112,7 +119,9 @@ impl WholeDesk {
         requires node { node < self.now.size.nodes }
         ensures { IsAwaited (shared_of self.now) line node result }
     {
-        let goal = goal_on(line, self.open_call(node))?;
-        waits_for(self.bank.whole(line), node, goal)
+        match goal_on(line, self.open_call(node)) {
+            Some(goal) => waits_for(self.bank.whole(line), node, goal),
+            None => None,
+        }
     }
 }

@@ -6,10 +6,10 @@ use Rattle.sci_script.specs.Waiting.{keeps_waiting}
 use Rattle.sci_script.proofs.waiting.keeper.Goals as goal
 
 pub loop-number-init : goal.loop-number-init
-loop-number-init g c = λ y l. absurd (omega (arith, l))
+loop-number-init c = λ y l. absurd (omega (arith, l))
 
 pub loop-number-preserved : goal.loop-number-preserved
-loop-number-preserved g c =
+loop-number-preserved c =
     let s = state_of c.args.line.now in
     let same : c.unwrap-node.result ≡ c.loop-number.number = search rules in
     let here : keeps_waiting c.args.entry (stage_of (s.steps c.unwrap-node.result)) ≡ false = search rules in
@@ -19,9 +19,9 @@ loop-number-preserved g c =
     (cases_lt y c.loop-number.number)
 
 pub returns : goal.returns
-returns g c = λ y l. c.loop-number.invariant y (omega (arith, l, c.loop-number-test.false, c.loop-number.auto.number-end, c.requires))
+returns c = λ y l. c.loop-number.invariant y (omega (arith, l, c.loop-number-test.false, c.loop-number.auto.number-end, c.requires))
 
 pub returns-then-keeps_waiting : goal.returns-then-keeps_waiting
-returns-then-keeps_waiting g c =
+returns-then-keeps_waiting c =
     let same : c.unwrap-node.result ≡ c.loop-number.number = search rules in
     (omega (arith, same, c.loop-number-test.true, c.loop-number.auto.number-end, c.requires), search rules)

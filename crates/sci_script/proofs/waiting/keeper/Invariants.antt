@@ -5,4 +5,4 @@ use Rattle.sci_script.specs.Waiting.{keeps_waiting}
 use Rattle.sci_script.proofs.waiting.keeper.Given as goal
 
 abbrev pub invariant-loop-number : goal.invariant-loop-number
-invariant-loop-number g l = (y : ℕ) → y < l.number → keeps_waiting l.entry (stage_of ((state_of l.line).steps y)) ≡ false
+invariant-loop-number l = (y : ℕ) → y < l.number → keeps_waiting l.entry (stage_of ((state_of l.line).steps y)) ≡ false
