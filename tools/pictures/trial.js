@@ -34,7 +34,7 @@ function look(turn) {
   expect(turn === 0 || one("#now").childNodes[1].textContent.trim().length > 10, `turn ${turn} has no sentence`);
   const text = now + one("#picture").textContent + one("#table").textContent + (row ? row.textContent : "");
   expect(!/undefined|NaN|null|can't be right|\[object/.test(text), `at turn ${turn} it says ${/.{0,20}(undefined|NaN|null|can't be right|\[object).{0,20}/.exec(text)}`);
-  if (turn > 0) told(one("#now").childNodes[1].textContent, turn);
+  if (row) told(one("#now").childNodes[1].textContent, row, turn);
   const isMany = row !== null && row.querySelectorAll("td.k:not(.k-INVALID)").length > 17;
   expect((drawn === null) === isMany, `turn ${turn} has ${isMany ? "a" : "no"} picture`);
   if (row) inSight(row, turn);
@@ -43,11 +43,14 @@ function look(turn) {
   if (drawn) arrows(row, drawn, turn);
 }
 
-// The sentence of a turn names the node that its event names, or for which it waits.
-function told(sentence, turn) {
-  const row = trialRows[turn - 1], found = /: \w+\((\d+)|; for node (\d+)$/.exec(row), itself = /^# node (\d+) .*; for node \1$/.test(row);
-  const name = found && (itself ? "itself" : "node " + (found[1] || found[2]));
-  expect(!found || new RegExp(name + "\\b", "i").test(sentence), `turn ${turn} is told without ${name}: ${sentence}`);
+// The sentence of a turn names the node that its event names, or for which it waits; so does the node's cell where it waits.
+function told(sentence, row, turn) {
+  const text = trialRows[turn - 1], found = /: \w+\((\d+)|; for node (\d+)$/.exec(text), me = /^# node (\d+)/.exec(text)[1];
+  if (!found) return;
+  const name = found[2] === me ? "itself" : "node " + (found[1] || found[2]), says = new RegExp(name.replace("node", "(node|waits for)") + "\\b", "i");
+  expect(says.test(sentence), `turn ${turn} is told without ${name}: ${sentence}`);
+  const cell = row.cells[all("#grid th").findIndex(it => it.textContent === "node " + me)], wait = cell.querySelector(".wait");
+  if (found[2]) expect(wait !== null && says.test(wait.textContent), `turn ${turn} has no ${name} in ${cell.textContent}`);
 }
 
 // An arrow for each node that waits for another; one more stands in the key.

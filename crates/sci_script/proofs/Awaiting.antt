@@ -26,6 +26,7 @@ use Rattle.sci_core.specs.State.{State}
 use Rattle.sci_core.specs.Waiting.{Waits}
 use Rattle.sci_core.proofs.ReadBack.Elements.{contains_none, contains_head, contains_tail, contains_cases}
 use Rattle.sci_ops.specs.declared.goals.Goal.{Goal}
+use Rattle.sci_ops.specs.declared.goals.Write.{Write}
 use Rattle.sci_ops.specs.Plan.{Plan}
 use Rattle.sci_ops.specs.Rest.{read, due_turn}
 use Rattle.sci_ops.specs.Table.{turn_of, begun, idle_as, idle_at, move, wait}
@@ -56,7 +57,7 @@ module _ (m : Mem) (tags : ℕ → Tag) (me : ℕ) (t : Tag) where
   load_waits Kind.Roll = refl
   load_waits Kind.Purged = refl
 
-  write_waits : (w : _) (k : Kind) → waits (idle_as (Goal.Write w) me t k) ≡ is_kept_out (Goal.Write w) (names me m.forw) k
+  write_waits : (w : Write) (k : Kind) → waits (idle_as (Goal.Write w) me t k) ≡ is_kept_out (Goal.Write w) (names me m.forw) k
   write_waits w Kind.Invalid = refl
   write_waits w Kind.Queued = refl
   write_waits w Kind.Fresh = at_front (names me m.forw) (Event.Convert t)
@@ -124,12 +125,31 @@ newcomer_keeps i t (Pending.Promoted d l x) e o w = let same = same_node x i (sy
 newcomer_keeps i t _ e o w = absurd (grind (arith, w))
 
 -- the kinds of tags that keep an Idle node from its turn
-kept_out_kind : (goal : Goal) (b : Bool) (k : Kind) → is_kept_out goal b k ≡ true → is_at_rest k ≡ true → (k ≡ Kind.Purged) ⊎ (((k ≡ Kind.Fresh) ⊎ (k ≡ Kind.Dirty)) × (b ≡ false))
-kept_out_kind (Goal.Write w) false Kind.Fresh h r = inr (inl refl, refl)
-kept_out_kind Goal.Evict false Kind.Fresh h r = inr (inl refl, refl)
-kept_out_kind Goal.Evict false Kind.Dirty h r = inr (inr refl, refl)
-kept_out_kind goal b Kind.Purged h r = inl refl
-kept_out_kind goal b _ h r = absurd (grind (arith, h, r))
+abbrev IsOut : Bool → Kind → Type 0
+IsOut b k = (k ≡ Kind.Purged) ⊎ (((k ≡ Kind.Fresh) ⊎ (k ≡ Kind.Dirty)) × (b ≡ false))
+
+load_out : (b : Bool) (k : Kind) → is_kept_out Goal.Load b k ≡ true → is_at_rest k ≡ true → IsOut b k
+load_out b Kind.Purged h r = inl refl
+load_out b _ h r = absurd (grind (arith, h, r))
+
+write_out : (w : Write) (b : Bool) (k : Kind) → is_kept_out (Goal.Write w) b k ≡ true → is_at_rest k ≡ true → IsOut b k
+write_out w false Kind.Fresh h r = inr (inl refl, refl)
+write_out w true Kind.Fresh h r = absurd (grind (arith, h))
+write_out w b Kind.Purged h r = inl refl
+write_out w b _ h r = absurd (grind (arith, h, r))
+
+evict_out : (b : Bool) (k : Kind) → is_kept_out Goal.Evict b k ≡ true → is_at_rest k ≡ true → IsOut b k
+evict_out false Kind.Fresh h r = inr (inl refl, refl)
+evict_out true Kind.Fresh h r = absurd (grind (arith, h))
+evict_out false Kind.Dirty h r = inr (inr refl, refl)
+evict_out true Kind.Dirty h r = absurd (grind (arith, h))
+evict_out b Kind.Purged h r = inl refl
+evict_out b _ h r = absurd (grind (arith, h, r))
+
+kept_out_kind : (goal : Goal) (b : Bool) (k : Kind) → is_kept_out goal b k ≡ true → is_at_rest k ≡ true → IsOut b k
+kept_out_kind Goal.Load b k h r = load_out b k h r
+kept_out_kind (Goal.Write w) b k h r = write_out w b k h r
+kept_out_kind Goal.Evict b k h r = evict_out b k h r
 
 settled_front : (k : Kind) → (k ≡ Kind.Fresh) ⊎ (k ≡ Kind.Dirty) → is_body k ≡ true → ⊥
 settled_front k e b = grind (arith, e, b)
@@ -158,12 +178,12 @@ keeper_passes i t (Pending.Unlinked f b) h q = absurd (cc)
 keeper_passes i t _ h q = grind (arith, q)
 
 keeper_unpurged : (i : ℕ) (t : Tag) (p : Pending) → keeps_waiting i (stage_of p) ≡ true → IsOwnWord p t → t.kind ≡ Kind.Purged → ⊥
-keeper_unpurged i t (Pending.Copying f w l) h o e = let k = ap (λ (x : Tag). x.kind) o in grind (arith, k, e)
-keeper_unpurged i t (Pending.Advancing l v w) h o e = let k = ap (λ (x : Tag). x.kind) o in grind (arith, k, e)
-keeper_unpurged i t (Pending.Clearing l v w) h o e = let k = ap (λ (x : Tag). x.kind) o in grind (arith, k, e)
-keeper_unpurged i t (Pending.Fetching f d l) h o e = let k = ap (λ (x : Tag). x.kind) o in grind (arith, k, e)
-keeper_unpurged i t (Pending.InQueue f d c) h o e = let k = ap (λ (x : Tag). x.kind) o.0 in grind (arith, k, e)
-keeper_unpurged i t (Pending.Promoted d l x) h o e = let k = ap (λ (x : Tag). x.kind) o in grind (arith, k, e)
+keeper_unpurged i t (Pending.Copying f w l) h o e = let k : t.kind ≡ Kind.Queued = ap (λ (x : Tag). x.kind) o in grind (arith, k, e)
+keeper_unpurged i t (Pending.Advancing l v w) h o e = let k : t.kind ≡ Kind.Purging = ap (λ (x : Tag). x.kind) o in grind (arith, k, e)
+keeper_unpurged i t (Pending.Clearing l v w) h o e = let k : t.kind ≡ Kind.Purging = ap (λ (x : Tag). x.kind) o in grind (arith, k, e)
+keeper_unpurged i t (Pending.Fetching f d l) h o e = let k : t.kind ≡ Kind.Queued = ap (λ (x : Tag). x.kind) o in grind (arith, k, e)
+keeper_unpurged i t (Pending.InQueue f d c) h o e = let k : t.kind ≡ Kind.Queued = ap (λ (x : Tag). x.kind) o.0 in grind (arith, k, e)
+keeper_unpurged i t (Pending.Promoted d l x) h o e = let k : t.kind ≡ Kind.Leaving = ap (λ (x : Tag). x.kind) o in grind (arith, k, e)
 keeper_unpurged i t _ h o e = absurd (cc)
 
 idle_phase : (i : ℕ) (p : Pending) → keeps_waiting i (stage_of p) ≡ true → phase_of p ≡ Phase.Idle → ⊥
