@@ -36,3 +36,4 @@ pub mod Caused
 pub mod CausedWords
 pub mod Spoken
 pub mod Printing
+pub mod Awaiting
