@@ -12,12 +12,14 @@ HERE = pathlib.Path(__file__).resolve().parent
 RESULTS = HERE / "trial.txt"
 # The example whose grid must stand on one sheet of paper.
 PRINTED = "evict_in_purge"
-# Scripts of no example: one with more nodes than a picture has, and one whose Idle nodes wait for each reason that there is.
+# Scripts of no example: one with more nodes than a picture has, and one whose Idle nodes wait for each reason that there is, but for a
+# load, which waits for no newcomer.
 SHARERS = "load 0 0 0\ndone 0\nload 1 0 0\ndone 1\n"
 SCRIPTS = {
     "(18 nodes)": "# A crowd.\n" + "memory 18 1\n" + "".join(f"load {node} 0 0\ndone {node}\n" for node in range(18)),
     "(Idle nodes that wait)": (
-        f"# A leaver, a newcomer, a copy and a purge.\nmemory 3 1\n{SHARERS}evict 1 0\nturn 1\nturn 1\nstore 0 0 0 5\nturn 0\ndone 1\nload 2 0 0\nturn 2\n"
+        f"# A newcomer that a load passes by, a leaver, a newcomer, a copy and a purge.\nmemory 3 1\n{SHARERS}load 2 0 0\nturn 2\nturn 2\nload 1 0 0\ndone 1\ndone 2\nevict 2 0\ndone 2\n"
+        "evict 1 0\nturn 1\nturn 1\nstore 0 0 0 5\nturn 0\ndone 1\nload 2 0 0\nturn 2\n"
         "turn 2\nturn 0\nturn 2\nturn 0\nend\nload 1 0 0\nturn 1\nturn 1\nturn 1\nstore 2 0 0 7\nturn 2\ndone 1\nend\nload 0 0 0\ndone 0\nstore 0 0 0 9\n"
         "turn 0\nturn 0\nload 2 0 0\nturn 2\nturn 0\nturn 2\nend\n"
     ),
