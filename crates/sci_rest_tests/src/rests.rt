@@ -1,9 +1,8 @@
 //! Lines that are brought to rest, worked out by hand from the table of turns.
-ghost use Rattle.std.specs.Prelude.{◌≡◌, ◌<◌, length};
-ghost use Rattle.sci_core.specs.Whole.{nodes_of};
+ghost use Rattle.std.specs.Prelude.{◌≡◌, ◌<◌};
 
 use sci_core::{AnyWords, Line, Whole};
-use sci_ops::{Answer, Op, Steps, Turn, end, rest};
+use sci_ops::{Answer, Op, Steps, Turn, rest};
 use sci_words::{Kind, Mem, MemState, NodeId, Tag};
 use std::marker::Brand;
 use std::process::Abort;
@@ -93,68 +92,5 @@ fn a_write_goes_on_from_rest(rt: HostRuntime) -> Result<(), Fail> {
     let wrote = last_turn(&mut whole, 1, &mut write, 4);
     let before = [0; 8];
     assert_eq!(rt; wrote, Some(Turn::Done(Answer::Wrote { before, stamp: 1 })));
-    Ok(())
-}
-
-// The operations of all nodes end.
-#[tactic(auto, using(sci_ops::proofs::Storing::any_store_fits))]
-fn counted_end<L: Ledger>(whole: &mut Whole<AnyWords>, ops: &mut [Op], blank: Blank)
-    requires count { length ops.old ≡ nodes_of whole.old }
-    requires name { blank.name ≡ L.name }
-    requires parts { blank.parts ≡ L.parts }
-    requires some { 0 < L.parts }
-{
-    let mut steps = Steps::<L>::open(blank);
-    end(whole, ops, &mut steps);
-}
-
-// The same, with its steps counted in a ledger of its own.
-fn take_to_end(whole: &mut Whole<AnyWords>, ops: &mut [Op])
-    requires count { length ops.old ≡ nodes_of whole.old }
-{
-    counted_end::<Brand>(whole, ops, Blank::new(1));
-}
-
-// What operations of four nodes answer that are taken to their ends, each behind one turn.
-fn answers_of(whole: &mut Whole<AnyWords>, ops: [Op; 4]) -> Option<[Option<Answer>; 4]> {
-    let mut begun = ops;
-    let _ = last_turn(whole, 0, &mut begun[0], 1)?;
-    let _ = last_turn(whole, 1, &mut begun[1], 1)?;
-    let _ = last_turn(whole, 2, &mut begun[2], 1)?;
-    let _ = last_turn(whole, 3, &mut begun[3], 1)?;
-    if whole.nodes() != 4 {
-        return None;
-    }
-    take_to_end(whole, &mut begun);
-    Some([
-        begun[0].answer(),
-        begun[1].answer(),
-        begun[2].answer(),
-        begun[3].answer(),
-    ])
-}
-
-fn wrote(before: [u64; 8], stamp: u64) -> Option<Answer> {
-    Some(Answer::Wrote { before, stamp })
-}
-
-// Node 0, alone in the list, begins to leave; the others queue up. To rest node 0 leaves, and the others enter as readers. Then they
-// end, the lowest first: nothing is left to do for node 0, node 1 reads, node 2 stores 7, and node 3 adds 3 to that.
-#[test]
-fn operations_end(rt: HostRuntime) -> Result<(), Fail> {
-    let mut whole = Whole::open(rt.alloc(), 4, 0, Line::ZERO, AnyWords)?;
-    let _ = last_turn(&mut whole, 0, &mut Op::load(), 4);
-    let ops = [Op::evict(), Op::load(), Op::store(1, 7)?, Op::add(1, 3)?];
-    let answers = answers_of(&mut whole, ops);
-    let seen = Answer::Seen {
-        words: [0; 8],
-        stamp: 0,
-    };
-    let first = wrote([0; 8], 1);
-    let second = wrote([0, 7, 0, 0, 0, 0, 0, 0], 2);
-    assert_eq!(rt;
-        answers,
-        Some([Some(Answer::Out), Some(seen), first, second])
-    );
     Ok(())
 }
