@@ -47,7 +47,7 @@ static void open_line(void) {
 }
 
 /* One event in the words of a trace, in front of its outcome. `whose` is the node whose tag was found. */
-static void log_event(uint16_t me, const sci_event *event, uint16_t whose) {
+static void log_event(uint16_t me, const sci_event *event, uint16_t whose, int is_missed) {
     sci_tag found;
     if (!is_log) return;
     printf("node %d line 0 %s", me, sci_event_name(event->event));
@@ -59,8 +59,10 @@ static void log_event(uint16_t me, const sci_event *event, uint16_t whose) {
         for (int i = 0; event->has && i < 8; i++) printf(" %llu", (unsigned long long)event->words[i]);
         printf(")");
     } else if (event->found && sci_read_tag(event->found, &found) == SCI_OK) {
-        if (whose == me) printf("(%s)", sci_tag_name(&found));
-        else printf("(%d %s)", whose, sci_tag_name(&found));
+        printf("(");
+        if (whose != me) printf("%d ", whose);
+        if (is_missed) printf("%016llx)", (unsigned long long)event->found);
+        else printf("%s)", sci_tag_name(&found));
     }
 }
 
@@ -69,8 +71,9 @@ static turned make(uint16_t me, sci_event event, uint16_t whose) {
     sci_row row;
     must(sci_exchange(me, NODES, &steps[me], &lines[me], &event, &row), "sci_exchange");
     uint64_t *word = row.word == SCI_MEMORY ? &memory : &tags[row.word];
-    log_event(me, &event, whose);
-    if (*word != row.before) {
+    const int is_missed = *word != row.before;
+    log_event(me, &event, whose, is_missed);
+    if (is_missed) {
         if (is_log) printf(" Missed %016llx\n", (unsigned long long)*word);
         return MOVED;
     }
@@ -98,7 +101,7 @@ static turned on_tag(uint16_t me, uint8_t which, uint16_t whose) {
 
 static void look(uint16_t me) {
     const sci_event event = {.event = SCI_LOOK};
-    log_event(me, &event, me);
+    log_event(me, &event, me, 0);
     must(sci_look(&steps[me], tags[me]), "sci_look");
     if (is_log) printf(" Done\n");
 }

@@ -179,7 +179,7 @@ def after_kinds(row, word, kinds):
 def grid(head, rows):
     """A table."""
     lines = [head, ['---'] * len(head), *rows]
-    return ''.join('| ' + ' | '.join(line) + ' |\n' for line in lines)
+    return ''.join('|' + ''.join(f' {cell} |' if cell else '|' for cell in line) + '\n' for line in lines)
 
 
 def by_step():

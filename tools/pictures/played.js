@@ -7,7 +7,8 @@ console.error = console.warn = (...words) => blame("console: " + words.join(" ")
 // --- behind the page ---
 // The program's own rows of each state, and the turns among them: whose, where to, and what.
 const trialRows = id("states").textContent.split(/^state\n/m).slice(1).map(block => block.split("\n").filter(row => row));
-const trialTurns = trialRows.map(rows => rows.map(row => /^turn (\d+) (\d+) (.*); $/.exec(row)).filter(it => it).map(it => ({ node: Number(it[1]), to: Number(it[2]), what: it[3] })));
+const trialTurns = trialRows.map(rows => rows.map(row => /^turn (\d+) (\d+) line (\d+) (.*); (?:for node (\d+))?$/.exec(row)).filter(it => it)
+  .map(it => ({ node: Number(it[1]), to: Number(it[2]), line: Number(it[3]), what: it[4], whom: it[5] === undefined ? null : Number(it[5]) })));
 const trialWays = [[]];
 trialTurns.forEach((list, s) => { for (const it of list) if (!trialWays[it.to]) trialWays[it.to] = trialWays[s].concat(it.node); });
 // Of each state the outcomes that are still possible: those of the states that turns lead to from it.
@@ -38,17 +39,23 @@ function look(s) {
     expect(box.querySelector(".tag").textContent.split(" ")[0] === (memory || node)[memory ? 1 : 2], `in state ${s} it shows ${box.textContent} for ${row}`);
     const bytes = /(?:has|keeps) (\d+) (\d+)/.exec(row), shownBytes = box.querySelector(".bytes").textContent;
     if (bytes) expect(shownBytes.startsWith(bytes[2]) && shownBytes.includes("stamp " + bytes[1]), `in state ${s} its bytes are ${shownBytes} for ${row}`);
-    const whom = /; for node (\d+)$/.exec(row), step = node && node[4] !== "Idle" ? node[4] : "";
+    const next = node && trialTurns[s].find(it => it.node === Number(node[1]) && it.line === view), step = node && node[4] !== "Idle" ? node[4] : "";
     if (node && step) expect(box.querySelector(".step").textContent === step || box.textContent.includes("in the hand of"), `in state ${s} its step is ${box.textContent} for ${row}`);
-    if (node) expect(nodeOf(s, Number(node[1])).waits === (whom ? Number(whom[1]) : null), `in state ${s} node ${node[1]} waits otherwise`);
+    if (node) expect(nodeOf(s, Number(node[1])).waits === (next ? next.whom : null), `in state ${s} node ${node[1]} waits otherwise`);
   }
   lastRow(s);
-  arrows(s, "wait", (row => /; for node (\d+)$/.exec(row)));
+  arrows(s, "wait", row => /^node \d+ is/.test(row) ? waitOf(s, Number(row.split(" ")[1])) : null);
   arrows(s, "forw", (row => /^(?:line|node) \d+ is \w+ forw (\d+)/.exec(row)));
   arrows(s, "back", (row => /^node \d+ is .* back (\d+)/.exec(row)));
   const text = id("picture").textContent + id("turns").textContent + id("goals").textContent + id("note").textContent + id("grid").tBodies[0].lastChild.textContent;
   expect(!/undefined|NaN|null|\[object/.test(text), `in state ${s} it says ${/.{0,30}(undefined|NaN|null|\[object).{0,20}/.exec(text)}`);
   expect(document.querySelectorAll("#grid tbody tr").length === path.length + 1, `in state ${s} its run has other rows`);
+}
+
+// Whom the node waits for on the line in view, as a match has it.
+function waitOf(s, node) {
+  const next = trialTurns[s].find(it => it.node === node && it.line === view);
+  return next && next.whom !== null ? [null, next.whom] : null;
 }
 
 // The arrows of a sort lead from each row to the node that it tells, and to no other.
@@ -70,6 +77,8 @@ function lastRow(s) {
   const told = path.length ? trialTurns[was].find(it => it.node === i) : null, says = cells[1].textContent;
   const name = told && told.what.startsWith("waits") ? "waits" : told && told.what === "only looked" ? "out already" : told ? /^\w+/.exec(told.what)[0] : "start";
   expect(told ? says.startsWith(i + " " + name) : says === name, `in state ${s} its last row says ${says}`);
+  if (told) expect(LINES === 1 ? !says.includes(", line ") : says.endsWith(", line " + told.line), `in state ${s} its last row says ${says}, and not line ${told.line}`);
+  if (told && told.whom !== null) expect(says.startsWith(i + " waits for " + told.whom), `in state ${s} its last row says ${says}, and not whom`);
   ["m", ...shown()].forEach((k, at) => {
     const wanted = boxes.get(k).querySelector(".tag").firstChild.textContent, tag = cells[at + 2].querySelector(".t").textContent.replace("\u200b", "");
     expect(tag.split(/[+ ]/)[0] === wanted, `in state ${s} its last row has ${tag} for ${wanted}`);
@@ -86,6 +95,8 @@ function moves(s) {
     expect(card.disabled === !told, `in state ${s} the card of node ${i} is ${card.disabled}`);
     if (told) {
       const name = told.what.startsWith("waits") ? "waits" : told.what === "only looked" ? "no exchange" : /^\w+/.exec(told.what)[0], says = card.querySelector(".says").textContent;
+      const found = /^\w+\((\d+)/.exec(told.what), named = found ? Number(found[1]) : told.whom;
+      expect(named === null || new RegExp(named === i ? "itself" : "node " + named + "\\b", "i").test(says), `in state ${s} the card of node ${i} doesn't name node ${named}: ${says}`);
       expect(card.querySelector(".ev").textContent.startsWith(name) && says.length > 10, `in state ${s} the card of node ${i} says ${card.textContent}`);
       const then = card.querySelector(".then").textContent, left = trialLeft[told.to], lost = trialLeft[s].filter(it => !left.includes(it));
       const wanted = told.to === s ? "nothing changes" : outcomes.length < 2 ? "to a state" : lost.length ? "rules out " + lost.join(" ") : "then still possible: " + left.join(" ");

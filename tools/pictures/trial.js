@@ -9,7 +9,7 @@ console.error = console.warn = (...words) => blame("console: " + words.join(" ")
 const one = selector => document.querySelector(selector);
 const all = selector => [...document.querySelectorAll(selector)];
 const isWide = innerWidth >= 1000;
-const trialTurns = all("#trace a").filter(it => it.textContent.startsWith("# node ")).length;
+const trialRows = all("#trace a").map(it => it.textContent).filter(it => it.startsWith("# node ")), trialTurns = trialRows.length;
 let smallest = Infinity;
 
 function expect(holds, text) {
@@ -34,12 +34,23 @@ function look(turn) {
   expect(turn === 0 || one("#now").childNodes[1].textContent.trim().length > 10, `turn ${turn} has no sentence`);
   const text = now + one("#picture").textContent + one("#table").textContent + (row ? row.textContent : "");
   expect(!/undefined|NaN|null|can't be right|\[object/.test(text), `at turn ${turn} it says ${/.{0,20}(undefined|NaN|null|can't be right|\[object).{0,20}/.exec(text)}`);
+  if (row) told(one("#now").childNodes[1].textContent, row, turn);
   const isMany = row !== null && row.querySelectorAll("td.k:not(.k-INVALID)").length > 17;
   expect((drawn === null) === isMany, `turn ${turn} has ${isMany ? "a" : "no"} picture`);
   if (row) inSight(row, turn);
   if (row) counted(row, turn);
   if (drawn) measure(drawn, turn);
   if (drawn) arrows(row, drawn, turn);
+}
+
+// The sentence of a turn names the node that its event names, or for which it waits; so does the node's cell where it waits.
+function told(sentence, row, turn) {
+  const text = trialRows[turn - 1], found = /: \w+\((\d+)|; for node (\d+)$/.exec(text), me = /^# node (\d+)/.exec(text)[1];
+  if (!found) return;
+  const name = found[2] === me ? "itself" : "node " + (found[1] || found[2]), says = new RegExp(name.replace("node", "(node|waits for)") + "\\b", "i");
+  expect(says.test(sentence), `turn ${turn} is told without ${name}: ${sentence}`);
+  const cell = row.cells[all("#grid th").findIndex(it => it.textContent === "node " + me)], wait = cell.querySelector(".wait");
+  if (found[2]) expect(wait !== null && says.test(wait.textContent), `turn ${turn} has no ${name} in ${cell.textContent}`);
 }
 
 // An arrow for each node that waits for another; one more stands in the key.

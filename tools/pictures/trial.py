@@ -12,9 +12,18 @@ HERE = pathlib.Path(__file__).resolve().parent
 RESULTS = HERE / "trial.txt"
 # The example whose grid must stand on one sheet of paper.
 PRINTED = "evict_in_purge"
-# A script with more nodes than a picture has.
-CROWD = "(18 nodes)"
-MANY = "# A crowd.\n" + "memory 18 1\n" + "".join(f"load {node} 0 0\ndone {node}\n" for node in range(18))
+# Scripts of no example: one with more nodes than a picture has, and one whose Idle nodes wait for each reason that there is, but for a
+# load, which waits for no newcomer.
+SHARERS = "load 0 0 0\ndone 0\nload 1 0 0\ndone 1\n"
+SCRIPTS = {
+    "(18 nodes)": "# A crowd.\n" + "memory 18 1\n" + "".join(f"load {node} 0 0\ndone {node}\n" for node in range(18)),
+    "(Idle nodes that wait)": (
+        f"# A newcomer that a load passes by, a leaver, a newcomer, a copy and a purge.\nmemory 3 1\n{SHARERS}load 2 0 0\nturn 2\nturn 2\nload 1 0 0\ndone 1\ndone 2\nevict 2 0\ndone 2\n"
+        "evict 1 0\nturn 1\nturn 1\nstore 0 0 0 5\nturn 0\ndone 1\nload 2 0 0\nturn 2\n"
+        "turn 2\nturn 0\nturn 2\nturn 0\nend\nload 1 0 0\nturn 1\nturn 1\nturn 1\nstore 2 0 0 7\nturn 2\ndone 1\nend\nload 0 0 0\ndone 0\nstore 0 0 0 9\n"
+        "turn 0\nturn 0\nload 2 0 0\nturn 2\nturn 0\nturn 2\nend\n"
+    ),
+}
 TOLD = re.compile(r'(?s)<pre id="told">(.*?)</pre>')
 WIDTHS = [(1280, 900), (390, 844)]
 # How often the browser may end before its first page has said anything, as it does on a busy machine.
@@ -48,7 +57,7 @@ def with_trial(page, name):
     """Returns a page that is tried: at its head what notes its faults, at its end what looks at it, and the script that it is of."""
     text = (HERE / "trial.js").read_text(encoding="utf-8")
     head, end = text.split("// --- behind the page ---\n")
-    script = (EXAMPLES / f"{name}.txt").read_text(encoding="utf-8") if name != CROWD else MANY
+    script = SCRIPTS.get(name) or (EXAMPLES / f"{name}.txt").read_text(encoding="utf-8")
     page = page.replace("<style>", f"<script>\n{head}const trialScript = {json.dumps(script)};\n</script>\n<style>", 1)
     return page.replace("</body>", f"<script>\n{end}</script>\n</body>", 1)
 
@@ -111,7 +120,7 @@ def stored():
 def run(program, browser, room, is_check):
     """Tries the pages, and keeps or compares the results. Returns how many there are, and what is wrong."""
     pages = {it.stem: page_of(program, it.stem) for it in sorted(EXAMPLES.glob("*.txt"))}
-    pages[CROWD] = page_of_text(program, MANY)
+    pages |= {name: page_of_text(program, script) for name, script in SCRIPTS.items()}
     digests = {name: hashlib.sha256(page.encode()).hexdigest() for name, page in pages.items()}
     results, faults = results_of(browser, room, pages) if browser else ({}, [])
     kept = stored()

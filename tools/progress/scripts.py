@@ -28,7 +28,7 @@ class Play:
         """One turn towards a goal. What it came to."""
         event, self.state = turn(self.state, node, goal)
         self.states.add(self.state)
-        self.turns.append((node, event, waits_for(self.state, node) if event == WAITS else None))
+        self.turns.append((node, event, waits_for(self.state, node, goal) if event == WAITS else None))
         return event
 
     def take(self, node):

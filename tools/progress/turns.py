@@ -139,11 +139,21 @@ def before(state, me):
     return delays(state, state.tags[me].back[0])
 
 
-def waits_for(state, me):
-    """Whom a node that isn't Idle waits for, or None where its next turn makes an exchange."""
+def keeps_waiting(state, entry):
+    """The nodes that keep an Idle entry waiting: one copies from it, purges it, or stands in front of it, as long as it hasn't attached
+    it or handed memory on to it."""
+    names = {'Copying': ('node', entry), 'Advancing': ('node', entry), 'Clearing': ('node', entry), 'Promoted': ('node', entry),
+             'Fetching': ('kept', (entry,)), 'InQueue': ('kept', (entry,))}
+    return [node for node, step in enumerate(state.steps) if step.phase in names and part(step, names[step.phase][0]) == names[step.phase][1]]
+
+
+def waits_for(state, me, goal='load'):
+    """Whom a node's next turn towards a goal waits for, or None where it makes an exchange or ends. Only of an Idle node the goal matters."""
     step = state.steps[me]
-    if step == IDLE or plan(state, me, 'load') != WAITS:
+    if plan(state, me, goal) != WAITS:
         return None
+    if step == IDLE:
+        return keeps_waiting(state, me)[0]
     if step.phase == 'Queueing':
         return next(node for node, each in enumerate(state.steps) if each.phase in ('Fetching', 'WritingBack'))
     if step.phase == 'Rolling' and (part(step, 'flag') or state.tags[me].forw is None):

@@ -30,18 +30,18 @@ REASONS = [
     ("memory 1 1\nlist 0\nturn 0\n", "16 at line 3", "node 0 has no call open", "line 0 HOME\n"),
     ("memory 2 1\ndone 1\n", "16 at line 2", "node 1 has no call open", ""),
     (UNENDED, "18 at line 7", "node 1 waits for node 0", "node 0 wrote stamp 1\n"),
-    # A head that is to leave, and in front of which another stands by now, has no step pending.
+    # A head that is to leave waits for the newcomer in front of it.
     (
         "memory 2 1\nstore 0 0 0 7\ndone 0\nevict 0 0\nturn 0\nload 1 0 0\nturn 1\nturn 1\nturn 0\ndone 0\n",
         "18 at line 10",
-        "node 0 is Idle, and waits",
+        "node 0 waits for node 1",
         "node 0 wrote stamp 1\n",
     ),
     # Its victim is another node's to purge first.
     (
         "memory 2 2\ncapacity 1\nload 1 0 0\ndone 1\nload 0 0 0\ndone 0\nstore 0 0 0 5\nturn 0\nturn 0\nturn 0\nturn 0\nload 1 1 0\ndone 1\n",
         "18 at line 13",
-        "node 1 is Idle, and waits",
+        "node 1 waits for node 0",
         "node 1 read 0 stamp 0\nnode 0 read 0 stamp 0\n",
     ),
 ]

@@ -4,6 +4,21 @@ import re
 
 from kinds import Little, WholePage, refused
 
+# Two readers, one after the other.
+TWO_SHARERS = (
+    "# node 0 line 0 load: Queue(none) Done; Queueing(none); HOME\n"
+    "# node 0 line 0 load: PrependValid Done; Fetching(none); FRESH lent 0: 0 QUEUED\n"
+    "# node 0 line 0 load: ReturnMemory Done; InQueue(none); FRESH 0: 0 QUEUED\n"
+    "# node 0 line 0 load: Settle Done; Idle; FRESH 0: 0 ONLY_FRESH\n"
+    "node 0 read 0 stamp 0\n"
+    "# node 1 line 0 load: Queue(0) Done; Queueing(0); FRESH 0: 0 ONLY_FRESH\n"
+    "# node 1 line 0 load: PrependValid Done; Fetching(0); FRESH lent 1: 1 QUEUED, 0 ONLY_FRESH\n"
+    "# node 1 line 0 load: ReturnMemory Done; InQueue(0); FRESH 1: 1 QUEUED, 0 ONLY_FRESH\n"
+    "# node 1 line 0 load: AttachFresh(0 ONLY_FRESH) Done; Ready(0); FRESH 1: 1 QUEUED, 0 TAIL_VALID\n"
+    "# node 1 line 0 load: Settle Done; Idle; FRESH 1: 1 HEAD_FRESH, 0 TAIL_VALID\n"
+    "node 1 read 0 stamp 0\n"
+)
+
 # Each walk: a script, the status, the trace, and what is told on standard error.
 WALKS = [
     # Two readers, and then the head stores.
@@ -11,18 +26,8 @@ WALKS = [
         "memory 2 1\nload 0 0 0\ndone 0\nload 1 0 0\ndone 1\nlist 0\nstore 1 0 0 5\ndone 1\n",
         0,
         (
-            "# node 0 line 0 load: Queue(none) Done; Queueing(none); HOME\n"
-            "# node 0 line 0 load: PrependValid Done; Fetching(none); FRESH lent 0: 0 QUEUED\n"
-            "# node 0 line 0 load: ReturnMemory Done; InQueue(none); FRESH 0: 0 QUEUED\n"
-            "# node 0 line 0 load: Settle Done; Idle; FRESH 0: 0 ONLY_FRESH\n"
-            "node 0 read 0 stamp 0\n"
-            "# node 1 line 0 load: Queue(0) Done; Queueing(0); FRESH 0: 0 ONLY_FRESH\n"
-            "# node 1 line 0 load: PrependValid Done; Fetching(0); FRESH lent 1: 1 QUEUED, 0 ONLY_FRESH\n"
-            "# node 1 line 0 load: ReturnMemory Done; InQueue(0); FRESH 1: 1 QUEUED, 0 ONLY_FRESH\n"
-            "# node 1 line 0 load: AttachFresh(0 ONLY_FRESH) Done; Ready(0); FRESH 1: 1 QUEUED, 0 TAIL_VALID\n"
-            "# node 1 line 0 load: Settle Done; Idle; FRESH 1: 1 HEAD_FRESH, 0 TAIL_VALID\n"
-            "node 1 read 0 stamp 0\n"
-            "line 0 FRESH 1: 1 HEAD_FRESH, 0 TAIL_VALID\n"
+            TWO_SHARERS
+            + "line 0 FRESH 1: 1 HEAD_FRESH, 0 TAIL_VALID\n"
             "# node 1 line 0 store: Convert(HEAD_FRESH) Done; Converting(0); FRESH 1: 1 CONVERT, 0 TAIL_VALID\n"
             "# node 1 line 0 store: FreshToGone Done; Converting(0) turned; GONE 1: 1 CONVERT, 0 TAIL_VALID\n"
             "# node 1 line 0 store: Converted Done; Purging; GONE 1: 1 PURGING, 0 TAIL_VALID\n"
@@ -165,7 +170,7 @@ WALKS = [
             "# node 1 line 0 load: PrependGone Done; InQueue(0) dirty; GONE 1: 1 QUEUED, 0 LEAVING\n"
             "# node 0 line 0 evict: Stay Done; Idle; GONE 1: 1 QUEUED, 0 ONLY_DIRTY\n"
             "line 0 GONE 1: 1 QUEUED, 0 ONLY_DIRTY\n"
-            "# node 0 line 0 evict: waits: memory names 1; Idle; GONE 1: 1 QUEUED, 0 ONLY_DIRTY\n"
+            "# node 0 line 0 evict: waits: memory names 1; Idle; GONE 1: 1 QUEUED, 0 ONLY_DIRTY; for node 1\n"
             "node 0 waits\n"
             "# node 1 line 0 load: AttachDirty(0 ONLY_DIRTY) Done; Copying(0); GONE 1: 1 QUEUED, 0 TAIL_VALID held\n"
             "# node 1 line 0 load: ReturnCopy Done; Ready(0) dirty; GONE 1: 1 QUEUED, 0 TAIL_VALID\n"
@@ -179,8 +184,78 @@ WALKS = [
         ),
         "",
     ),
+    # An Idle node waits for who purges it, before and behind the purge's next step; for who copies from it; and, as a new head, for the
+    # leaver that memory still names.
+    (
+        "memory 2 1\nload 1 0 0\ndone 1\nload 0 0 0\ndone 0\nstore 0 0 0 5\nturn 0\nturn 0\nturn 0\nturn 0\nload 1 0 0\nturn 1\nturn 0\nturn 1\nturn 0\n",
+        0,
+        (
+            "# node 1 line 0 load: Queue(none) Done; Queueing(none); HOME\n"
+            "# node 1 line 0 load: PrependValid Done; Fetching(none); FRESH lent 1: 1 QUEUED\n"
+            "# node 1 line 0 load: ReturnMemory Done; InQueue(none); FRESH 1: 1 QUEUED\n"
+            "# node 1 line 0 load: Settle Done; Idle; FRESH 1: 1 ONLY_FRESH\n"
+            "node 1 read 0 stamp 0\n"
+            "# node 0 line 0 load: Queue(1) Done; Queueing(1); FRESH 1: 1 ONLY_FRESH\n"
+            "# node 0 line 0 load: PrependValid Done; Fetching(1); FRESH lent 0: 0 QUEUED, 1 ONLY_FRESH\n"
+            "# node 0 line 0 load: ReturnMemory Done; InQueue(1); FRESH 0: 0 QUEUED, 1 ONLY_FRESH\n"
+            "# node 0 line 0 load: AttachFresh(1 ONLY_FRESH) Done; Ready(1); FRESH 0: 0 QUEUED, 1 TAIL_VALID\n"
+            "# node 0 line 0 load: Settle Done; Idle; FRESH 0: 0 HEAD_FRESH, 1 TAIL_VALID\n"
+            "node 0 read 0 stamp 0\n"
+            "# node 0 line 0 store: Convert(HEAD_FRESH) Done; Converting(1); FRESH 0: 0 CONVERT, 1 TAIL_VALID\n"
+            "# node 0 line 0 store: FreshToGone Done; Converting(1) turned; GONE 0: 0 CONVERT, 1 TAIL_VALID\n"
+            "# node 0 line 0 store: Converted Done; Purging; GONE 0: 0 PURGING, 1 TAIL_VALID\n"
+            "# node 0 line 0 store: PurgeOne(1 TAIL_VALID) Done; Advancing(1); GONE 0: 0 PURGING, 1 PURGED\n"
+            "# node 1 line 0 load: waits: node 1 is PURGED forw none back 0; Idle; GONE 0: 0 PURGING, 1 PURGED; for node 0\n"
+            "node 1 waits\n"
+            "# node 0 line 0 store: Advance Done; Clearing(1); GONE 0: 0 PURGING\n"
+            "# node 1 line 0 load: waits: node 1 is PURGED forw none back 0; Idle; GONE 0: 0 PURGING; for node 0\n"
+            "node 1 waits\n"
+            "# node 0 line 0 store: Clear Done; Purging; GONE 0: 0 PURGING\n"
+        ),
+        "",
+    ),
+    (
+        "memory 2 1\nstore 0 0 0 7\ndone 0\nload 1 0 0\nturn 1\nturn 1\nturn 1\nload 0 0 0\nturn 0\nturn 1\nturn 1\nevict 1 0\nturn 1\nturn 1\ndone 0\nstore 0 0 0 8\nturn 0\n",
+        0,
+        (
+            "# node 0 line 0 store: Queue(none) Done; Queueing(none); HOME\n"
+            "# node 0 line 0 store: HomeWrite Done; Fetching(none) dirty; GONE lent 0: 0 QUEUED\n"
+            "# node 0 line 0 store: ReturnMemory Done; InQueue(none) dirty; GONE 0: 0 QUEUED\n"
+            "# node 0 line 0 store: Settle Done; Idle; GONE 0: 0 ONLY_DIRTY\n"
+            "# node 0 line 0 store: BeginPurge(ONLY_DIRTY) Done; Purging; GONE 0: 0 PURGING\n"
+            "# node 0 line 0 store: Written(words 7 0 0 0 0 0 0 0) Done; Idle; GONE 0: 0 ONLY_DIRTY\n"
+            "node 0 wrote stamp 1\n"
+            "# node 1 line 0 load: Queue(0) Done; Queueing(0); GONE 0: 0 ONLY_DIRTY\n"
+            "# node 1 line 0 load: PrependGone Done; InQueue(0) dirty; GONE 1: 1 QUEUED, 0 ONLY_DIRTY\n"
+            "# node 1 line 0 load: AttachDirty(0 ONLY_DIRTY) Done; Copying(0); GONE 1: 1 QUEUED, 0 TAIL_VALID held\n"
+            "# node 0 line 0 load: waits: node 0 is TAIL_VALID forw none back 1 held; Idle; GONE 1: 1 QUEUED, 0 TAIL_VALID held; for node 1\n"
+            "node 0 waits\n"
+            "# node 1 line 0 load: ReturnCopy Done; Ready(0) dirty; GONE 1: 1 QUEUED, 0 TAIL_VALID\n"
+            "# node 1 line 0 load: Settle Done; Idle; GONE 1: 1 HEAD_DIRTY, 0 TAIL_VALID\n"
+            "node 1 read 7 stamp 1\n"
+            "# node 1 line 0 evict: Leave(HEAD_DIRTY) Done; Leaving dirty; GONE 1: 1 LEAVING, 0 TAIL_VALID\n"
+            "# node 1 line 0 evict: Promote(0 TAIL_VALID) Done; Promoted(0) dirty; GONE 1: 1 LEAVING, 0 ONLY_DIRTY\n"
+            "# node 0 line 0 load: Hold(ONLY_DIRTY) Done; Holding; GONE 1: 1 LEAVING, 0 ONLY_DIRTY held\n"
+            "# node 0 line 0 load: Unhold Done; Idle; GONE 1: 1 LEAVING, 0 ONLY_DIRTY\n"
+            "node 0 read 7 stamp 1\n"
+            "# node 0 line 0 store: BeginPurge(ONLY_DIRTY) Done; Purging; GONE 1: 1 LEAVING, 0 PURGING\n"
+        ),
+        "",
+    ),
+    (
+        "memory 2 1\nload 0 0 0\ndone 0\nload 1 0 0\ndone 1\nevict 1 0\nturn 1\nturn 1\nstore 0 0 0 5\nturn 0\nturn 1\n",
+        0,
+        (
+            TWO_SHARERS
+            + "# node 1 line 0 evict: Leave(HEAD_FRESH) Done; Leaving; FRESH 1: 1 LEAVING, 0 TAIL_VALID\n"
+            "# node 1 line 0 evict: Promote(0 TAIL_VALID) Done; Promoted(0); FRESH 1: 1 LEAVING, 0 ONLY_FRESH\n"
+            "# node 0 line 0 store: waits: memory names 1; Idle; FRESH 1: 1 LEAVING, 0 ONLY_FRESH; for node 1\n"
+            "node 0 waits\n"
+            "# node 1 line 0 evict: PassOn Done; Parted(0); FRESH 0: 0 ONLY_FRESH\n"
+        ),
+        "",
+    ),
 ]
-
 
 
 def asked(node):

@@ -125,7 +125,8 @@ fn over_fine<R: Threads + Wait + Sync>(rt: &R, alloc: Global) -> Option<Closed> 
     if !are_idle(&seats) {
         return None;
     }
-    line.finish(alloc, seats).ok()
+    let finished = line.finish(alloc, seats).ok()?;
+    Some(finished.closed)
 }
 
 fn main(rt: HostRuntime) -> ExitCode {

@@ -11,3 +11,4 @@ pub mod Unslipped
 pub mod Told
 pub mod Staying
 pub mod Appending
+pub mod KeptAll

@@ -42,6 +42,7 @@ pub record IsEnd {K : Type 0} {g : keeps.Ghosts K} (fits : K → ℕ → List �
   pub whole : WholeLine K
   pub run : List (ℕ × Entry)
   pub ran : Leads (Moves fits) (None, opened_on t) run (None, whole)
+  pub fit : fits t.keep t.number t.opening.words
   pub logs : (i : ℕ) (s : Seat K g) → get_elem? seats i ≡ some s → s.token.me.0.log ≡ done_by i run
   pub nobody : (i : ℕ) → t.nodes ≤ i → done_by i run ≡ []
   pub unused : AreUnused seats → whole ≡ opened_on t

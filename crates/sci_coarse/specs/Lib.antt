@@ -6,4 +6,5 @@ pub mod Laws
 pub mod Regions
 pub mod Seats
 pub mod Ends
+pub mod Kept
 pub mod Banks

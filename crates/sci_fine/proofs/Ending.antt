@@ -167,6 +167,7 @@ module _ {K : Type 0} (fits : K → ℕ → List ℕ → Type 0) (t : Terms K) (
         let there : IsExact t.nodes rest.state.memory (line_in rest.state.memory_slot) rest.state.tags (λ i. line_in (rest.state.slots i)) nodes = exact_there t.nodes (fits t.keep t.number) rest.state rest.ruled rest.idle in
         record {
           state = rest.state;
+          fit = rest.fit;
           value = value_of t.opening rest.ran.run;
           valued = told.0;
           ran = rest.ran;

@@ -15,3 +15,4 @@ pub mod Ending
 pub mod Staying
 pub mod Telling
 pub mod Appending
+pub mod KeptAll

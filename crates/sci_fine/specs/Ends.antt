@@ -60,6 +60,7 @@ pub record IsReadOff (n : ℕ) (s : State) (c : ClosedLine) : Type 0 where
 -- history, from the opening line to the value
 pub record IsEnd {K : Type 0} (fits : K → ℕ → List ℕ → Type 0) (t : Terms K) (logs : List (List (ℕ × Call))) (c : ClosedLine) : Type 0 where
   pub state : State
+  pub fit : fits t.keep t.number t.opening.words
   pub value : Line
   pub valued : HasValue t.nodes (fits t.keep t.number) state value
   pub ran : IsRunTo fits t logs state

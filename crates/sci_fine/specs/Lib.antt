@@ -5,5 +5,6 @@ pub mod Steps
 pub mod Calls
 pub mod Seats
 pub mod Ends
+pub mod Kept
 pub mod Laws
 pub mod Banks

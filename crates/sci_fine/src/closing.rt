@@ -1,20 +1,31 @@
 //! How a line is closed, and its seats with it.
-ghost use Rattle.std.specs.Prelude.{◌≡◌, ℕ, ◌↔◌, ◌+◌, ◌<◌, ◌≤◌, Some, List, ◌∷◌, length, All, IsTrue, IfOk, IfErr, vec_len, vec_capacity};
+ghost use Rattle.std.specs.Global.{Vec};
+ghost use Rattle.std.specs.Prelude.{◌≡◌, ℕ, ◌↔◌, ◌+◌, ◌<◌, ◌≤◌, Some, List, [], ◌∷◌, length, map, All, IsTrue, IfOk, IfErr, vec_len, vec_capacity};
 ghost use Rattle.sci_core.specs.declared.whole.TheConstants.{MOST_NODES};
 ghost use Rattle.sci_port.specs.declared.calls.Call as a_call;
 ghost use Rattle.std.specs.Slots.{slots_items, slots_len, IsFull};
 ghost use Rattle.sci_core.specs.declared.pending.Pending.TheVariants.{Idle};
+ghost use Rattle.sci_core.specs.declared.receipts.Receipt as a_receipt;
 ghost use Rattle.sci_fine.specs.Seats.{AreIdleFrom, IsOnePerNode, IsRightRefusal, IsSeatOf, SitsAt, logs_of};
 ghost use Rattle.sci_fine.specs.Rule.{lies_at};
 ghost use Rattle.sci_fine.specs.Ends.{IsEnd, IsAtRest};
+ghost use Rattle.sci_fine.specs.Kept.{IsFinished, lists_of};
 
 use crate::codes::lies_at;
 use crate::line::FineLine;
 use crate::seats::{Seat, Token};
 use crate::views::{Terms, Together};
-use sci_core::{Closed, Keeps, Line};
+use sci_core::{Closed, Keeps, Line, Receipt};
 use sci_words::{LineNo, Tag, read_mem, read_tag};
 use std::alloc::{AllocError, Global};
+
+/// A line that was closed, and what its nodes kept of it.
+#[derive(Drop)]
+pub struct Finished {
+    pub closed: Closed,
+    /// Node i's receipts at place i, in its order.
+    pub receipts: Vec<Vec<Receipt>>,
+}
 
 /// A line that was not closed. The line and the seats come back as they were.
 #[derive(Drop)]
@@ -32,13 +43,17 @@ fn sits_at<K: Keeps>(seat: &Seat<K>, place: usize, number: LineNo) -> bool
     usize::from(seat.node().get()) == place && seat.number() == number
 }
 
-// Room for the tags and the lines of so many nodes.
-fn room_for(alloc: Global, nodes: u16) -> Result<(Vec<Tag>, Vec<Line>), AllocError>
-    ensures { IfOk result (λ room. (vec_len room.0 ≡ 0) × (vec_len room.1 ≡ 0) × (nodes ≤ vec_capacity room.0) × (nodes ≤ vec_capacity room.1)) }
+// Room for the tags, the lines and the receipts of so many nodes.
+fn room_for(
+    alloc: Global,
+    nodes: u16,
+) -> Result<(Vec<Tag>, Vec<Line>, Vec<Vec<Receipt>>), AllocError>
+    ensures { IfOk result (λ room. (vec_len room.0 ≡ 0) × (vec_len room.1 ≡ 0) × (room.2.items ≡ []) × (nodes ≤ vec_capacity room.0) × (nodes ≤ vec_capacity room.1) × (nodes ≤ vec_capacity room.2)) }
 {
     let tags = Vec::with_capacity(alloc, usize::from(nodes))?;
     let lines = Vec::with_capacity(alloc, usize::from(nodes))?;
-    Ok((tags, lines))
+    let lists = Vec::with_capacity(alloc, usize::from(nodes))?;
+    Ok((tags, lines, lists))
 }
 
 // Reads the words and takes the lines of a table that nobody shares any more.
@@ -93,14 +108,15 @@ impl<K: Keeps> FineLine<K> {
         true
     }
 
-    /// The line as it stands once nobody uses it any more: an exact sharing list. The seats are to be of this very line, and
-    /// Idle. The refusals: 9 where they are not one per node in order with this line's number, then 7 where memory ran out.
-    /// Both hand the line and the seats back.
-    pub fn finish(self, alloc: Global, seats: Vec<Seat<K>>) -> Result<Closed, FinishRefusal<K>>
+    /// The line as it stands once nobody uses it any more: an exact sharing list, and what each seat kept. The seats are to be of
+    /// this very line, and Idle. Where each has kept all, the receipts are one history of the line, whole. The refusals: 9 where
+    /// they are not one per node in order with this line's number, then 7 where memory ran out. Both hand the line and the seats
+    /// back, with their receipts.
+    pub fn finish(self, alloc: Global, seats: Vec<Seat<K>>) -> Result<Finished, FinishRefusal<K>>
         requires seats { All (λ s. IsSeatOf self s) seats.items }
         requires rest { All (λ s. s.standing.pending ≡ Idle) seats.items }
         ensures seats { IfOk result (λ _. IsOnePerNode self seats.items) }
-        ensures ok { IfOk result (λ c. IsEnd K.fits self.terms (logs_of seats.items) c) }
+        ensures ok { IfOk result (λ f. IsFinished K.fits self.terms seats.items f.closed (map (λ (v : Vec a_receipt.Receipt). v.items) f.receipts.items)) }
         ensures err { IfErr result (λ e. (e.line ≡ self) × (e.seats ≡ seats) × IsRightRefusal self seats.items e.refusal) }
     {
         if !self.has_seats(&seats) {
@@ -110,7 +126,7 @@ impl<K: Keeps> FineLine<K> {
                 refusal: 9,
             });
         }
-        let Ok((tags, lines)) = room_for(alloc, self.terms.nodes) else {
+        let Ok((tags, lines, lists)) = room_for(alloc, self.terms.nodes) else {
             return Err(FinishRefusal {
                 line: self,
                 seats,
@@ -118,32 +134,44 @@ impl<K: Keeps> FineLine<K> {
             });
         };
         let terms = self.terms;
-        let root = self.join_all(seats);
-        Ok(read_out(self.lay_open(root), terms, tags, lines))
+        let (root, receipts) = self.join_all(seats, lists);
+        Ok(Finished {
+            closed: read_out(self.lay_open(root), terms, tags, lines),
+            receipts,
+        })
     }
 
-    // Joins all seats to the first.
-    fn join_all(&self, mut seats: Vec<Seat<K>>) -> Token<K>
+    // Joins all seats to the first, and moves out the receipts of each.
+    fn join_all(
+        &self,
+        mut seats: Vec<Seat<K>>,
+        mut lists: Vec<Vec<Receipt>>,
+    ) -> (Token<K>, Vec<Vec<Receipt>>)
         requires seats { AreIdleFrom self.now 0 seats.items }
         requires len { vec_len seats ≡ self.now.terms.nodes }
-        ensures of { (result.table_id ≡ self.now.table.shared.table_id) × (result.me.0.of ≡ Some self.now.terms) }
-        ensures view { (result.me.0.node ≡ 0) × (result.me.0.joined ≡ 1) × (result.me.0.pending ≡ Idle) }
-        ensures logs { result.me.0.log ∷ result.me.0.logs ≡ logs_of seats.items }
+        requires room { (lists.items ≡ []) × (self.now.terms.nodes ≤ vec_capacity lists) }
+        ensures of { (result.0.table_id ≡ self.now.table.shared.table_id) × (result.0.me.0.of ≡ Some self.now.terms) }
+        ensures view { (result.0.me.0.node ≡ 0) × (result.0.me.0.joined ≡ 1) × (result.0.me.0.pending ≡ Idle) }
+        ensures logs { result.0.me.0.log ∷ result.0.me.0.logs ≡ logs_of seats.items }
+        ensures lists { map (λ (v : Vec a_receipt.Receipt). v.items) result.1.items ≡ lists_of seats.items }
     {
         let Seat {
             token: mut root,
             standing: _,
-            receipts: _,
+            receipts: first,
         } = seats.remove(0);
         while let Some(seat) = seats.pop() {
             let Seat {
                 token,
                 standing: _,
-                receipts: _,
+                receipts,
             } = seat;
             self.table.shared.join_seat::<Together>(&mut root, token);
+            lists.push_reserved(receipts.into_vec());
         }
-        root
+        lists.push_reserved(first.into_vec());
+        lists.reverse();
+        (root, lists)
     }
 
     // The table after the last step.

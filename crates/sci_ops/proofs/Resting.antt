@@ -8,3 +8,4 @@ pub mod Falling
 pub mod Keeping
 pub mod Turning
 pub mod Ends
+pub mod Row

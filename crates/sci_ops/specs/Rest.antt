@@ -1,10 +1,11 @@
 -- Turns that nobody comes between, and how a line is brought to rest. This project's profile.
-use Rattle.std.specs.Prelude.{◌≡◌, ◌≢◌, ℕ, ◌+◌, ◌<◌, suc, Bool, true, false, Option, Some, None, List, slice_index_or}
+use Rattle.std.specs.Prelude.{◌≡◌, ◌≢◌, ℕ, ◌+◌, ◌<◌, suc, Bool, true, false, Option, Some, None, List, [], ◌∷◌, slice_index_or}
 use Rattle.sci_words.specs.declared.tags.Tag.{Tag}
 use Rattle.sci_words.specs.declared.memory.Mem.{Mem}
 use Rattle.sci_core.specs.declared.lines.Line.{Line}
 use Rattle.sci_core.specs.Progress.{IsMover}
 use Rattle.sci_core.specs.State.{State}
+use Rattle.sci_core.specs.Waiting.{Waits}
 use Rattle.sci_ops.specs.declared.goals.Goal.{Goal}
 use Rattle.sci_ops.specs.declared.answers.Answer.{Answer}
 use Rattle.sci_ops.specs.declared.answers.Turn.{Turn}
@@ -59,3 +60,17 @@ pub record EndsEach (n : ℕ) (fits : List ℕ → Type 0) (m : ℕ) (ops new : 
   pub last : at m ≡ t
   pub all : taken m ≡ turns
   pub each : (i : ℕ) → i < m → (k : ℕ) × (taken (suc i) ≡ taken i + k) × EndsOne n fits i (op_at ops i) (op_at ops i).answer (at i) k (op_at new i) (at (suc i))
+
+-- nobody waits in a circle: along such waits a height falls
+abbrev pub HasNoCircle : ℕ → State → Type 0
+HasNoCircle n s = (height : ℕ → ℕ) × ((i y z : ℕ) → Waits n s i y → Waits n s y z → height y < height i)
+
+-- the node i waits for the first of these, where there is one
+abbrev pub WaitsForFirst : ℕ → State → ℕ → List ℕ → Type 0
+WaitsForFirst n s i [] = Unit {0}
+WaitsForFirst n s i (y ∷ more) = Waits n s i y
+
+-- each of these is one of n nodes, and waits for the next
+abbrev pub EachWaits : ℕ → State → List ℕ → Type 0
+EachWaits n s [] = Unit {0}
+EachWaits n s (i ∷ more) = (i < n) × WaitsForFirst n s i more × EachWaits n s more

@@ -15,4 +15,4 @@ pub use answers::{Answer, End, Turn};
 pub use goals::{Goal, WordNo, Write};
 pub use ops::Op;
 pub use refusals::BadWord;
-pub use to_rest::{end, rest, rest_is_near};
+pub use to_rest::{end, few_wait_in_a_row, rest, rest_is_near};

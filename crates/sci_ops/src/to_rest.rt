@@ -1,5 +1,5 @@
 //! A line is brought to rest, by turns alone.
-ghost use Rattle.std.specs.Prelude.{◌≡◌, ◌+◌, ◌*◌, ◌<◌, ◌≤◌, ℕ, length};
+ghost use Rattle.std.specs.Prelude.{◌≡◌, ◌+◌, ◌*◌, ◌<◌, ◌≤◌, ℕ, true, List, is_some, length};
 ghost use Rattle.sci_core.specs.Progress.{IsAtRest};
 ghost use Rattle.sci_core.specs.Run.{HasValue};
 ghost use Rattle.sci_core.specs.Whole.{IsSameLine, nodes_of, state_of};
@@ -7,7 +7,7 @@ ghost use Rattle.sci_core.specs.State.{State};
 ghost use Rattle.sci_core.specs.declared.lines.Line.{Line};
 ghost use Rattle.sci_ops.specs.Change.{StoresFitting};
 ghost use Rattle.sci_ops.specs.Ranking.{ranking};
-ghost use Rattle.sci_ops.specs.Rest.{Rests, EndsOne, EndsEach, op_at};
+ghost use Rattle.sci_ops.specs.Rest.{Rests, EndsOne, EndsEach, HasNoCircle, EachWaits, op_at};
 
 use crate::alone::Steps;
 use crate::ops::Op;
@@ -69,6 +69,7 @@ pub fn end<K: Keeps, L: Ledger>(whole: &mut Whole<K>, ops: &mut [Op], steps: &mu
     ensures ends { (mid : _) × (k turns : _) × (steps.new ≡ steps.old + k + turns) × Rests (nodes_of whole.old) (K.fits whole.old.keep whole.old.number) (state_of whole.old) k mid × IsAtRest mid × EndsEach (nodes_of whole.old) (K.fits whole.old.keep whole.old.number) (nodes_of whole.old) ops.old ops.new mid turns (state_of whole.new) }
     ensures rest { IsAtRest (state_of whole.new) }
     ensures bound { steps.new ≤ steps.old + (nodes_of whole.old * nodes_of whole.old + 9 * nodes_of whole.old) + nodes_of whole.old * (3 * nodes_of whole.old + 16) }
+    ensures ended { (i : ℕ) → i < nodes_of whole.old → is_some (op_at ops.new i).answer ≡ true }
     ensures count { length ops.new ≡ length ops.old }
     ensures same { IsSameLine whole.old whole.new }
 {
@@ -85,4 +86,10 @@ pub fn end<K: Keeps, L: Ledger>(whole: &mut Whole<K>, ops: &mut [Op], steps: &mu
 /// nearer to rest (`Op::turn_on`), and wherever a step is pending there is a next one (`Whole::mover`). This project's profile.
 pub fn rest_is_near<K: Keeps>()
     ensures { (n : ℕ) (keep : K) (number : ℕ) (s : State) (v : Line) → HasValue n (K.fits keep number) s v → ranking n s ≤ n * n + 9 * n }
+{}
+
+/// From a node that waits at most n - 1 links lead to one that doesn't, of n nodes: it computes nothing, and its contract is the
+/// law. `Whole::waits_for` gives each link, and its clause `no_circle` what the law wants of the line. This project's profile.
+pub fn few_wait_in_a_row()
+    ensures { (n : ℕ) (s : State) (nodes : List ℕ) → HasNoCircle n s → EachWaits n s nodes → length nodes ≤ n }
 {}

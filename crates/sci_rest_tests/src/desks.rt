@@ -21,7 +21,7 @@ fn counted<L: Ledger>(desk: WholeDesk, blank: Blank) -> WholeDesk
 }
 
 // The same, with its steps counted in a ledger of its own.
-fn bring_to_rest(desk: WholeDesk) -> WholeDesk
+pub(crate) fn bring_to_rest(desk: WholeDesk) -> WholeDesk
     ensures { result.size ≡ desk.size }
 {
     counted::<Brand>(desk, Blank::new(1))
@@ -44,7 +44,7 @@ fn counted_end<L: Ledger>(
 }
 
 // The same, with its steps counted in a ledger of its own.
-fn take_to_end(desk: WholeDesk, answers: &mut [Option<Answer>]) -> WholeDesk
+pub(crate) fn take_to_end(desk: WholeDesk, answers: &mut [Option<Answer>]) -> WholeDesk
     requires count { length answers.old ≡ desk.size.nodes }
     ensures { result.size ≡ desk.size }
 {
@@ -117,11 +117,11 @@ fn calls_stay_open(rt: HostRuntime) -> Result<(), Fail> {
 }
 
 /// A race of two writers that may go round for ever, and a reader whose call evicts another line first.
-const RACE: &str = "memory 4 2\ncapacity 1\nload 2 0 0\ndone 2\nload 3 1 0\ndone 3\n\
+pub(crate) const RACE: &str = "memory 4 2\ncapacity 1\nload 2 0 0\ndone 2\nload 3 1 0\ndone 3\n\
     store 0 0 0 5\nstore 1 0 1 6\nload 3 0 0\nturn 0\nturn 1\nturn 3\nturn 0\nturn 0\nturn 0\nturn 1\n";
 
-// What the calls of a race answer that are taken to their ends.
-fn answers_of(alloc: Global, race: &str) -> Option<[Option<Answer>; 4]> {
+/// A desk on which a race has begun.
+pub(crate) fn begun(alloc: Global, race: &str) -> Option<WholeDesk> {
     let Ok(script) = read_script(alloc, race.as_bytes()) else {
         return None;
     };
@@ -130,6 +130,12 @@ fn answers_of(alloc: Global, race: &str) -> Option<[Option<Answer>; 4]> {
     };
     let mut out = Vec::new(alloc);
     prints(alloc, &mut desk, &script, &mut out)?;
+    Some(desk)
+}
+
+// What the calls of a race answer that are taken to their ends.
+fn answers_of(alloc: Global, race: &str) -> Option<[Option<Answer>; 4]> {
+    let desk = begun(alloc, race)?;
     if desk.size().nodes != 4 {
         return None;
     }

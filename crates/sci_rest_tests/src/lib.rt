@@ -4,4 +4,6 @@
 #[cfg(test)]
 mod desks;
 #[cfg(test)]
+mod memory;
+#[cfg(test)]
 mod rests;

@@ -37,3 +37,12 @@ closed_more m s t before here others i lt =
     (λ q. subst (λ (j : ℕ). shared_is_open t j ≡ false) (sym q) here)
     (λ d. ap (λ (n : NodeState). is_some n.call) (others i d) ∙ before i (omega (arith, lt, d)))
     (cases_eq i m)
+
+-- each answer so far is there where the call was open
+pub answered_more : (m : ℕ) (s mid : Shared) (answers : List (Option Answer)) (a : Option Answer) → m < length answers → ((i : ℕ) → i < m → is_some (get_or answers i None) ≡ shared_is_open s i) → mid.nodes m ≡ s.nodes m
+    → is_some a ≡ shared_is_open mid m → (i : ℕ) → i < m + 1 → is_some (get_or (set answers m a) i None) ≡ shared_is_open s i
+answered_more m s mid answers a room before same here i lt =
+    ⊎_elim
+    (λ q. subst (λ (j : ℕ). is_some (get_or (set answers m a) j None) ≡ shared_is_open s j) (sym q) (ap is_some (get_or-set_same answers m a None room) ∙ here ∙ ap (λ (n : NodeState). is_some n.call) same))
+    (λ d. ap is_some (get_or-set_other answers m i a None d) ∙ before i (omega (arith, lt, d)))
+    (cases_eq i m)

@@ -11,6 +11,10 @@ pub mod Desks
 pub mod RestedLines
 pub mod Lent
 pub mod AloneCalls
+pub mod Ruled
+pub mod Sound
+pub mod Lasting
+pub mod Unrefused
 pub mod Ended
 pub mod Calming
 pub mod PassedLines
@@ -20,9 +24,16 @@ pub mod BankDesks
 pub mod Unheard
 pub mod Dealt
 pub mod Arguments
+pub mod Fitting
 pub mod Stuck
 pub mod Renumbered
 pub mod Saying
 pub mod Hearing
 pub mod Explaining
+pub mod Agreeing
+pub mod Agreed
+pub mod Caused
+pub mod CausedWords
+pub mod Spoken
 pub mod Printing
+pub mod Awaiting

@@ -31,3 +31,7 @@ IsNoEnd (Done answer) = ⊥
 abbrev pub IsTurned : Toward → Type 0
 IsTurned (Toward.Turned node) = Unit {0}
 IsTurned _ = ⊥
+
+-- behind a turn that waits the next one waits, and changes nothing
+abbrev pub WaitsOn : {S : Type 0} → (S → Event → S → Type 0) → Type 0
+WaitsOn {S} does = (s t : S) (node : ℕ) → does s (Turned node Waiting) t → does t (Turned node Waiting) t

@@ -21,4 +21,5 @@ pub mod Talks
 pub mod Talkers
 pub mod Waiting
 pub mod Faults
+pub mod Causes
 pub mod Reasons

@@ -125,6 +125,12 @@ IsUnended {S} is_open does nodes s (ListLine line) t = Repeats does (SawMem line
 IsUnended is_open does nodes s (ShowTag line node) t = Repeats does (SawTag line node None) 100000 s t
 IsUnended is_open does nodes s (Residents node) t = ⊥
 
+-- neither `rest` nor `end`
+abbrev pub IsNoRest : Command → Type 0
+IsNoRest (Rest lines) = ⊥
+IsNoRest (End nodes lines) = ⊥
+IsNoRest _ = Unit {0}
+
 -- from s to t, a walk along these links, wherever it came
 abbrev pub Walks : {S : Type 0} → (S → Event → S → Type 0) → ℕ → Option ℕ → S → S → Type 0
 Walks does line from s t = (entries : List (ℕ × Tag)) × (next : Option ℕ) × Walked does line from entries next s t

@@ -110,3 +110,8 @@ AcceptsAll s (line ∷ lines) parts t = (first : List ℕ) × (rest : List (List
 -- lines that are all accepted print this text, part by part
 abbrev pub Says : Standing → List (List ℕ) → List ℕ → Type 0
 Says s lines text = (parts : List (List ℕ)) × (t : Standing) × AcceptsAll s lines parts t × (flat_map (λ (part : List ℕ). part) parts ≡ text)
+
+-- the lines are said one after another, each accepted or refused
+abbrev pub Hears : Standing → List (List ℕ) → Standing → Type 0
+Hears s [] t = t ≡ s
+Hears s (line ∷ lines) t = (mid : Standing) × (((text : List ℕ) × Accepts s line text mid) ⊎ ((e : ScriptRefusal) × Refuses s line e mid)) × Hears mid lines t

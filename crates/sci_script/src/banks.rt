@@ -125,6 +125,11 @@ impl<B: Bank> Desk for BankDesk<B> {
         turn_over(&mut self.banks[place], &mut self.nodes[place])
     }
 
+    // Others may take turns on its lines between two calls.
+    fn waits_on(&self) -> bool {
+        false
+    }
+
     // A bank shows the words of lines that others may reach between two calls: who moves isn't known.
     fn rest_turn(&mut self, _line: LineNo) -> Toward {
         Toward::Unknown

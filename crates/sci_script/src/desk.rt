@@ -2,7 +2,7 @@
 ghost use Rattle.std.specs.Prelude.{◌≡◌, ◌<◌, ℕ, Bool, true, false, Some, IfSome, IfOk, OnOk, OnErr};
 ghost use Rattle.sci_cache.specs.Requests.{line_of, has_bad_word};
 ghost use Rattle.sci_script.specs.declared.commands.Size.{Size};
-ghost use Rattle.sci_script.specs.Event.{Event, Began, Turned, Rested, SawMem, SawTag, SawResidents, IsNoEnd, IsTurned};
+ghost use Rattle.sci_script.specs.Event.{Event, Began, Turned, Rested, SawMem, SawTag, SawResidents, IsNoEnd, IsTurned, WaitsOn};
 
 use sci_cache::Request;
 use sci_ops::Turn;
@@ -57,6 +57,10 @@ pub trait Desk {
         ensures turned { does self.old (Turned node result) self.new }
         ensures open { IsNoEnd result → is_open self.new node ≡ true }
         ensures size { size self.new ≡ size self.old };
+
+    /// Whether behind a turn that waits the next one would wait, and change nothing. False: it isn't known.
+    fn waits_on(&self) -> bool
+        ensures { result ≡ true → WaitsOn does };
 
     /// One turn of a node under way on the line that moves, as a load takes it. It leads nearer to rest. No call ends.
     fn rest_turn(&mut self, line: LineNo) -> Toward

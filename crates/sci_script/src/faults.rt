@@ -3,7 +3,8 @@ ghost use Rattle.std.specs.Prelude.{◌≡◌, ℕ, ◌+◌, ◌<◌, ◌≤◌,
 ghost use Rattle.std.specs.Str.Lines.{lines};
 ghost use Rattle.sci_script.specs.declared.refusals.ScriptRefusal.TheVariants.{OutOfMemory};
 ghost use Rattle.sci_script.specs.Size.{IsSize};
-ghost use Rattle.sci_script.specs.Format.{entries_from, size_at};
+ghost use Rattle.sci_script.specs.Causes.{IsReasonOf};
+ghost use Rattle.sci_script.specs.Format.{entries_from, script_of, size_at};
 ghost use Rattle.sci_script.specs.Words.{number_of, words_of};
 ghost use Rattle.sci_script.specs.Faults.{verb_of, arguments_of, range_of, is_within, is_first, is_second, is_in_front, is_in_time, number_reason, verb_reason, words_reason, line_reason, said_or, stand_behind, place_behind, text_reason, first_place};
 
@@ -357,10 +358,11 @@ impl Place {
 }
 
 /// Why `read_script` refuses a text, in words: the first line that isn't taken at its place. None where it refuses none.
-#[tactic(auto, using(crate::proofs::Explaining::text_goes_on, crate::proofs::Explaining::text_stops, crate::proofs::Explaining::text_ends))]
+#[tactic(auto, using(crate::proofs::Explaining::text_goes_on, crate::proofs::Explaining::text_stops, crate::proofs::Explaining::text_ends, crate::proofs::Agreed::text_agrees))]
 pub fn why_unread(alloc: Global, text: &[u8]) -> Result<Option<Reason>, AllocError>
     requires { length text.now < 2 ^ 63 }
-    ensures { IfOk result (λ why. why ≡ text_reason first_place (entries_from 1 (lines text.now))) }
+    ensures reason { IfOk result (λ why. why ≡ text_reason first_place (entries_from 1 (lines text.now))) }
+    ensures refusal { IfOk result (IsReasonOf (script_of text.now)) }
 {
     let mut words = Vec::new(alloc);
     let mut place = Place::first();

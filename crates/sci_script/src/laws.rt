@@ -1,12 +1,23 @@
-//! A law of scripts.
-ghost use Rattle.std.specs.Prelude.{◌≡◌, ℕ, List, Ok};
+//! Laws of scripts.
+ghost use Rattle.std.specs.Prelude.{◌≡◌, ℕ, List, Ok, Option, Some, take, slice_get};
 ghost use Rattle.std.specs.Str.Lines.{lines};
+ghost use Rattle.sci_script.specs.declared.commands.Command.{Command};
 ghost use Rattle.sci_script.specs.declared.commands.Size.{Size};
 ghost use Rattle.sci_script.specs.declared.commands.Opening.{Opening};
 ghost use Rattle.sci_script.specs.declared.commands.Step.{Step};
+ghost use Rattle.sci_script.specs.declared.reasons.Reason.{Reason};
+ghost use Rattle.sci_script.specs.declared.refusals.ScriptRefusal.{ScriptRefusal};
+ghost use Rattle.sci_script.specs.declared.refusals.ScriptRefusal.TheVariants.{OutOfMemory, NotDone};
+ghost use Rattle.sci_script.specs.Causes.{HasReason, IsReasonOf};
+ghost use Rattle.sci_script.specs.Faults.{words_reason};
 ghost use Rattle.sci_script.specs.Format.{script_of};
-ghost use Rattle.sci_script.specs.ScriptText.{IsTextOf};
-ghost use Rattle.sci_script.specs.Talks.{Says, Silent};
+ghost use Rattle.sci_script.specs.Reasons.{IsWhy, place_of, unbegun_reason};
+ghost use Rattle.sci_script.specs.Request.{no_words};
+ghost use Rattle.sci_script.specs.Run.{IsNoRest, PrintsAll, StopsAt};
+ghost use Rattle.sci_script.specs.ScriptText.{IsTextOf, Opens};
+ghost use Rattle.sci_script.specs.Shared.{Shared, shared_is_open, shared_does};
+ghost use Rattle.sci_script.specs.Size.{AreIn, IsIn, IsSize};
+ghost use Rattle.sci_script.specs.Talks.{FailsFirst, Hears, Says, Silent, Standing, Stops, command_of};
 
 /// A script's text is what its lines print, said one by one (`Talk::say`), part by part, each of them accepted. It computes nothing: its
 /// contract is the law, of every text that is a script and of all that it may print.
@@ -15,4 +26,30 @@ pub fn script_is_said()
         → IsTextOf script.0 script.1 script.2 script.3 text → Says Silent (lines input) text }
     ensures heard { (input text : List ℕ) (script : Size × ℕ × List Opening × List Step) → script_of input ≡ Ok script
         → Says Silent (lines input) text → IsTextOf script.0 script.1 script.2 script.3 text }
+{}
+
+/// `rest` and `end` are never refused 18 over whole lines. It computes nothing: its contract is the law. Of commands that are run one
+/// after another over a desk just opened (`Script::run` over a `WholeDesk`, and so whatever traces, draws or logs a script) one that stops
+/// with 18 is another: `rest` always finds a node that moves, and at rest a call ends within 2 * (3 * n + 16) turns of n nodes, 6,176
+/// at most. A text that is a script has what the law asks of it. So it is of what is said to a talk, whatever was accepted and
+/// refused before.
+pub fn rest_and_end_are_done()
+    ensures run { (size : Size) (capacity : ℕ) (openings : List Opening) (steps : List Step) (step : Step) (k n : ℕ) (text : List ℕ) (s mid t : Shared) → IsSize size → AreIn size steps
+        → Opens size capacity openings s → PrintsAll shared_is_open shared_does no_words s (take k steps) text mid → slice_get steps k ≡ Some step
+        → StopsAt shared_is_open shared_does size.nodes mid step (NotDone n) t → IsNoRest step.command }
+    ensures read { (input : List ℕ) (script : Size × ℕ × List Opening × List Step) → script_of input ≡ Ok script → IsSize script.0 × AreIn script.0 script.3 }
+    ensures talk { (before words : List (List ℕ)) (command : Command) (n : ℕ) (s t : Standing) → Hears Silent before s → command_of s words ≡ Ok (Some command)
+        → Stops s command (NotDone n) t → IsNoRest command }
+{}
+
+/// Why a command was refused, by the desk as it stands behind that (`WholeDesk::why`), is a reason of just this refusal. Each refusal
+/// of a call, a turn or a `done` has one, but for want of memory; other commands wait for nobody, and have none. So it is of the first
+/// command, over a desk just opened. And what is wrong with the words of a line that is said (`Talk::why`) is there exactly where they
+/// are refused, and is a reason of just that refusal. It computes nothing: its contract is the law.
+pub fn refusals_have_reasons()
+    ensures fits { (s t : Shared) (step : Step) (nodes : ℕ) (e : ScriptRefusal) (why : Option Reason) → StopsAt shared_is_open shared_does nodes s step e t
+        → (e ≡ OutOfMemory → ⊥) → IsWhy t step.command why → HasReason step.command e why }
+    ensures first { (size : Size) (capacity : ℕ) (openings : List Opening) (command : Command) (e : ScriptRefusal) → IsIn size command → FailsFirst size capacity openings command e
+        → (e ≡ OutOfMemory → ⊥) → HasReason command e (unbegun_reason command) }
+    ensures words { (s : Standing) (words : List (List ℕ)) → IsReasonOf (command_of s words) (words_reason (place_of s) words) }
 {}

@@ -48,7 +48,7 @@ fn lent_turn_on(bank: &mut SoloBank<AnyWords>, node: &mut Node) -> Turn
 }
 
 impl WholeDesk {
-    ghost use Rattle.std.specs.Prelude.{◌≢◌, false};
+    ghost use Rattle.std.specs.Prelude.{◌≢◌, false, None, slice_index_or};
     ghost use Rattle.sci_script.specs.Resting.{AreAtRest, SharedRests, TakesLentOf, EndsCall, EndsIfOpen, EndsCalls};
     ghost use Rattle.sci_script.specs.Shared.{Shared, shared_is_open};
     ghost use Rattle.sci_script.specs.Wholes.{shared_of};
@@ -112,6 +112,7 @@ impl WholeDesk {
         ensures ends { (k : ℕ) × (steps.new ≡ steps.old + k) × EndsIfOpen (shared_is_open (shared_of self.old) node) node (shared_of self.old) k result (shared_of self.new) }
         ensures bound { steps.new ≤ steps.old + 2 * (3 * self.old.size.nodes + 16) }
         ensures rest { AreAtRest (shared_of self.new) }
+        ensures answered { is_some result ≡ shared_is_open (shared_of self.old) node }
         ensures closed { shared_is_open (shared_of self.new) node ≡ false }
         ensures others { (i : ℕ) → i ≢ node → (shared_of self.new).nodes i ≡ (shared_of self.old).nodes i }
         ensures size { self.new.size ≡ self.old.size }
@@ -131,6 +132,7 @@ impl WholeDesk {
         ensures ends { (mid : Shared) × (k turns : ℕ) × (steps.new ≡ steps.old + k + turns) × SharedRests self.size.lines (shared_of self) k mid × AreAtRest mid × EndsCalls self.size.nodes mid turns answers.new (shared_of result) }
         ensures bound { steps.new ≤ steps.old + self.size.lines * (self.size.nodes * self.size.nodes + 9 * self.size.nodes) + self.size.nodes * (2 * (3 * self.size.nodes + 16)) }
         ensures rest { AreAtRest (shared_of result) }
+        ensures answered { (node : ℕ) → node < self.size.nodes → is_some (slice_index_or answers.new node None) ≡ shared_is_open (shared_of self) node }
         ensures closed { (node : ℕ) → node < self.size.nodes → shared_is_open (shared_of result) node ≡ false }
         ensures count { length answers.new ≡ length answers.old }
         ensures size { result.size ≡ self.size }

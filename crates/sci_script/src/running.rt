@@ -3,7 +3,8 @@ ghost use Rattle.std.specs.Prelude.{◌≡◌, ◌<◌, ◌≤◌, ◌++◌, ℕ
 ghost use Rattle.sci_core.specs.declared.whole.TheConstants.{MOST_NODES};
 ghost use Rattle.sci_script.specs.declared.commands.Command.TheVariants.{Begin as BeginCall, Turn as TurnOnce, Done, Rest, End, List as ListLine, Tag as ShowTag, Residents};
 ghost use Rattle.sci_script.specs.Size.{IsIn};
-ghost use Rattle.sci_script.specs.Event.{Turned, IsEnd, IsNoEnd};
+ghost use Rattle.sci_ops.specs.declared.answers.Turn.TheVariants.{Waiting};
+ghost use Rattle.sci_script.specs.Event.{Turned, IsEnd, IsNoEnd, WaitsOn};
 ghost use Rattle.sci_script.specs.Request.{words_after};
 ghost use Rattle.sci_script.specs.declared.desk.Toward.{Toward};
 ghost use Rattle.sci_script.specs.Run.{Unended, CalmsTo, RestsLines, RestsNot, EndsOpenBy, EndStops, Prints, StopsAt};
@@ -33,7 +34,15 @@ pub fn is_end(turn: Turn) -> bool
     matches!(turn, Turn::Done(_))
 }
 
-/// Turns until the call ends, or `None` if it doesn't.
+/// Whether behind this turn each further one would wait, and change nothing.
+#[inline(always)]
+fn is_stuck<D: Desk>(desk: &D, turn: Turn) -> bool
+    ensures { result ≡ true → (turn ≡ Waiting) × WaitsOn D.does }
+{
+    matches!(turn, Turn::Waiting) && desk.waits_on()
+}
+
+/// Turns until the call ends, or `None` if it doesn't. Where each further turn would wait, none is taken.
 #[inline(always)]
 fn turns_to_end<D: Desk>(desk: &mut D, node: NodeId) -> Option<Turn>
     requires node { node < (D.size desk.old).nodes }
@@ -46,6 +55,9 @@ fn turns_to_end<D: Desk>(desk: &mut D, node: NodeId) -> Option<Turn>
         let turn = desk.turn(node);
         if is_end(turn) {
             return Some(turn);
+        }
+        if is_stuck(desk, turn) {
+            return None;
         }
     }
     None

@@ -134,6 +134,10 @@ impl Desk for WholeDesk {
         turn_on(&mut self.bank, &mut self.nodes[usize::from(node.get())])
     }
 
+    fn waits_on(&self) -> bool {
+        true
+    }
+
     fn rest_turn(&mut self, line: LineNo) -> Toward {
         let mut passed = Passed::NOTHING;
         self.watched_rest_turn(line, &mut passed)

@@ -1,7 +1,9 @@
 //! Why a command of a script was refused, by the desk as it stands.
-ghost use Rattle.std.specs.Prelude.{◌≡◌, ◌<◌, ◌^◌, ℕ, List, Option, Some, length, slice_get, IfOk};
+ghost use Rattle.std.specs.Prelude.{◌≡◌, ◌<◌, ◌^◌, ℕ, List, Option, Some, Err, length, slice_get, IfOk};
 ghost use Rattle.std.specs.Str.Lines.{lines};
 ghost use Rattle.sci_script.specs.declared.commands.Step.{Step};
+ghost use Rattle.sci_script.specs.declared.refusals.ScriptRefusal.{ScriptRefusal};
+ghost use Rattle.sci_script.specs.Causes.{IsRefusedFor};
 ghost use Rattle.sci_script.specs.Format.{entries_from, script_of};
 ghost use Rattle.sci_script.specs.Reasons.{IsWhy, IsUnendedBy, wait_reason, unbegun_reason, IsWhyAt, IsWhyOn, refused_line, IsWhyStopped, IsWhyScript, IsWhySaid, IsWhyOver, place_of};
 ghost use Rattle.sci_script.specs.Run.{Leaves};
@@ -110,10 +112,13 @@ impl Script {
     }
 }
 
-/// Why a script is refused, in words: as it is read, or where it can be, as it is run. None where it isn't refused. Refusal 7 alone.
+/// Why a script is refused, in words: as it is read, or where it can be, as it is run. None where it isn't refused. What the reader
+/// refuses has a reason of just that refusal. Refusal 7 alone.
+#[tactic(auto, using(crate::proofs::Caused::refused_has))]
 pub fn why_script(alloc: Global, text: &[u8]) -> Result<Option<Reason>, AllocError>
     requires { length text.now < 2 ^ 63 }
-    ensures { IfOk result (IsWhyScript (entries_from 1 (lines text.now)) (script_of text.now)) }
+    ensures why { IfOk result (IsWhyScript (entries_from 1 (lines text.now)) (script_of text.now)) }
+    ensures unread { IfOk result (λ why. (e : ScriptRefusal) → script_of text.now ≡ Err e → IsRefusedFor e why) }
 {
     match read_script(alloc, text) {
         Ok(script) => script.why_stopped(alloc),

@@ -28,6 +28,8 @@ use Rattle.sci_follow.specs.LineText.{acting_at, bare_event_at, busy_at, claim_a
 use Rattle.sci_trace.specs.Entries.{entry_place, exchange_line, log_head, look_line, opening_line, outcome_text}
 use Rattle.sci_trace.specs.Events.{argument_text, event_name, written_text}
 use Rattle.sci_trace.specs.Words.{found_text, link_word, of_text}
+use Rattle.sci_serve.proofs.Plain.{decimal_plain, plain_join}
+use Rattle.sci_serve.proofs.PlainLines.{argument_plain, name_plain, outcome_plain, place_plain, values_plain}
 use Rattle.sci_serve.specs.ReadBack.{AreWords, IsBehind, IsLink, IsOfOther, IsOfOwn, IsReadAs, MayEnd, claim_of, named, on_tag, told_of, whose}
 
 small_number : (n : ℕ) → n ≤ 65535 → n < 2 ^ 64
@@ -309,7 +311,7 @@ entry_read node line load event e n l is may =
     placed node line text n l ∙ ended node line text (told_of load event) e reads may
 
 pub look_back : (node line : ℕ) → node < 65535 → line < 65536 → IsReadAs noted_at (look_line node line) (noted node line (Told.Event Event.Look) Claim.Done)
-look_back node line n l = (entry_place node line ++ codes "Look Done", sym (append_assoc (entry_place node line) (codes "Look Done") (codes "\n")), entry_read node line None Event.Look Ending.Done n l tt tt)
+look_back node line n l = (entry_place node line ++ codes "Look Done", sym (append_assoc (entry_place node line) (codes "Look Done") (codes "\n")), plain_join (entry_place node line) (codes "Look Done") (place_plain node line) refl, entry_read node line None Event.Look Ending.Done n l tt tt)
 
 pub exchange_back : (node : ℕ) (passed : Passed) (event : Event) (e : Ending) → passed.step ≡ Some (event, e) → node < 65535 → passed.line < 65536 → IsBehind passed.load event → MayEnd (told_of passed.load event) e
     → IsReadAs noted_at (exchange_line node passed) (noted node passed.line (told_of passed.load event) (claim_of e))
@@ -323,7 +325,9 @@ exchange_back node passed event e step n l is may =
       | Some step ↦ entry_place node passed.line ++ event_name step.0 ++ argument_text passed.load step.0 [] (codes ")") ++ outcome_text step.1 ++ codes "\n"
     ]) step in
     let parts : text ≡ place ++ (event_name event ++ (argument ++ outcome_text e)) = append_assoc (place ++ event_name event) argument (outcome_text e) ∙ append_assoc place (event_name event) (argument ++ outcome_text e) in
-    (text, line, ap noted_at parts ∙ entry_read node passed.line passed.load event e n l is may)
+    let plain = plain_join ((place ++ event_name event) ++ argument) (outcome_text e)
+    (plain_join (place ++ event_name event) argument (plain_join place (event_name event) (place_plain node passed.line) (name_plain event)) (argument_plain passed.load event)) (outcome_plain e) in
+    (text, line, plain, ap noted_at parts ∙ entry_read node passed.line passed.load event e n l is may)
 
 no_digit : (values : List ℕ) → NoDigit (values_text values)
 no_digit [] = refl
@@ -346,7 +350,9 @@ opening_read number content small is =
 
 pub opening_back : (opening : Opening) → opening.line < 65536 → IsContent opening.content → IsReadAs opening_at (opening_line opening) (opening.line, opening.content)
 opening_back opening small is =
-    (codes "open " ++ decimal opening.line ++ values_text (opening.content.stamp ∷ opening.content.words), refl, opening_read opening.line opening.content small is)
+    let values = values_text (opening.content.stamp ∷ opening.content.words) in
+    let front = codes "open " ++ decimal opening.line in
+    (front ++ values, refl, plain_join front values (plain_join (codes "open ") (decimal opening.line) refl (decimal_plain opening.line)) (values_plain (opening.content.stamp ∷ opening.content.words)), opening_read opening.line opening.content small is)
 
 size_read : (size : Size) → IsSize size → memory_at (codes "memory " ++ (decimal size.nodes ++ (codes " " ++ decimal size.lines))) ≡ Some size
 unfolding memory_at
@@ -366,4 +372,6 @@ pub size_back : (size : Size) (openings : List Opening) → IsSize size → (lin
 size_back size openings is =
     let text = codes "memory " ++ decimal size.nodes ++ codes " " ++ decimal size.lines in
     let parts : text ≡ codes "memory " ++ (decimal size.nodes ++ (codes " " ++ decimal size.lines)) = append_assoc (codes "memory " ++ decimal size.nodes) (codes " ") (decimal size.lines) in
-    (text ++ codes "\n", refl, (text, refl, ap memory_at parts ∙ size_read size is))
+    let front = codes "memory " ++ decimal size.nodes in
+    let plain = plain_join (front ++ codes " ") (decimal size.lines) (plain_join front (codes " ") (plain_join (codes "memory ") (decimal size.nodes) refl (decimal_plain size.nodes)) refl) (decimal_plain size.lines) in
+    (text ++ codes "\n", refl, (text, refl, plain, ap memory_at parts ∙ size_read size is))

@@ -1,13 +1,18 @@
 -- The lines of what a command prints, and of the answer with it.
-use Rattle.std.proofs.Common.{◌≡◌, ℕ, zero, suc, ◌+◌, ◌-◌, ◌<◌, ◌||◌, Bool, true, false, not, eqb, List, [], ◌∷◌, ◌++◌, length, get_or, slice_index, take, codes, bytes_eq, flat_map, refl, sym, ap, ap₂, subst, ◌∙◌, append_assoc, arith, if◌then◌else◌}
+use Rattle.std.proofs.Common.{◌≡◌, ℕ, zero, suc, ◌+◌, ◌-◌, ◌<◌, ◌||◌, ◌≢◌, Bool, true, false, true≢false, not, eqb, eq-eqb, ltb, lt-ltb, All, List, [], ◌∷◌, ◌++◌, length, length-append, get_or, slice_index, take, codes, bytes_eq, flat_map, refl, sym, ap, ap₂, subst, ◌∙◌, append_assoc, arith, if◌then◌else◌}
 use Rattle.std.specs.List.{list_all, list_any}
+use Rattle.std.specs.Io.BufRead.{take_through, drop_through, ends_with_byte}
 use Rattle.std.specs.Str.Lines.{lines, strip_carriage_return}
-use Rattle.std.proofs.lemmas.Bool.{and_parts, or_from}
+use Rattle.std.proofs.BufReadLemmas.{drop_through-append, take_through-append}
+use Rattle.std.proofs.lemmas.Bool.{and_from, and_parts, or_from}
 use Rattle.std.proofs.lemmas.List.Folds.{list_any-append}
 use Rattle.std.proofs.lemmas.Grind.{flat_map-append}
+use Rattle.sci_dump.proofs.FieldsBack.{whole_front}
 use Rattle.sci_script.proofs.Lines.{lines_at}
+use Rattle.sci_follow.specs.Streams.{without_end}
 use Rattle.sci_serve.specs.Accepted.{unless_ok, without_ok, is_refusal, refuses}
-use Rattle.sci_serve.proofs.Plain.{IsPlain, is_kept, Each, ended_line, AreOwn}
+use Rattle.sci_serve.specs.ReadBack.{IsPlain, is_kept}
+use Rattle.sci_serve.proofs.Plain.{Each, ended_line, AreOwn}
 
 un_not : (x : Bool) → not x ≡ true → x ≡ false
 un_not true h = absurd (cc)
@@ -73,3 +78,31 @@ pub refuses_more : (printed rest : List ℕ) → AreOwn printed → refuses ((pr
 refuses_more printed rest (own, each, is) =
     subst (λ (l : List ℕ). refuses ((l ++ codes "ok\n") ++ rest) ≡ refuses rest) (sym is)
     (ap (list_any is_refusal) (answer_lines own rest each) ∙ list_any-append is_refusal own (codes "ok" ∷ lines rest) ∙ ap (λ (b : Bool). b || refuses rest) (none_refuses own each))
+
+-- a plain line in front of more, as a reader up to its line feed has it
+no_feed : (line : List ℕ) → IsPlain line → All (λ (b : ℕ). b ≢ 10) line
+no_feed line p = λ i d low e. true≢false (sym (eq-eqb (get_or line i d) 10 e) ∙ feed_at line p i d low)
+
+pub first_through : (line rest : List ℕ) → IsPlain line → take_through 10 ((line ++ codes "\n") ++ rest) ≡ line ++ codes "\n"
+first_through line rest p = ap (take_through 10) (append_assoc line (codes "\n") rest) ∙ take_through-append 10 line (codes "\n" ++ rest) (no_feed line p)
+
+pub rest_through : (line rest : List ℕ) → IsPlain line → drop_through 10 ((line ++ codes "\n") ++ rest) ≡ rest
+rest_through line rest p = ap (drop_through 10) (append_assoc line (codes "\n") rest) ∙ drop_through-append 10 line (codes "\n" ++ rest) (no_feed line p)
+
+last_byte : (line : List ℕ) (b : ℕ) → slice_index (line ++ b ∷ []) (length line) ≡ b
+last_byte [] b = refl
+last_byte (x ∷ line) b = last_byte line b
+
+if_so : (b : Bool) (x y : List ℕ) → b ≡ true → (if b then x else y) ≡ x
+if_so true x y h = refl
+if_so false x y h = absurd (cc)
+
+pub whole_line : (line : List ℕ) → IsPlain line → without_end (line ++ codes "\n") ≡ line
+whole_line line p =
+    let all = line ++ codes "\n" in
+    let long = length-append line (codes "\n") in
+    let n : length all - 1 ≡ length line = omega (arith, long) in
+    let last : eqb (slice_index all (length all - 1)) 10 ≡ true = eq-eqb (slice_index all (length all - 1)) 10 (ap (slice_index all) n ∙ last_byte line 10) in
+    let ends : ends_with_byte 10 all ≡ true = and_from (ltb 0 (length all)) (eqb (slice_index all (length all - 1)) 10) (lt-ltb 0 (length all) (omega (arith, long))) last in
+    if_so (ends_with_byte 10 all) (strip_carriage_return (take (length all - 1) all)) all ends
+    ∙ ap (λ (k : ℕ). strip_carriage_return (take k all)) n ∙ ap strip_carriage_return (whole_front line (codes "\n")) ∙ stays line p

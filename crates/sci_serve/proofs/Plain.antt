@@ -16,15 +16,9 @@ use Rattle.sci_ops.specs.declared.answers.Turn.{Turn}
 use Rattle.sci_ops.specs.declared.answers.Turn.TheVariants.{Moved, Waiting, Done}
 use Rattle.sci_script.specs.Text.{turn_text, list_line, tag_line, residents_line, entry_text, entries_text, chain_text, link_text, held_text}
 use Rattle.sci_serve.specs.Accepted.{is_refusal}
+use Rattle.sci_serve.specs.ReadBack.{is_kept, IsPlain}
 
--- no byte of it is a line feed or a carriage return
-abbrev pub is_kept : ℕ → Bool
-is_kept b = not (eqb b 10) && not (eqb b 13)
-
-abbrev pub IsPlain : List ℕ → Type 0
-IsPlain bytes = list_all is_kept bytes ≡ true
-
-plain_join : (xs ys : List ℕ) → IsPlain xs → IsPlain ys → IsPlain (xs ++ ys)
+pub plain_join : (xs ys : List ℕ) → IsPlain xs → IsPlain ys → IsPlain (xs ++ ys)
 plain_join xs ys p q = rw (list_all-append is_kept xs ys, p, q) refl
 
 glyph_kept : (d : ℕ) → d < 10 → is_kept (digit_glyph false d) ≡ true
@@ -43,11 +37,11 @@ digits_plain (suc k) n acc p =
       | inr others ↦ rw others (digits_plain k (n / 10) (digit_glyph false (n % 10) ∷ acc) more)
     ]
 
-decimal_plain : (n : ℕ) → IsPlain (decimal n)
+pub decimal_plain : (n : ℕ) → IsPlain (decimal n)
 unfolding digits
 decimal_plain n = digits_plain 64 n [] refl
 
-tag_plain : (t : Tag) → IsPlain (name_of t)
+pub tag_plain : (t : Tag) → IsPlain (name_of t)
 tag_plain t = by_kind t.kind t.held t.forw t.back
   where
     by_kind : (k : Kind) (held : Bool) (forw back : Option ℕ) → IsPlain (name_of (record { kind = k; held = held; forw = forw; back = back }))
@@ -176,7 +170,7 @@ tag_own line node tag =
     let r = plain_join back (link_text tag.back) (plain_join linked (codes " back ") q refl) (link_plain tag.back) in
     own_one (whole ++ held_text tag.held) (plain_join whole (held_text tag.held) r (held_plain tag.held), refl, refl)
 
-numbers_plain : (numbers : List ℕ) → IsPlain (flat_map (λ (line : ℕ). codes " " ++ decimal line) numbers)
+pub numbers_plain : (numbers : List ℕ) → IsPlain (flat_map (λ (line : ℕ). codes " " ++ decimal line) numbers)
 numbers_plain [] = refl
 numbers_plain (line ∷ numbers) = plain_join (codes " " ++ decimal line) (flat_map (λ (line : ℕ). codes " " ++ decimal line) numbers) (plain_join (codes " ") (decimal line) refl (decimal_plain line)) (numbers_plain numbers)
 

@@ -13,3 +13,4 @@ pub mod Explained
 pub mod Plays
 pub mod Accepted
 pub mod ReadBack
+pub mod FollowedTurns

@@ -1,5 +1,6 @@
 -- What is read of the lines of a log that a run writes. This project's profile.
-use Rattle.std.specs.Prelude.{◌≡◌, ℕ, ◌<◌, ◌^◌, Bool, true, false, List, ◌++◌, length, All, Option, Some, None, codes, is_some}
+use Rattle.std.specs.Prelude.{◌≡◌, ℕ, ◌<◌, ◌^◌, ◌==◌, ◌&&◌, not, Bool, true, false, List, ◌++◌, length, All, Option, Some, None, codes, is_some}
+use Rattle.std.specs.List.{list_all}
 use Rattle.sci_words.specs.declared.tags.Kind.{Kind}
 use Rattle.sci_words.specs.declared.tags.Tag.{Tag}
 use Rattle.sci_core.specs.declared.events.Event.{Event}
@@ -13,9 +14,16 @@ use Rattle.sci_follow.specs.declared.told.Told.{Told}
 use Rattle.sci_follow.specs.declared.told.Noted.{Noted}
 use Rattle.sci_follow.specs.LineText.{sample}
 
--- a line of text that is read as this
+-- no byte of it is a line feed or a carriage return
+abbrev pub is_kept : ℕ → Bool
+is_kept b = not (b == 10) && not (b == 13)
+
+abbrev pub IsPlain : List ℕ → Type 0
+IsPlain bytes = list_all is_kept bytes ≡ true
+
+-- one line of text that is read as this
 abbrev pub IsReadAs : {A : Type 0} → (List ℕ → Option A) → List ℕ → A → Type 0
-IsReadAs read line told = (text : List ℕ) × (line ≡ text ++ codes "\n") × (read text ≡ Some told)
+IsReadAs read line told = (text : List ℕ) × (line ≡ text ++ codes "\n") × IsPlain text × (read text ≡ Some told)
 
 -- a tag with the name of this one
 abbrev pub is_followed : Kind → Option ℕ → Bool

@@ -4,7 +4,7 @@
 //! leaves open come to, [`serve_talk`] answers a script's commands one by one, [`serve_run`] and [`serve_run_by`] run the workload that
 //! settings ask for, [`serve_check`] checks a dump, and [`serve_legal`] a history. Each answers Ok or a [`SimFault`], which has the
 //! program's status; [`serve_outcomes`] a [`RaceFault`]. [`read_settings`] reads the settings of a workload.
-//! [`script_is_talked`] and [`entries_are_read_back`] are laws: they compute nothing.
+//! [`script_is_talked`], [`entries_are_read_back`], [`turns_are_followed`] and [`logs_follow`] are laws: they compute nothing.
 #![tactic(auto)]
 
 mod checking;
@@ -29,7 +29,7 @@ pub use checking::serve_check;
 pub use faults::SimFault;
 pub use following::serve_follow;
 pub use input::read_input;
-pub use laws::{entries_are_read_back, script_is_talked};
+pub use laws::{entries_are_read_back, logs_follow, script_is_talked, turns_are_followed};
 pub use legality::serve_legal;
 pub use playing::serve_play;
 pub use progress::{Progress, Visits};

@@ -1,10 +1,10 @@
 //! Why lines are refused, told beside what is written.
-ghost use Rattle.std.specs.Prelude.{◌≡◌, ◌≤◌, IsTrue, false, length, IfSome};
-ghost use Rattle.sci_serve.specs.Explained.{IsExplained};
+ghost use Rattle.std.specs.Prelude.{◌≡◌, ◌≤◌, IsTrue, false, length, IfOk};
+ghost use Rattle.sci_serve.specs.Explained.{has_reason, is_of_line, IsExplained};
 
 use crate::faults::SimFault;
 use sci_script::{Reason, ScriptRefusal, why_script};
-use std::alloc::Global;
+use std::alloc::{AllocError, Global};
 
 /// Whom the reasons of refusals are told to.
 pub trait Explain {
@@ -57,23 +57,51 @@ impl<C: Eprint> Explain for Told<'_, C> {
     }
 }
 
-/// Why a command over a script, as `serve` or `serve_outcomes`, is refused so, in words: of a line that is faulty, or of one that is
-/// refused as it is run. None where the fault is of no line, or memory ran out.
-pub fn explanation(alloc: Global, fault: SimFault, input: &[u8]) -> Option<Reason>
-    requires { length input.now ≤ 1048576 }
-    ensures { IfSome result (λ reason. IsExplained input.now reason) }
+/// Whether a refusal is of a line, and so has a reason.
+fn is_of_line(refusal: ScriptRefusal) -> bool
+    ensures { result ≡ is_of_line refusal }
 {
-    let is_of_line = matches!(
-        fault,
-        SimFault::Refused(
-            ScriptRefusal::BadCommand(_) | ScriptRefusal::BadNumber(_) | ScriptRefusal::NotDone(_),
-        )
-    );
-    if !is_of_line {
-        return None;
+    match refusal {
+        ScriptRefusal::BadCommand(_) | ScriptRefusal::BadNumber(_) | ScriptRefusal::NotDone(_) => {
+            true
+        }
+        ScriptRefusal::OutOfMemory | ScriptRefusal::WriteFailed => false,
     }
-    match why_script(alloc, input) {
-        Ok(why) => why,
-        Err(_) => None,
+}
+
+/// Whether the answer to a line refuses it, and so has a reason.
+pub(crate) fn has_reason(said: &Result<(), ScriptRefusal>) -> bool
+    ensures { result ≡ has_reason said.now }
+{
+    match said {
+        Ok(()) => false,
+        Err(refusal) => is_of_line(*refusal),
+    }
+}
+
+/// Why a command over a script, as `serve` or `serve_outcomes`, is refused so, in words: of a line that is faulty, or of one that is
+/// refused as it is run. None where the fault is of no line. Refusal 7 alone.
+pub fn explanation(
+    alloc: Global,
+    fault: SimFault,
+    input: &[u8],
+) -> Result<Option<Reason>, AllocError>
+    requires { length input.now ≤ 1048576 }
+    ensures { IfOk result (IsExplained fault input.now) }
+{
+    match fault {
+        SimFault::Refused(refusal) => {
+            if is_of_line(refusal) {
+                why_script(alloc, input)
+            } else {
+                Ok(None)
+            }
+        }
+        SimFault::CannotRead
+        | SimFault::CannotWrite
+        | SimFault::InputTooLong
+        | SimFault::NoDump(_)
+        | SimFault::Unlawful
+        | SimFault::NoRun(_) => Ok(None),
     }
 }

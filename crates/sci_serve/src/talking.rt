@@ -1,17 +1,17 @@
 //! The command `talk`: a script's commands one by one, each answered before more is read.
 
-ghost use Rattle.std.specs.Prelude.{◌≡◌, ◌<◌, ◌++◌, ◌∷◌, [], ℕ, false, List, All, length, take, string_bytes, ◌==◌, IfErr, IfSome, OnOk, OnErr, MatchOption};
+ghost use Rattle.std.specs.Prelude.{◌≡◌, ◌<◌, ◌++◌, ◌∷◌, [], ℕ, false, List, All, length, take, string_bytes, ◌==◌, IfErr, IfOk, IfSome, OnOk, OnErr, MatchOption};
 ghost use Rattle.std.specs.Io.KnownBytes.{Appends, IsAtEnd};
 ghost use Rattle.std.specs.Str.Lines.{lines};
 ghost use Rattle.sci_script.specs.Talks.{Standing, Silent};
 ghost use Rattle.sci_script.specs.Talkers.{standing_of};
-ghost use Rattle.sci_serve.specs.Explained.{IsExplainedIn};
+ghost use Rattle.sci_serve.specs.Explained.{IsExplainedIn, IsToldOf};
 ghost use Rattle.sci_serve.specs.Talked.{refused_line, ending_line, IsAccepted, IsRefused, Answers, Talks, StopsTalking, IsKeptBut, IsPart, line_by, Ends, Begins};
 
 use crate::faults::SimFault;
-use crate::reasons::{Explain, Untold};
+use crate::reasons::{Explain, Untold, has_reason};
 use sci_script::{Reason, ScriptRefusal, Talk, WriteFailed, line_end, put, without_return};
-use std::alloc::Global;
+use std::alloc::{AllocError, Global};
 use std::io::{ErrorKind, Read, Write};
 
 /// How many bytes a line may have: as many as a script.
@@ -83,13 +83,13 @@ impl Held {
         talk.say(line, text)
     }
 
-    /// Why the line was refused, by the talk behind that; none where memory ran out.
-    fn why(&self, is_ended: bool, talk: &Talk) -> Option<Reason>
-        ensures { IfSome result (λ reason. (seen : List ℕ) → IsKeptBut self.now.lost self.now.bytes.items seen → IsExplainedIn (standing_of talk.now) (line_by is_ended seen) reason) }
+    /// Why the line was refused, by the talk behind that. Refusal 7 alone.
+    fn why(&self, is_ended: bool, talk: &Talk) -> Result<Option<Reason>, AllocError>
+        ensures { IfOk result (λ why. (seen : List ℕ) → IsKeptBut self.now.lost self.now.bytes.items seen → IsExplainedIn (standing_of talk.now) (line_by is_ended seen) why) }
     {
         match self.lost {
-            Some(ScriptRefusal::BadCommand(_)) => return Some(Reason::TooLong),
-            Some(_) => return None,
+            Some(ScriptRefusal::BadCommand(_)) => return Ok(Some(Reason::TooLong)),
+            Some(_) => return Err(AllocError),
             None => {}
         }
         let bytes = self.bytes.as_slice();
@@ -99,12 +99,9 @@ impl Held {
             bytes
         };
         if line.len() > LINE {
-            return Some(Reason::TooLong);
+            return Ok(Some(Reason::TooLong));
         }
-        match talk.why(line) {
-            Ok(why) => why,
-            Err(_) => None,
-        }
+        talk.why(line)
     }
 }
 
@@ -172,19 +169,19 @@ impl Talker {
         }
     }
 
-    /// Why the line that was said is refused, where it is, and that is wanted.
-    fn why<E: Explain>(
+    /// What is to be told of the line that was said: why it is refused, where it is, and that is wanted. Refusal 7 alone.
+    fn why(
         &self,
         is_ended: bool,
         said: &Result<(), ScriptRefusal>,
-        explain: &E,
-    ) -> Option<Reason>
-        ensures { IfSome result (λ reason. (seen : List ℕ) → IsPart self.now.held seen → IsExplainedIn (standing_of self.now.talk) (line_by is_ended seen) reason) }
+        is_wanted: bool,
+    ) -> Result<Option<Reason>, AllocError>
+        ensures { IfOk result (λ why. (seen : List ℕ) → IsPart self.now.held seen → IsToldOf is_wanted said.now (standing_of self.now.talk) (line_by is_ended seen) why) }
     {
-        if said.is_err() && explain.is_wanted() {
+        if is_wanted && has_reason(said) {
             self.held.why(is_ended, &self.talk)
         } else {
-            None
+            Ok(None)
         }
     }
 
@@ -202,7 +199,7 @@ impl Talker {
         ensures held { OnOk result (IsPart self.new.held []) }
     {
         let said = self.held.say(is_ended, &mut self.talk, &mut self.text);
-        let why = self.why(is_ended, &said, explain);
+        let why = self.why(is_ended, &said, explain.is_wanted());
         self.held.release();
         if said.is_ok() {
             put(out, self.text.as_bytes())?;
@@ -210,7 +207,7 @@ impl Talker {
         put(out, ending(&said))?;
         match out.flush() {
             Ok(()) => {
-                explain.explain(why);
+                explain.explain(why.unwrap_or(None));
                 Ok(())
             }
             Err(_) => Err(WriteFailed),

@@ -4,6 +4,7 @@ mod growths;
 mod memory;
 
 use crate::lines::adding::adds_by_two;
+use crate::lines::keeping::gives_receipts;
 use crate::lines::opening::{finishes_in_order, opens_and_finishes};
 use crate::lines::stopping::stops_anywhere;
 use sci_coarse::CoarseLine;
@@ -18,6 +19,11 @@ fn opens_and_finishes_with_1_to_1024_nodes(rt: HostRuntime) {
 #[test]
 fn finishes_with_seats_in_order(rt: HostRuntime) -> Result<(), Fail> {
     finishes_in_order::<CoarseLine<AnyWords>>(&rt, rt.alloc())
+}
+
+#[test]
+fn finishes_with_receipts(rt: HostRuntime) -> Result<(), Fail> {
+    gives_receipts::<CoarseLine<AnyWords>, _>(&rt, rt.alloc())
 }
 
 #[test]

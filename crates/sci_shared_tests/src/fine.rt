@@ -5,6 +5,7 @@ mod memory;
 mod threads;
 
 use crate::lines::adding::adds_by_two;
+use crate::lines::keeping::gives_receipts;
 use crate::lines::opening::{finishes_in_order, opens_and_finishes};
 use crate::lines::stopping::stops_anywhere;
 use sci_core::AnyWords;
@@ -19,6 +20,11 @@ fn opens_and_finishes_with_1_to_1024_nodes(rt: HostRuntime) {
 #[test]
 fn finishes_with_seats_in_order(rt: HostRuntime) -> Result<(), Fail> {
     finishes_in_order::<FineLine<AnyWords>>(&rt, rt.alloc())
+}
+
+#[test]
+fn finishes_with_receipts(rt: HostRuntime) -> Result<(), Fail> {
+    gives_receipts::<FineLine<AnyWords>, _>(&rt, rt.alloc())
 }
 
 #[test]

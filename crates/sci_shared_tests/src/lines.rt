@@ -5,16 +5,17 @@ pub(crate) mod adding;
 mod callers;
 mod coarse;
 mod fine;
+pub(crate) mod keeping;
 mod lawful;
 pub(crate) mod opening;
 pub(crate) mod replaying;
 pub(crate) mod stopping;
 pub(crate) mod turning;
 
-use sci_core::{Closed, Event, Line, OpenRefusal, Outcome, Pending};
+use sci_core::{Closed, Event, Line, OpenRefusal, Outcome, Pending, Receipt};
 use sci_ops::{Answer, Op, Turn};
 use sci_words::{LineNo, Mem, NodeId, Tag};
-use std::alloc::Global;
+use std::alloc::{AllocError, Global};
 use std::sync::Wait;
 
 /// A line that threads share, with a seat for each node.
@@ -36,8 +37,12 @@ pub trait SharedLine: Sized + Drop {
     ) -> Result<(Self, Vec<Self::Seat>), OpenRefusal>
         ensures { IfOk result (λ r. All (λ s. is_seat r.0 s) r.1.items) };
 
-    /// The line, closed; or the refusal, with how many seats came back.
-    fn close(self, alloc: Global, seats: Vec<Self::Seat>) -> Result<Closed, (u8, usize)>
+    /// The line, closed, with each node's receipts; or the refusal, with how many seats came back.
+    fn close(
+        self,
+        alloc: Global,
+        seats: Vec<Self::Seat>,
+    ) -> Result<(Closed, Vec<Vec<Receipt>>), (u8, usize)>
         requires seats { All (λ s. is_seat self s) seats.items }
         requires rest { All is_at_rest seats.items };
 
@@ -47,6 +52,11 @@ pub trait SharedLine: Sized + Drop {
     /// Whether the seat's node is Idle.
     fn is_idle(seat: &Self::Seat) -> bool
         ensures { IsTrue result → is_at_rest seat.now };
+
+    /// Readies the seat's receipts: room for so many more, and whether the next settle is only passed.
+    fn ready(&self, seat: &mut Self::Seat, room: usize, passing: bool) -> Result<(), AllocError>
+        requires { is_seat self.now seat.old }
+        ensures { is_seat self.now seat.new };
 
     /// How many nodes the seat's port says that the line has. None: it says of itself what the seat doesn't.
     fn nodes(&self, seat: &mut Self::Seat) -> Option<u16>
@@ -96,7 +106,21 @@ pub(crate) fn are_idle<L: SharedLine>(seats: &[L::Seat]) -> bool
     true
 }
 
-/// The line, closed; or the refusal, with how many seats came back. 0: a seat is not Idle.
+/// The line, closed, with each node's receipts; or the refusal, with how many seats came back. 0: a seat is not Idle.
+pub(crate) fn finished<L: SharedLine>(
+    alloc: Global,
+    line: L,
+    seats: Vec<L::Seat>,
+) -> Result<(Closed, Vec<Vec<Receipt>>), (u8, usize)>
+    requires { All (λ s. L.is_seat line s) seats.items }
+{
+    if !are_idle::<L>(&seats) {
+        return Err((0, seats.len()));
+    }
+    line.close(alloc, seats)
+}
+
+/// The same without the receipts.
 pub(crate) fn closed<L: SharedLine>(
     alloc: Global,
     line: L,
@@ -104,8 +128,6 @@ pub(crate) fn closed<L: SharedLine>(
 ) -> Result<Closed, (u8, usize)>
     requires { All (λ s. L.is_seat line s) seats.items }
 {
-    if !are_idle::<L>(&seats) {
-        return Err((0, seats.len()));
-    }
-    line.close(alloc, seats)
+    let (closed, _receipts) = finished(alloc, line, seats)?;
+    Ok(closed)
 }

@@ -61,7 +61,7 @@ One command a line. N is a node, L a line, W a word of it (0 to 7), V a number b
   tag L N                   prints node N's tag on line L
   residents N               prints the lines that node N names, the one used last in front
 
-`rest` and `end` are this project's own words. No `rest` is refused 18, and no `end` is known to be.
+`rest` and `end` are this project's own words. Neither is ever refused 18.
 
 Answers: node N read V stamp S; node N wrote stamp S; node N out; node N refused 11 (the line's stamp, which counts its writes, is
 2^64 - 1: open it with a lower one).

@@ -127,12 +127,12 @@ fn explained(rt: &HostRuntime, fault: SimFault, input: &[u8]) -> Result<ExitCode
     requires { length input.now ≤ 1048576 }
 {
     match explanation(rt.alloc(), fault, input) {
-        Some(reason) => {
+        Ok(Some(reason)) => {
             let _ = eprintln!(rt; "scisim: {fault}");
             let _ = eprintln!(rt; "{reason}");
             Ok(ExitCode::from(fault.status()))
         }
-        None => Err(fault),
+        Ok(None) | Err(_) => Err(fault),
     }
 }
 

@@ -136,6 +136,11 @@ impl Desk for TraceDesk {
         self.take(node, 1)
     }
 
+    // Each turn adds its line.
+    fn waits_on(&self) -> bool {
+        false
+    }
+
     fn rest_turn(&mut self, line: LineNo) -> Toward {
         let mut passed = Passed::NOTHING;
         let toward = self.desk.watched_rest_turn(line, &mut passed);

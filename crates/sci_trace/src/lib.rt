@@ -7,6 +7,7 @@ mod drawing;
 mod entries;
 mod event_names;
 mod events;
+mod laws;
 mod lists;
 mod log_desk;
 mod logging;
@@ -23,6 +24,7 @@ mod words;
 
 pub use desk::TraceDesk;
 pub use drawing::{draw, put_play};
+pub use laws::logged_rest_and_end_are_done;
 pub use log_desk::LogDesk;
 pub use logging::log;
 pub use running::trace;

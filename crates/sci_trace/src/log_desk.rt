@@ -102,6 +102,11 @@ impl Desk for LogDesk {
         turn
     }
 
+    // Each turn adds its looks.
+    fn waits_on(&self) -> bool {
+        false
+    }
+
     fn rest_turn(&mut self, line: LineNo) -> Toward {
         let mut passed = Passed::NOTHING;
         let toward = self.desk.watched_rest_turn(line, &mut passed);

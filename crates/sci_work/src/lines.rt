@@ -141,7 +141,7 @@ pub(crate) fn finished<K: Keeps>(
     ensures err { IfErr result (λ e. e ≡ WorkRefusal.OutOfMemory) }
 {
     match line.finish(alloc, seats) {
-        Ok(closed) => Ok(closed),
+        Ok(made) => Ok(made.closed),
         // 7, and not 9: the seats are the line's own, one per node in order
         Err(_) => Err(WorkRefusal::OutOfMemory),
     }

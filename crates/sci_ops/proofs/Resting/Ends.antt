@@ -1,5 +1,5 @@
 -- Operations are taken to their ends one after another.
-use Rattle.std.proofs.Common.{◌≡◌, ◌≢◌, ◌<◌, ◌≤◌, ◌+◌, ◌*◌, ℕ, suc, Option, List, length, get_or, set, refl, sym, ap, subst, ⊎_elim, ◌∙◌, arith}
+use Rattle.std.proofs.Common.{◌≡◌, ◌≢◌, ◌<◌, ◌≤◌, ◌+◌, ◌*◌, ℕ, suc, true, Option, Some, None, is_some, List, length, get_or, set, refl, sym, ap, subst, ⊎_elim, ◌∙◌, arith}
 use Rattle.std.proofs.lemmas.Bool.{cases_eq}
 use Rattle.std.proofs.lemmas.List.{get_or_read, get_or-set_same, get_or-set_other}
 use Rattle.sci_core.specs.State.{State, update}
@@ -47,6 +47,11 @@ module _ (n : ℕ) (fits : List ℕ → Type 0) where
             ))
             (cases_eq i m);
       }
+
+-- an operation that was taken to its end has ended
+pub ended_some : (n : ℕ) (fits : List ℕ → Type 0) (i : ℕ) (op : Operation) (answer : Option Answer) (s : State) (k : ℕ) (new : Operation) (t : State) → op.answer ≡ answer → EndsOne n fits i op answer s k new t → is_some new.answer ≡ true
+ended_some n fits i op (Some answer) s k new t is h = ap (λ (o : Operation). is_some o.answer) h.1 ∙ ap is_some is
+ended_some n fits i op None s k new t is h = ap (λ (o : Operation). is_some o.answer) h.2
 
 -- the operation that a loop takes at this place is the one that was there at first
 pub taken_op : (ops all : List Operation) (k p : ℕ) (o : Operation) → p ≡ k → k < length ops → o ≡ get_or ops p o → op_at ops k ≡ op_at all k → o ≡ op_at all k

@@ -13,19 +13,19 @@ const STATES: &str = "\
 state
 line 0 is HOME forw none; has 0 0 0 0 0 0 0 0 0
 node 0 is INVALID forw none back none; Idle; has 0 0 0 0 0 0 0 0 0
-turn 0 1 Queue(none) Done; 
+turn 0 1 line 0 Queue(none) Done; 
 state
 line 0 is HOME forw none; has 0 0 0 0 0 0 0 0 0
 node 0 is QUEUED forw none back none; Queueing(none); 
-turn 0 2 PrependValid Done; 
+turn 0 2 line 0 PrependValid Done; 
 state
 line 0 is FRESH forw 0 lent
 node 0 is QUEUED forw none back none; Fetching(none);  keeps 0 0 0 0 0 0 0 0 0
-turn 0 3 ReturnMemory Done; 
+turn 0 3 line 0 ReturnMemory Done; 
 state
 line 0 is FRESH forw 0; has 0 0 0 0 0 0 0 0 0
 node 0 is QUEUED forw none back none; InQueue(none);  keeps 0 0 0 0 0 0 0 0 0
-turn 0 4 Settle Done; 
+turn 0 4 line 0 Settle Done; 
 node 0 read 0 stamp 0
 state
 line 0 is FRESH forw 0; has 0 0 0 0 0 0 0 0 0

@@ -52,6 +52,10 @@ impl Desk for Odd {
         Turn::Waiting
     }
 
+    fn waits_on(&self) -> bool {
+        false
+    }
+
     fn rest_turn(&mut self, _line: LineNo) -> Toward {
         Toward::Unknown
     }
@@ -156,6 +160,10 @@ impl Desk for Late {
             return Turn::Waiting;
         }
         Turn::Done(Answer::Out)
+    }
+
+    fn waits_on(&self) -> bool {
+        false
     }
 
     fn rest_turn(&mut self, _line: LineNo) -> Toward {

@@ -34,7 +34,7 @@ fn refuses(rt: &impl Abort, alloc: Global) -> Result<(), Fail> {
         Err(refusal) => return opens_again(rt, alloc, refusal),
     };
     match line.finish(alloc, seats) {
-        Ok(closed) => is_unused(rt, &closed),
+        Ok(finished) => is_unused(rt, &finished.closed),
         Err(
             FinishRefusal {
                 line,
@@ -45,17 +45,17 @@ fn refuses(rt: &impl Abort, alloc: Global) -> Result<(), Fail> {
             // (told to the prover too: then the seats are as before)
             assert!(rt; refusal == 7);
             are_as_before(rt, &seats);
-            let Ok(closed) = line.finish(alloc, seats) else {
+            let Ok(finished) = line.finish(alloc, seats) else {
                 panic!(rt; "it was refused again")
             };
-            is_unused(rt, &closed);
+            is_unused(rt, &finished.closed);
             return Err(Fail::new("finish answered 7"));
         }
     }
     Ok(())
 }
 
-/// Growths: 7 of new, 2 of finish.
+/// Growths: 7 of new, 3 of finish.
 #[test]
 fn refused_growths(rt: HostRuntime) -> Result<(), Fail> {
     refuses(&rt, rt.alloc())

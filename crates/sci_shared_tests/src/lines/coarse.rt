@@ -8,11 +8,11 @@ ghost use Rattle.sci_port.specs.declared.calls.Call.TheVariants.{Stepped};
 use super::SharedLine;
 use crossbeam_utils::Backoff;
 use sci_coarse::{CoarseLine, CoarsePort, Seat, law_of_one_run};
-use sci_core::{AnyWords, Closed, Event, Line, OpenRefusal, Outcome, Pending};
+use sci_core::{AnyWords, Closed, Event, Line, OpenRefusal, Outcome, Pending, Receipt};
 use sci_ops::{Answer, Op, Turn};
 use sci_port::Port;
 use sci_words::{LineNo, Mem, NodeId, Tag};
-use std::alloc::Global;
+use std::alloc::{AllocError, Global};
 use std::sync::Wait;
 
 // An event through a port, if it is in turn: the seat's log then has this very call behind it, and nothing else.
@@ -70,12 +70,16 @@ impl SharedLine for CoarseLine<AnyWords> {
         Ok((line, seats))
     }
 
-    fn close(self, alloc: Global, seats: Vec<Seat<AnyWords>>) -> Result<Closed, (u8, usize)>
+    fn close(
+        self,
+        alloc: Global,
+        seats: Vec<Seat<AnyWords>>,
+    ) -> Result<(Closed, Vec<Vec<Receipt>>), (u8, usize)>
         requires seats { All (λ s. IsSeatOf self s) seats.items }
         requires rest { All (λ s. s.standing.pending ≡ Idle) seats.items }
     {
         match self.finish(alloc, seats) {
-            Ok(closed) => Ok(closed),
+            Ok(finished) => Ok((finished.closed, finished.receipts)),
             Err(refused) => Err((refused.refusal, refused.seats.len())),
         }
     }
@@ -86,6 +90,18 @@ impl SharedLine for CoarseLine<AnyWords> {
 
     fn is_idle(seat: &Seat<AnyWords>) -> bool {
         matches!(seat.pending(), Pending::Idle)
+    }
+
+    fn ready(
+        &self,
+        seat: &mut Seat<AnyWords>,
+        room: usize,
+        passing: bool,
+    ) -> Result<(), AllocError> {
+        let mut port = self.port(seat);
+        port.reserve(room)?;
+        port.aim(passing);
+        Ok(())
     }
 
     fn nodes(&self, seat: &mut Seat<AnyWords>) -> Option<u16> {

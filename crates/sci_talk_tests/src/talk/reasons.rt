@@ -32,7 +32,7 @@ const REFUSED: [(&str, &str); 12] = [
     ),
     (
         "memory 2 1\nstore 0 0 0 7\ndone 0\nevict 0 0\nturn 0\nload 1 0 0\nturn 1\nturn 1\nturn 0\ndone 0",
-        "node 0 is Idle, and waits",
+        "node 0 waits for node 1",
     ),
 ];
 

@@ -7,7 +7,7 @@ use Rattle.sci_ops.specs.Change.{StoresFitting}
 use Rattle.sci_ops.specs.Operation.{Operation}
 use Rattle.sci_ops.specs.Rest.{EndsOne, EndsEach, op_at}
 use Rattle.sci_ops.specs.Table.{begun}
-use Rattle.sci_ops.proofs.Resting.Ends.{none_yet, one_further, taken_op, one_more_part, one_on, stores_there}
+use Rattle.sci_ops.proofs.Resting.Ends.{ended_some, none_yet, one_further, taken_op, one_more_part, one_on, stores_there}
 use Rattle.sci_ops.proofs.Resting.Turning.{same_line}
 use Rattle.sci_ops.proofs.to_rest.end.Goals as goal
 
@@ -96,6 +96,12 @@ returns-clause-bound g c =
     let ends : c.loop-number.steps ≤ c.rest.new.steps + n * (3 * n + 16) = subst (λ (k : ℕ). c.loop-number.steps ≤ c.rest.new.steps + k * (3 * n + 16)) all c.loop-number.invariant.bound in
     let rested : c.rest.new.steps ≤ c.args.steps.now + (n * n + 9 * n) = c.rest.ensures.bound in
     omega (arith, ends, rested)
+
+pub returns-clause-ended : goal.returns-clause-ended
+returns-clause-ended g c = λ i lt.
+    let all : c.loop-number.number ≡ nodes_of c.args.whole.now = omega (arith, c.loop-number-test.false, c.loop-number.auto.number-end, c.nodes-number-end.ensures.nodes, c.rest.ensures.same.nodes) in
+    let one = c.loop-number.invariant.ends.2.each i (omega (arith, lt, all)) in
+    ended_some (nodes_of c.args.whole.now) (g.K.Keeps.fits c.args.whole.now.keep c.args.whole.now.number) i (op_at c.args.ops.now i) (op_at c.args.ops.now i).answer (c.loop-number.invariant.ends.2.at i) one.0 (op_at c.loop-number.ops i) (c.loop-number.invariant.ends.2.at (suc i)) refl one.2
 
 pub returns-clause-same : goal.returns-clause-same
 returns-clause-same g c = c.loop-number.invariant.same

@@ -12,4 +12,4 @@ finish-requires g c = record {
 }
 
 pub returns-in-Ok-clause-ok : goal.returns-in-Ok-clause-ok
-returns-in-Ok-clause-ok g c = closed_of g.K.Keeps.fits c.args.line _ c.in-Ok.closed c.in-Ok.ensures.ok
+returns-in-Ok-clause-ok g c = closed_of g.K.Keeps.fits c.args.line _ c.in-Ok.made.closed c.in-Ok.ensures.ok.end

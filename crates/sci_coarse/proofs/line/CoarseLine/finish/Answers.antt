@@ -5,6 +5,8 @@ use Rattle.sci_port.specs.History.{value_of}
 use Rattle.sci_coarse.specs.Runs.{calls_in}
 use Rattle.sci_coarse.specs.Seats.{IsOnePerNode, IsSeatOf}
 use Rattle.sci_coarse.proofs.Histories.{ended, unused}
+use Rattle.sci_coarse.proofs.KeptAll.{finishes}
+use Rattle.sci_coarse.specs.Ends.{IsEnd}
 use Rattle.sci_coarse.proofs.Listed.{all_each, clash, inside_of, seat_or}
 use Rattle.sci_coarse.proofs.line.CoarseLine.finish.Goals as goal
 
@@ -28,6 +30,7 @@ join_all-root-requires g c =
     record {
       seats = λ k s e. let n : s.node ≡ k = (one.1 k s e).0 in (all_each (λ s. IsSeatOf c.args.self s) c.args.seats.items c.requires.seats k s e, omega (arith, n), all_each (λ s. s.standing.pending ≡ Pending.Idle) c.args.seats.items c.requires.rest k s e);
       len = c.args.seats.ok.0 ∙ one.0;
+      room = (c.in-Ok.ensures.2, c.in-Ok.ensures.5);
     }
 
 pub lay_open-whole-requires : goal.lay_open-whole-requires
@@ -39,32 +42,30 @@ closed_in-requires g c =
     record {
       idle = left.idle;
       empty = (room.0, room.1);
-      tag_room = subst (λ (n : ℕ). n ≤ vec_capacity c.in-Ok.tags) nodes room.2;
-      line_room = subst (λ (n : ℕ). n ≤ vec_capacity c.in-Ok.lines) nodes room.3;
+      tag_room = subst (λ (n : ℕ). n ≤ vec_capacity c.in-Ok.tags) nodes room.3;
+      line_room = subst (λ (n : ℕ). n ≤ vec_capacity c.in-Ok.lines) nodes room.4;
     }
 
 pub returns : goal.returns
 returns g c =
-    let left = c.lay_open-whole.ensures in let t = c.args.self.terms in
+    let left = c.lay_open-whole.ensures in let t = c.args.self.terms in let seats = c.args.seats.items in let j = c.join_all-root.ensures in
     let one = subst (λ l. IsOnePerNode c.args.self l) c.deref.ensures.value (c.has_seats.ensures.0 (search rules)) in
     let told = ended g.K.Keeps.fits t left.run.run c.lay_open-whole.result left.run.fit left.run.ran in
-    record {
-      seats = one;
-      ok = record {
-        whole = c.lay_open-whole.result;
-        run = left.run.run;
-        ran = left.run.ran;
-        logs = λ i s e. sym (c.join_all-root.ensures.logs i s e) ∙ left.run.log i (inside_of t.nodes c.args.seats.items s i e one.0);
-        nobody = left.run.nobody;
-        unused = λ none. unused g.K.Keeps.fits t left.run.run c.lay_open-whole.result left.run.ran (λ i. seat_or c.args.seats.items i (λ s e. sym (left.run.log i (inside_of t.nodes c.args.seats.items s i e one.0)) ∙ (c.join_all-root.ensures.logs i s e ∙ none i s e)) (λ far. left.run.nobody i (let long = one.0 in omega arith)));
-        value = value_of t.opening (calls_in left.run.run);
-        history = told.1;
-        valued = told.0;
-        on = left.on;
-        lawful = left.lawful;
-        idle = left.idle;
-        read = c.closed_in.ensures.read;
-        exact = c.closed_in.ensures.exact;
-      };
-      err = tt;
-    }
+    let end : IsEnd g.K.Keeps.fits t seats c.closed_in.result = record {
+      whole = c.lay_open-whole.result;
+      run = left.run.run;
+      ran = left.run.ran;
+      fit = left.run.fit;
+      logs = λ i s e. sym (j.logs i s e) ∙ left.run.log i (inside_of t.nodes seats s i e one.0);
+      nobody = left.run.nobody;
+      unused = λ none. unused g.K.Keeps.fits t left.run.run c.lay_open-whole.result left.run.ran (λ i. seat_or seats i (λ s e. sym (left.run.log i (inside_of t.nodes seats s i e one.0)) ∙ (j.logs i s e ∙ none i s e)) (λ far. left.run.nobody i (let long = one.0 in omega arith)));
+      value = value_of t.opening (calls_in left.run.run);
+      history = told.1;
+      valued = told.0;
+      on = left.on;
+      lawful = left.lawful;
+      idle = left.idle;
+      read = c.closed_in.ensures.read;
+      exact = c.closed_in.ensures.exact;
+    } in
+    record { seats = one; ok = finishes g.K.Keeps.fits t seats c.closed_in.result one.0 end _ j.lists; err = tt }

@@ -1,4 +1,6 @@
-use Rattle.std.proofs.Common.{◌<◌, ◌+◌, ℕ, Some, length, vec_len, arith, sym, ◌∙◌, ap, subst}
+use Rattle.std.proofs.Common.{◌<◌, ◌+◌, ℕ, List, ◌∷◌, ◌++◌, ◌≡◌, Some, length, map, vec_items, vec_len, arith, sym, ◌∙◌, ap, subst}
+use Rattle.sci_coarse.specs.Kept.{lists_of}
+use Rattle.sci_coarse.proofs.KeptAll.{lists_first, lists_last, moved_more, moved_out, no_length}
 use Rattle.sci_coarse.proofs.Seating.{joins_as}
 use Rattle.atomic_table.proofs.Lists.{at_index}
 use Rattle.sci_coarse.specs.Views.{joined_view}
@@ -23,6 +25,9 @@ loop-seat-init g c =
       seats = others_of c.args.self.now c.args.seats.items r.new.self.items c.requires.seats r.ensures.items;
       calls = first_kept c.args.seats.items s _ (at_index c.args.seats.items 0 s some_seat r.ensures.value) (s.seen.0 ∙ f.1) (omega (arith, c.args.seats.ok, r.new.self.ok));
       others = others_first c.args.seats.items r.new.self.items r.ensures.items;
+      count = let none : vec_len c.args.lists ≡ 0 = c.args.lists.ok.0 ∙ ap (λ l. length l) c.requires.room.0 in omega (arith, c.requires.len, none, r.ensures.len);
+      room = c.requires.room.1;
+      lists = lists_first s c.args.seats.items r.new.self.items c.args.lists.items some_seat r.ensures.value r.ensures.items c.requires.room.0;
     }
 
 pub join_seat-requires : goal.join_seat-requires
@@ -48,6 +53,9 @@ loop-seat-preserved g c =
           (kept_more c.args.seats.items c.loop-seat.seats.items c.pop.new.self.items s c.loop-seat.root.me.0 c.in-Some.ensures.items i.others (seen ∙ node) i.first
           (subst (λ (n : ℕ). KeepsFrom c.args.seats.items (n + 1) c.loop-seat.root.me.0) c.loop-seat.seats.ok.0 i.calls)));
       others = fewer_first c.args.seats.items c.loop-seat.seats.items c.pop.new.self.items s c.in-Some.ensures.items i.others;
+      count = omega (arith, i.count, c.in-Some.ensures.len, c.push_reserved.ensures.len);
+      room = omega (arith, i.room, c.push_reserved.ensures.capacity);
+      lists = ap (λ l. c.remove-root.result.receipts.list ∷ l) (lists_last c.loop-seat.seats.items c.pop.new.self.items s c.loop-seat.lists.items c.push_reserved.new.self.items c.into_vec.result c.in-Some.ensures.items c.push_reserved.ensures.items c.into_vec.ensures) ∙ i.lists;
     }
 
 pub loop-seat-smaller : goal.loop-seat-smaller
@@ -55,9 +63,12 @@ loop-seat-smaller g c = omega (arith, c.in-Some.ensures.len, c.pop.new.self.ok.0
 
 pub returns : goal.returns
 returns g c =
-    let i = c.loop-seat.invariant in let none = c.in_default.ensures.cases.0 in
+    let i = c.loop-seat.invariant in let none = c.in_default.ensures.cases.0 in let left = c.loop-seat.seats in let moved = c.loop-seat.lists.items in
     record {
       of = (i.of, i.live);
       view = (i.first, i.joined ∙ ap (λ (n : ℕ). n + 1) none, i.idle, i.unheld);
       logs = kept_all c.args.seats.items _ c.loop-seat.root.me.0 (omega (arith, none)) i.calls;
+      lists = ap (λ l. map (λ v. vec_items v) l) c.reverse.ensures.items
+          ∙ (moved_more moved c.push_reserved-2.new.self.items c.into_vec-2.result c.push_reserved-2.ensures.items ∙ (ap (λ l. l ∷ moved_out moved) c.into_vec-2.ensures
+          ∙ subst (λ (seats : List _). c.remove-root.result.receipts.list ∷ (lists_of seats ++ moved_out moved) ≡ lists_of c.args.seats.items) (no_length left.items (sym left.ok.0 ∙ none)) i.lists));
     }

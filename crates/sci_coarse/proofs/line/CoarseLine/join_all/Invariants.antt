@@ -1,6 +1,9 @@
-use Rattle.std.proofs.Common.{◌≡◌, ◌+◌, Some, false, vec_len}
+use Rattle.std.proofs.Common.{◌≡◌, ◌+◌, ◌≤◌, ◌∷◌, ◌++◌, Some, false, vec_len}
+use Rattle.std.specs.Prelude.{vec_capacity}
 use Rattle.sci_core.specs.declared.pending.Pending.TheVariants.{Idle}
+use Rattle.sci_coarse.specs.Kept.{lists_of}
 use Rattle.sci_coarse.specs.Seats.{AreIdleFrom}
+use Rattle.sci_coarse.proofs.KeptAll.{moved_out}
 use Rattle.sci_coarse.proofs.Ordered.{KeepsFrom, AreFirstOf}
 use Rattle.sci_coarse.proofs.line.CoarseLine.join_all.Given as goal
 
@@ -15,6 +18,9 @@ invariant-loop-seat g l = record {
   seats : AreIdleFrom l.self 1 l.seats.items;
   calls : KeepsFrom l.fn.seats.items (vec_len l.seats + 1) l.root.me.0;
   others : AreFirstOf l.fn.seats.items l.seats.items;
+  count : vec_len l.lists + (vec_len l.seats + 1) ≡ l.self.terms.nodes;
+  room : l.self.terms.nodes ≤ vec_capacity l.lists;
+  lists : l.first.list ∷ (lists_of l.seats.items ++ moved_out l.lists.items) ≡ lists_of l.fn.seats.items;
 }
 
 abbrev pub decreases-loop-seat : goal.decreases-loop-seat

@@ -2,6 +2,7 @@ use Rattle.std.proofs.Common.{rules, ◌≡◌, refl, sym, ap, ◌∙◌, subst,
 use Rattle.std.proofs.lemmas.List.{length-map}
 use Rattle.sci_core.specs.declared.pending.Pending.{Pending}
 use Rattle.sci_fine.proofs.Elements.{clash, all_each}
+use Rattle.sci_fine.proofs.KeptAll.{finishes}
 use Rattle.sci_fine.specs.Ends.{IsEnd}
 use Rattle.sci_fine.specs.Seats.{IsOnePerNode, IsSeatOf}
 use Rattle.sci_fine.proofs.line.FineLine.finish.Goals as goal
@@ -26,6 +27,7 @@ join_all-root-requires g c =
     record {
       seats = λ k s e. let n : s.standing.node ≡ k = (one.1 k s e).0 in (all_each (λ s. IsSeatOf c.args.self s) c.args.seats.items c.requires.seats k s e, omega (arith, n), all_each (λ s. s.standing.pending ≡ Pending.Idle) c.args.seats.items c.requires.rest k s e);
       len = c.args.seats.ok.0 ∙ one.0;
+      room = (c.in-Ok.ensures.2, c.in-Ok.ensures.5);
     }
 
 pub lay_open-requires : goal.lay_open-requires
@@ -44,12 +46,16 @@ read_out-requires g c =
       counts = c.lay_open.ensures.counts;
       full = c.lay_open.ensures.full;
       rest = (_, c.lay_open.ensures.rest);
-      room = c.in-Ok.ensures;
+      room = (c.in-Ok.ensures.0, c.in-Ok.ensures.1, c.in-Ok.ensures.3, c.in-Ok.ensures.4);
     }
 
 pub returns : goal.returns
-returns g c = record {
-  seats = subst (λ l. IsOnePerNode c.args.self l) c.deref.ensures.value (c.has_seats.ensures.0 (search rules));
-  ok = subst (λ logs. IsEnd g.K.Keeps.fits c.args.self.terms logs c.read_out.result) c.join_all-root.ensures.logs (c.read_out.ensures (c.join_all-root.result.me.0.log ∷ c.join_all-root.result.me.0.logs) c.lay_open.ensures.rest);
-  err = tt;
-}
+returns g c =
+    let t = c.args.self.terms in let j = c.join_all-root.ensures in let root = c.join_all-root.result.0.me.0 in
+    let one = subst (λ l. IsOnePerNode c.args.self l) c.deref.ensures.value (c.has_seats.ensures.0 (search rules)) in
+    let end = subst (λ logs. IsEnd g.K.Keeps.fits t logs c.read_out.result) j.logs (c.read_out.ensures (root.log ∷ root.logs) c.lay_open.ensures.rest) in
+    record {
+      seats = one;
+      ok = finishes g.K.Keeps.fits t c.args.seats.items c.read_out.result _ one.0 j.lists end;
+      err = tt;
+    }

@@ -1,5 +1,7 @@
-use Rattle.std.proofs.Common.{◌≡◌, ◌<◌, ◌+◌, ℕ, List, ◌∷◌, ◌++◌, Some, length, arith, sym, ◌∙◌, ap, subst}
+use Rattle.std.proofs.Common.{◌≡◌, ◌<◌, ◌+◌, ℕ, List, ◌∷◌, ◌++◌, Some, length, map, vec_items, vec_len, arith, sym, ◌∙◌, ap, subst}
+use Rattle.sci_fine.specs.Kept.{lists_of}
 use Rattle.sci_fine.specs.Seats.{logs_of}
+use Rattle.sci_fine.proofs.KeptAll.{lists_first, lists_last, moved_more, moved_out}
 use Rattle.sci_fine.proofs.Elements.{no_length}
 use Rattle.sci_fine.proofs.Seating.{joins_as}
 use Rattle.sci_fine.proofs.Ordered.{first_of, others_of, last_of, empty_hand, no_logs, logs_first, logs_last}
@@ -21,6 +23,9 @@ loop-seat-init g c =
       idle = s.seen.1 ∙ f.2;
       seats = others_of c.args.self.now c.args.seats.items r.new.self.items c.requires.seats r.ensures.items;
       logs = logs_first s c.args.seats.items r.new.self.items s.token.me.0.logs some_seat r.ensures.value r.ensures.items (no_logs s);
+      count = let none : vec_len c.args.lists ≡ 0 = c.args.lists.ok.0 ∙ ap (λ l. length l) c.requires.room.0 in omega (arith, c.requires.len, none, r.ensures.len);
+      room = c.requires.room.1;
+      lists = lists_first s c.args.seats.items r.new.self.items c.args.lists.items some_seat r.ensures.value r.ensures.items c.requires.room.0;
     }
 
 pub join_seat-requires : goal.join_seat-requires
@@ -42,6 +47,9 @@ loop-seat-preserved g c =
       idle = ap (λ v. v.pending) me ∙ i.idle;
       seats = l.1;
       logs = logs_last c.loop-seat.seats.items c.pop.new.self.items s c.loop-seat.root.me.0 c.join_seat.new.seat.me.0 me c.in-Some.ensures.items ∙ i.logs;
+      count = omega (arith, i.count, c.in-Some.ensures.len, c.push_reserved.ensures.len);
+      room = omega (arith, i.room, c.push_reserved.ensures.capacity);
+      lists = ap (λ l. c.remove-root.result.receipts.list ∷ l) (lists_last c.loop-seat.seats.items c.pop.new.self.items s c.loop-seat.lists.items c.push_reserved.new.self.items c.into_vec.result c.in-Some.ensures.items c.push_reserved.ensures.items c.into_vec.ensures) ∙ i.lists;
     }
 
 pub loop-seat-smaller : goal.loop-seat-smaller
@@ -49,9 +57,12 @@ loop-seat-smaller g c = omega (arith, c.in-Some.ensures.len, c.pop.new.self.ok.0
 
 pub returns : goal.returns
 returns g c =
-    let i = c.loop-seat.invariant in let none = c.in_default.ensures.cases.0 in let root = c.loop-seat.root.me.0 in let left = c.loop-seat.seats in
+    let i = c.loop-seat.invariant in let none = c.in_default.ensures.cases.0 in let root = c.loop-seat.root.me.0 in let left = c.loop-seat.seats in let moved = c.loop-seat.lists.items in
     record {
       of = (i.of, i.live);
       view = (i.first, i.joined ∙ ap (λ (n : ℕ). n + 1) none, i.idle);
       logs = subst (λ (seats : List _). root.log ∷ (logs_of seats ++ root.logs) ≡ logs_of c.args.seats.items) (no_length left.items (sym left.ok.0 ∙ none)) i.logs;
+      lists = ap (λ l. map (λ v. vec_items v) l) c.reverse.ensures.items
+          ∙ (moved_more moved c.push_reserved-2.new.self.items c.into_vec-2.result c.push_reserved-2.ensures.items ∙ (ap (λ l. l ∷ moved_out moved) c.into_vec-2.ensures
+          ∙ subst (λ (seats : List _). c.remove-root.result.receipts.list ∷ (lists_of seats ++ moved_out moved) ≡ lists_of c.args.seats.items) (no_length left.items (sym left.ok.0 ∙ none)) i.lists));
     }

@@ -1,6 +1,9 @@
-use Rattle.std.proofs.Common.{◌≡◌, ◌+◌, Some, ◌∷◌, ◌++◌, vec_len}
+use Rattle.std.proofs.Common.{◌≡◌, ◌+◌, ◌≤◌, Some, ◌∷◌, ◌++◌, vec_len}
+use Rattle.std.specs.Prelude.{vec_capacity}
 use Rattle.sci_core.specs.declared.pending.Pending.TheVariants.{Idle}
+use Rattle.sci_fine.specs.Kept.{lists_of}
 use Rattle.sci_fine.specs.Seats.{AreIdleFrom, logs_of}
+use Rattle.sci_fine.proofs.KeptAll.{moved_out}
 use Rattle.sci_fine.proofs.line.FineLine.join_all.Given as goal
 
 abbrev pub invariant-loop-seat : goal.invariant-loop-seat
@@ -12,6 +15,9 @@ invariant-loop-seat g l = record {
   idle : l.root.me.0.pending ≡ Idle;
   seats : AreIdleFrom l.self 1 l.seats.items;
   logs : l.root.me.0.log ∷ (logs_of l.seats.items ++ l.root.me.0.logs) ≡ logs_of l.fn.seats.items;
+  count : vec_len l.lists + (vec_len l.seats + 1) ≡ l.self.terms.nodes;
+  room : l.self.terms.nodes ≤ vec_capacity l.lists;
+  lists : l.first.list ∷ (lists_of l.seats.items ++ moved_out l.lists.items) ≡ lists_of l.fn.seats.items;
 }
 
 abbrev pub decreases-loop-seat : goal.decreases-loop-seat

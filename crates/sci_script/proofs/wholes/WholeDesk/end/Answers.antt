@@ -1,4 +1,4 @@
-use Rattle.std.proofs.Common.{◌≡◌, ◌∙◌, ◌+◌, ◌*◌, ◌<◌, ◌≤◌, ℕ, suc, Bool, false, List, Option, length, get_or, set, refl, sym, ap, subst, arith}
+use Rattle.std.proofs.Common.{◌≡◌, ◌∙◌, ◌+◌, ◌*◌, ◌<◌, ◌≤◌, ℕ, suc, Bool, false, List, Option, None, is_some, length, get_or, set, refl, sym, ap, subst, arith}
 use Rattle.std.proofs.lemmas.List.{length-set}
 use Rattle.sci_ops.specs.declared.answers.Answer.{Answer}
 use Rattle.sci_ops.proofs.Resting.Ends.{one_more_part}
@@ -7,7 +7,7 @@ use Rattle.sci_script.specs.declared.commands.Size.{Size}
 use Rattle.sci_script.specs.Resting.{EndsCalls, EndsIfOpen}
 use Rattle.sci_script.specs.Shared.{Shared, shared_is_open}
 use Rattle.sci_script.specs.Wholes.{shared_of}
-use Rattle.sci_script.proofs.Ended.{ends_more, closed_more}
+use Rattle.sci_script.proofs.Ended.{answered_more, ends_more, closed_more}
 use Rattle.sci_script.proofs.wholes.WholeDesk.end.Goals as goal
 
 pub loop-number-init : goal.loop-number-init
@@ -16,6 +16,8 @@ loop-number-init g c = record {
   count = refl;
   rest = c.rest-desk.ensures.rest;
   ends = (0, omega arith, (refl, refl));
+  answered = λ i lt. absurd (omega (arith, lt));
+  left = λ i le. refl;
   closed = λ i lt. absurd (omega (arith, lt));
   bound = omega arith;
 }
@@ -61,6 +63,9 @@ loop-number-preserved g c =
         omega (arith, i.ends.1, c.ended_if_open-answer.ensures.ends.1),
         subst (λ (p : ℕ). EndsCalls (k + 1) first (so_far + took) (set answers p a) t) (sym place) (subst (λ (m : ℕ). EndsCalls m first (so_far + took) (set answers k a) t) next more),
       );
+      answered = subst (λ (p : ℕ). (l : ℕ) → l < k + 1 → is_some (get_or (set answers p a) l None) ≡ shared_is_open first l) (sym place)
+          (answered_more k first mid answers a room i.answered (i.left k (omega arith)) (subst (λ (j : ℕ). is_some a ≡ shared_is_open mid j) node c.ended_if_open-answer.ensures.answered));
+      left = λ l le. c.ended_if_open-answer.ensures.others l (λ q. omega (arith, q, le, node)) ∙ i.left l (omega (arith, le));
       closed = closed_more k mid t i.closed (subst (λ (j : ℕ). shared_is_open t j ≡ false) node c.ended_if_open-answer.ensures.closed) (subst (λ (j : ℕ). (l : ℕ) → (l ≡ j → ⊥) → t.nodes l ≡ mid.nodes l) node c.ended_if_open-answer.ensures.others);
       bound = one_more_part c.ended_if_open-answer.new.steps c.loop-number.steps c.rest-desk.new.steps k (2 * (3 * n + 16)) i.bound part;
     }
@@ -76,6 +81,7 @@ returns g c =
     let mid = shared_of c.rest-desk.result in
     let made = subst (λ (x : ℕ). c.loop-number.steps ≤ c.rest-desk.new.steps + x * (2 * (3 * c.rest-desk.result.size.nodes + 16))) all i.bound in
     let ended : c.loop-number.steps ≤ c.rest-desk.new.steps + n * (2 * (3 * n + 16)) = subst (λ (x : ℕ). c.loop-number.steps ≤ c.rest-desk.new.steps + n * (2 * (3 * x + 16))) nodes made in
+    let same_nodes : (node : ℕ) → mid.nodes node ≡ (shared_of c.args.self).nodes node = c.rest-desk.ensures.rested.2.nodes in
     let rested : c.rest-desk.new.steps ≤ c.args.steps.now + c.args.self.size.lines * (n * n + 9 * n) = c.rest-desk.ensures.bound in
     record {
       ends = (
@@ -89,6 +95,7 @@ returns g c =
       );
       bound = omega (arith, ended, rested);
       rest = i.rest;
+      answered = λ node lt. i.answered node (omega (arith, lt, all)) ∙ ap (λ (x : NodeState). is_some x.call) (same_nodes node);
       closed = λ node lt. i.closed node (omega (arith, lt, all));
       count = i.count;
       size = i.size ∙ sized;

@@ -12,7 +12,7 @@ abbrev pub invariant-turns : goal.invariant-turns
 invariant-turns g l = record {
   size : l.self.size ≡ l.initial.self.size;
   turns : (k : ℕ) × (l.steps ≡ l.initial.steps + k) × Repeats shared_does (Turned l.node Turn.Moved) k (shared_of l.initial.self) (shared_of l.self);
-  stands : Stands l.node (shared_of l.self) ((shared_of l.self).nodes l.node).call;
+  stands : Stands (λ line. Unit {0}) l.node (shared_of l.self) ((shared_of l.self).nodes l.node).call;
   cost : l.steps + left l.node (shared_of l.self) ((shared_of l.self).nodes l.node).call ≤ l.initial.steps + 2 * (3 * l.initial.self.size.nodes + 16);
   others : (i : ℕ) → (i ≡ l.node → ⊥) → (shared_of l.self).nodes i ≡ (shared_of l.initial.self).nodes i;
 }

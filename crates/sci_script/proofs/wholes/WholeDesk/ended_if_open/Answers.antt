@@ -14,6 +14,7 @@ returns-then-not-open g c =
       ends = (0, omega arith, subst (λ (b : Bool). EndsIfOpen b c.args.node s 0 None s) (sym closed) (refl, refl, refl));
       bound = omega arith;
       rest = c.requires.rest;
+      answered = sym closed;
       closed = closed;
       others = λ i d. refl;
       size = refl;
@@ -30,6 +31,7 @@ returns g c =
       );
       bound = c.ended.ensures.bound;
       rest = c.ended.ensures.rest;
+      answered = c.if-not-open.ensures;
       closed = c.ended.ensures.closed;
       others = c.ended.ensures.others;
       size = c.ended.ensures.size;

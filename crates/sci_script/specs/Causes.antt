@@ -1,0 +1,39 @@
+-- Which refusal a reason is one of. This project's profile.
+use Rattle.std.specs.Prelude.{◌≡◌, ℕ, Option, Some, None, Result, Ok, Err}
+use Rattle.sci_script.specs.declared.commands.Command.{Command}
+use Rattle.sci_script.specs.declared.commands.Command.TheVariants.{Begin, Turn, Done}
+use Rattle.sci_script.specs.declared.reasons.Reason.{Reason}
+use Rattle.sci_script.specs.declared.reasons.Reason.TheVariants.{BadByte, TooLong, Unknown, Early, Late, Words, Number, CallOpen, NoCall, WaitsFor, Held, Unended}
+use Rattle.sci_script.specs.declared.refusals.ScriptRefusal.{ScriptRefusal}
+use Rattle.sci_script.specs.declared.refusals.ScriptRefusal.TheVariants.{BadCommand, BadNumber, NotDone}
+
+-- of the command on this line
+abbrev pub refused_for : ℕ → Reason → ScriptRefusal
+refused_for line BadByte = BadCommand line
+refused_for line TooLong = BadCommand line
+refused_for line Unknown = BadCommand line
+refused_for line Early = BadCommand line
+refused_for line Late = BadCommand line
+refused_for line (Words wanted found) = BadCommand line
+refused_for line (Number word low high) = BadNumber line
+refused_for line (CallOpen node) = BadCommand line
+refused_for line (NoCall node) = BadCommand line
+refused_for line (WaitsFor node whom) = NotDone line
+refused_for line (Held node) = NotDone line
+refused_for line (Unended node) = NotDone line
+
+-- a refusal has a reason, which is one of it
+abbrev pub IsRefusedFor : ScriptRefusal → Option Reason → Type 0
+IsRefusedFor e why = (line : ℕ) × (reason : Reason) × (why ≡ Some reason) × (e ≡ refused_for line reason)
+
+-- what is refused has one, and what isn't has none
+abbrev pub IsReasonOf : {X : Type 0} → Result X ScriptRefusal → Option Reason → Type 0
+IsReasonOf (Ok x) why = why ≡ None
+IsReasonOf (Err e) why = IsRefusedFor e why
+
+-- so has that of a call, of a turn and of `done`
+abbrev pub HasReason : Command → ScriptRefusal → Option Reason → Type 0
+HasReason (Begin node line request) e why = IsRefusedFor e why
+HasReason (Turn node) e why = IsRefusedFor e why
+HasReason (Done node) e why = IsRefusedFor e why
+HasReason command e why = why ≡ None
