@@ -106,7 +106,8 @@ fn all_add<R: Threads + Wait + Sync>(
     requires { All (λ s. IsSeatOf line.now s) seats.old }
     ensures { All (λ s. IsSeatOf line.now s) seats.new }
 {
-    thread::for_each_mut(rt, seats, 4, &|_, seat| add_all(rt, line, seat));
+    let threads = usize::from(NODES);
+    thread::for_each_mut(rt, seats, threads, &|_, seat| add_all(rt, line, seat));
 }
 
 /// Whether no node is at work.
