@@ -60,7 +60,7 @@ impl Node {
         requires node { (B.way bank.old).node ≡ self.old.id }
         requires lines { (B.way bank.old).lines ≡ self.old.lines }
         requires fits { StoresFitting (B.Keep.fits (B.keep bank.old) (line_of request)) (goal_of request) }
-        ensures { HasCalled B.way B.nodes_on B.keep B.Keep.fits B.gives B.at_step self.old request bank.old result bank.new self.new }
+        ensures { HasCalled B.way B.nodes_on B.keep B.Keep.fits B.gives B.readies B.at_step B.told self.old request bank.old result bank.new self.new }
     {
         let victim = match self.admit(&request) {
             Ok(victim) => victim,
@@ -96,7 +96,7 @@ impl Node {
     ) -> Result<Answer, NodeRefusal>
         requires node { (B.way bank.old).node ≡ self.old.id }
         requires lines { (B.way bank.old).lines ≡ self.old.lines }
-        ensures { HasCalled B.way B.nodes_on B.keep B.Keep.fits B.gives B.at_step self.old (request.Request.Load line) bank.old result bank.new self.new }
+        ensures { HasCalled B.way B.nodes_on B.keep B.Keep.fits B.gives B.readies B.at_step B.told self.old (request.Request.Load line) bank.old result bank.new self.new }
     {
         self.call(rt, bank, Request::Load { line })
     }
@@ -115,7 +115,7 @@ impl Node {
         requires node { (B.way bank.old).node ≡ self.old.id }
         requires lines { (B.way bank.old).lines ≡ self.old.lines }
         requires fits { StoresFitting (B.Keep.fits (B.keep bank.old) line) (goal.Goal.Write (write.Write.Store word value)) }
-        ensures { HasCalled B.way B.nodes_on B.keep B.Keep.fits B.gives B.at_step self.old (request.Request.Store line word value) bank.old result bank.new self.new }
+        ensures { HasCalled B.way B.nodes_on B.keep B.Keep.fits B.gives B.readies B.at_step B.told self.old (request.Request.Store line word value) bank.old result bank.new self.new }
     {
         self.call(rt, bank, Request::Store { line, word, value })
     }
@@ -134,7 +134,7 @@ impl Node {
         requires node { (B.way bank.old).node ≡ self.old.id }
         requires lines { (B.way bank.old).lines ≡ self.old.lines }
         requires fits { StoresFitting (B.Keep.fits (B.keep bank.old) line) (goal.Goal.Write (write.Write.Add word delta)) }
-        ensures { HasCalled B.way B.nodes_on B.keep B.Keep.fits B.gives B.at_step self.old (request.Request.Add line word delta) bank.old result bank.new self.new }
+        ensures { HasCalled B.way B.nodes_on B.keep B.Keep.fits B.gives B.readies B.at_step B.told self.old (request.Request.Add line word delta) bank.old result bank.new self.new }
     {
         self.call(rt, bank, Request::Add { line, word, delta })
     }
@@ -152,7 +152,7 @@ impl Node {
         requires node { (B.way bank.old).node ≡ self.old.id }
         requires lines { (B.way bank.old).lines ≡ self.old.lines }
         requires fits { StoresFitting (B.Keep.fits (B.keep bank.old) line) (goal.Goal.Write (write.Write.Line words)) }
-        ensures { HasCalled B.way B.nodes_on B.keep B.Keep.fits B.gives B.at_step self.old (request.Request.WriteLine line words) bank.old result bank.new self.new }
+        ensures { HasCalled B.way B.nodes_on B.keep B.Keep.fits B.gives B.readies B.at_step B.told self.old (request.Request.WriteLine line words) bank.old result bank.new self.new }
     {
         self.call(rt, bank, Request::WriteLine { line, words })
     }
@@ -168,7 +168,7 @@ impl Node {
     ) -> Result<Answer, NodeRefusal>
         requires node { (B.way bank.old).node ≡ self.old.id }
         requires lines { (B.way bank.old).lines ≡ self.old.lines }
-        ensures { HasCalled B.way B.nodes_on B.keep B.Keep.fits B.gives B.at_step self.old (request.Request.Evict line) bank.old result bank.new self.new }
+        ensures { HasCalled B.way B.nodes_on B.keep B.Keep.fits B.gives B.readies B.at_step B.told self.old (request.Request.Evict line) bank.old result bank.new self.new }
     {
         self.call(rt, bank, Request::Evict { line })
     }

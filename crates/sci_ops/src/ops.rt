@@ -12,6 +12,7 @@ ghost use Rattle.sci_ops.specs.Kept.{KeepsAnswer};
 ghost use Rattle.sci_ops.specs.Plan.{Takes, LoadsAtMost};
 ghost use Rattle.sci_ops.specs.Ranking.{ranking};
 ghost use Rattle.sci_ops.specs.Rest.{due_turn, is_exchange, ComesTo};
+ghost use Rattle.sci_ops.specs.Room.{IsProvided, KeepsTurn};
 ghost use Rattle.sci_ops.specs.Table.{turn_of, begun, after_turn};
 ghost use Rattle.sci_ops.specs.Values.{IsTrueTurn};
 
@@ -115,12 +116,15 @@ impl Op {
     /// Left or Rolled made it so. A turn after the end gives the answer again, and asks nothing of the port. Where the port has room for
     /// one more receipt, and for a load the mark isn't set, what ends a load or a write is its last receipt, behind those that there
     /// were: of a load the line that it saw, of a write the words that it replaced, those that it wrote, and their stamp.
+    /// Where the mark is set for the goal and there is the room that the operation needs (`need_in` in `specs/Room.antt`), each call finds
+    /// room for its receipt, and the operation has what it needs from here on.
     #[inline(always)]
     pub fn turn<P: Port>(&mut self, port: &mut P) -> Turn
         requires fits { StoresFitting (P.Keep.fits (P.keep port.old) (P.way port.old).number) self.old.goal }
         ensures calls { Takes P.gives (turn_of self.old (P.way port.old).node (P.at_step port.old)) port.old result port.new }
         ensures answers { AnswersAt P.gives P.at_step self.old (P.way port.old).node port.old result port.new }
         ensures last { KeepsAnswer self.old result (P.told port.old) (P.told port.new) }
+        ensures kept { IsProvided self.old.goal self.old.answer (P.at_step port.old) (P.told port.old) → KeepsTurn P.gives P.told self.old port.old result port.new (P.at_step port.new) }
         ensures loads { LoadsAtMost 3 (turn_of self.old (P.way port.old).node (P.at_step port.old)) }
         ensures op { self.new ≡ after_turn self.old result }
         ensures same_way { P.way port.new ≡ P.way port.old }
