@@ -22,7 +22,7 @@ use std::sync::Wait;
 #[inline(never)]
 fn leave<B: Bank, R: Wait>(rt: &R, bank: &mut B, victim: LineNo)
     requires line { victim < (B.way bank.old).lines }
-    ensures { HasMadeWay B.way B.nodes_on B.keep B.gives B.at_step (Some victim) bank.old bank.new }
+    ensures { HasMadeWay B.way B.nodes_on B.keep B.gives B.readies B.at_step B.told (Some victim) bank.old bank.new }
 {
     let mut op = Op::evict();
     let backoff = Backoff::new();
@@ -40,7 +40,7 @@ fn leave<B: Bank, R: Wait>(rt: &R, bank: &mut B, victim: LineNo)
 #[inline(always)]
 fn make_way<B: Bank, R: Wait>(rt: &R, bank: &mut B, victim: Option<LineNo>)
     requires line { IsLine (B.way bank.old).lines victim }
-    ensures { HasMadeWay B.way B.nodes_on B.keep B.gives B.at_step victim bank.old bank.new }
+    ensures { HasMadeWay B.way B.nodes_on B.keep B.gives B.readies B.at_step B.told victim bank.old bank.new }
 {
     let Some(victim) = victim else {
         return;
@@ -62,9 +62,11 @@ impl Node {
         requires fits { StoresFitting (B.Keep.fits (B.keep bank.old) (line_of request)) (goal_of request) }
         ensures { HasCalled B.way B.nodes_on B.keep B.Keep.fits B.gives B.readies B.at_step B.told self.old request bank.old result bank.new self.new }
     {
-        let victim = match self.admit(&request) {
-            Ok(victim) => victim,
-            Err(refusal) => return Err(refusal),
+        if let Some(refusal) = self.refusal(&request) {
+            return Err(refusal);
+        }
+        let Ok(victim) = self.enter(bank, &request) else {
+            return Err(NodeRefusal::OutOfMemory);
         };
         make_way(rt, bank, victim);
         let line = request.line();
