@@ -1,5 +1,5 @@
 -- Receipts that stay in their list, and work of which they keep all, one piece after another.
-use Rattle.std.proofs.Common.{◌≡◌, ℕ, ◌+◌, Bool, true, false, cond, Some, None, List, [], ◌∷◌, ◌++◌, refl, sym, ap, subst, ◌∙◌, append-nil}
+use Rattle.std.proofs.Common.{◌≡◌, ℕ, ◌+◌, Bool, true, false, cond, Some, None, List, [], ◌∷◌, ◌++◌, refl, sym, ap, subst, ◌∙◌}
 use Rattle.std.proofs.lemmas.List.{append_assoc}
 use Rattle.sci_core.specs.declared.events.Event.{Event}
 use Rattle.sci_core.specs.declared.lines.Line.{Line}
@@ -12,7 +12,7 @@ use Rattle.sci_port.specs.declared.calls.Call.TheVariants.{MemWas, Own, Stepped,
 use Rattle.sci_port.specs.KeepsAll.{Extends, IsLast, IsReadied, KeepsAll, RoomyChain, as_it_was, before_passed, keeps_call, keeps_none, keeps_ready, readied_on, unpassed, writes_in}
 use Rattle.sci_port.specs.KeepsTo.{is_passed}
 use Rattle.sci_port.specs.Readying.{Readying}
-use Rattle.sci_port.specs.ReceiptList.{Appends, HasRoomFor, ReceiptList, Receives, Replaces, Settles, Writes, last_passed}
+use Rattle.sci_port.specs.ReceiptList.{Appends, ReceiptList, Receives, Replaces, Settles, Writes, last_passed}
 
 -- the writes among two lists
 pub writes_both : (a b : List Receipt) → writes_in (a ++ b) ≡ writes_in a ++ writes_in b
