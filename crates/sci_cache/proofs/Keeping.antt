@@ -8,7 +8,7 @@ use Rattle.sci_port.specs.Banks.{BankWay}
 use Rattle.sci_port.specs.KeepsAll.{Extends, IsReadied, KeepsAll, as_it_was, keeps_none, readied_on, writes_in}
 use Rattle.sci_port.specs.Readying.{ChangesAt, Readies, Readying}
 use Rattle.sci_port.specs.Readying.Readying.{Aimed, Reserved}
-use Rattle.sci_port.specs.ReceiptList.{ReceiptList, replaces}
+use Rattle.sci_port.specs.ReceiptList.{ReceiptList, last_passed}
 use Rattle.sci_port.proofs.KeepsAll.{chain_keeps, extends_none, extends_same, extends_then, keeps_then, readied_keeps}
 use Rattle.sci_ops.specs.declared.answers.Answer.{Answer}
 use Rattle.sci_ops.specs.declared.answers.Turn.{Turn}
@@ -97,8 +97,8 @@ need_by Goal.Evict false room h = h
 
 need_idle : (goal : Goal) (s : ReceiptList) → need_towards goal false ≤ s.room → need_in goal Pending.Idle s ≤ s.room
 need_idle Goal.Load s h = h
-need_idle (Goal.Write write) s h = need_by (Goal.Write write) (replaces s) s.room h
-need_idle Goal.Evict s h = need_by Goal.Evict (replaces s) s.room h
+need_idle (Goal.Write write) s h = need_by (Goal.Write write) (last_passed s.list) s.room h
+need_idle Goal.Evict s h = need_by Goal.Evict (last_passed s.list) s.room h
 
 pub ready_need : (goal : Goal) (p : Pending) (s : ReceiptList) → IsReadyFor goal s → p ≡ Pending.Idle → HasNeed goal p s
 ready_need goal p s h idle = record { mark = h.mark; room = subst (λ (q : Pending). need_in goal q s ≤ s.room) (sym idle) (need_idle goal s h.room) }
@@ -111,7 +111,7 @@ some_room write false room h = omega (arith, h)
 
 write_room : (write : Write) (p : Pending) (s : ReceiptList) → need_in (Goal.Write write) p s ≤ s.room → 0 < s.room
 write_room write (Pending.Holding word line) s h = omega (arith, h)
-write_room write p s h = some_room write (replaces s) s.room h
+write_room write p s h = some_room write (last_passed s.list) s.room h
 
 pub last_receipt : (goal : Goal) (answer : Answer) (p : Pending) (s t : ReceiptList) → HasNeed goal p s → KeepsAnswer (begun goal) (Turn.Done answer) s t → IsLastReceipt goal answer t.list
 last_receipt Goal.Load (Answer.Seen words stamp) p s t h k = record { front = s.list; is = k refl (omega (arith, h.room)) h.mark }
