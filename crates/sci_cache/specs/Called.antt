@@ -1,20 +1,75 @@
 -- What a call of a node that waits for its end has come to. This project's profile.
-use Rattle.std.specs.Prelude.{◌≡◌, ℕ, List, Option, Some, None, Result, IfOk}
+use Rattle.std.specs.Prelude.{◌≡◌, ◌≢◌, ℕ, ◌≤◌, false, nat_eq, if◌then◌else◌, List, [], ◌++◌, Option, Some, None, Result, Ok, Err, IfOk, IfSome}
 use Rattle.sci_core.specs.declared.pending.Pending.{Pending}
+use Rattle.sci_core.specs.declared.receipts.Receipt.{Receipt}
+use Rattle.sci_core.specs.declared.receipts.Receipt.TheVariants.{Read, Wrote}
 use Rattle.sci_port.specs.declared.calls.Call.{Call}
 use Rattle.sci_port.specs.Banks.{BankWay}
+use Rattle.sci_port.specs.KeepsAll.{Extends, IsLast, IsReadied, KeepsAll, writes_in}
+use Rattle.sci_port.specs.Readying.{Readying}
+use Rattle.sci_port.specs.ReceiptList.{ReceiptList}
 use Rattle.sci_ops.specs.declared.answers.Answer.{Answer}
+use Rattle.sci_ops.specs.declared.answers.Turn.{Turn}
+use Rattle.sci_ops.specs.declared.goals.Goal.{Goal}
+use Rattle.sci_ops.specs.Change.{change}
+use Rattle.sci_ops.specs.Room.{adds_towards, is_passing, need_towards}
 use Rattle.sci_cache.specs.declared.calls.OpenCall.{OpenCall}
 use Rattle.sci_cache.specs.declared.refusals.NodeRefusal.{NodeRefusal}
 use Rattle.sci_cache.specs.declared.requests.Request.{Request}
 use Rattle.sci_cache.specs.Requests.{line_of, goal_of}
 use Rattle.sci_cache.specs.Nodes.{NodeState, IsAnswerTo, IsIdleBut, IsSameNode, LeavesIdle, Runs, Waits}
 
--- a request of node n over the bank u has ended so, with the bank v and the node m. It was accepted and took turns, or was
--- refused. The answer is one to it. The request's line is left Idle, and so are the others, where they were. The node and the
--- bank are the same: of the same lines of as many nodes, under the same fact
-pub record HasCalled {U K : Type 0} (way : U → BankWay) (nodes_on : U → ℕ → ℕ) (keep : U → K) (fits : K → ℕ → List ℕ → Type 0) (gives : U → ℕ → Call → U → Type 0) (step : U → ℕ → Pending) (n : NodeState) (request : Request) (u : U) (result : Result Answer NodeRefusal) (v : U) (m : NodeState) : Type 0 where
-  pub waits : Waits gives step n request u result v m
+-- what a request that has ended so adds to the node's writes on a line: on its own line its answer, if it wrote
+abbrev pub adds_on : Request → Result Answer NodeRefusal → ℕ → List Receipt
+adds_on r (Ok answer) line = if nat_eq (line_of r) line then adds_towards (goal_of r) (Turn.Done answer) else []
+adds_on r (Err e) line = []
+
+-- an answer is the last receipt: of a load the line that it saw, of a write the words that it replaced, those that it wrote, their stamp
+abbrev pub IsLastReceipt : Goal → Answer → List Receipt → Type 0
+IsLastReceipt Goal.Load (Answer.Seen words stamp) list = IsLast (Read words stamp) list
+IsLastReceipt (Goal.Write write) (Answer.Wrote old stamp) list = IsLast (Wrote old (change write old) stamp) list
+IsLastReceipt goal answer list = Unit {0}
+
+-- the same receipts and the same mark, with another room
+pub record IsSameButRoom (s t : ReceiptList) : Type 0 where
+  pub list : t.list ≡ s.list
+  pub passing : t.passing ≡ s.passing
+
+-- want of memory changes nothing but room, and another refusal of `begin` nothing
+abbrev pub LeavesReceipts : {U : Type 0} → (U → ℕ → ReceiptList) → Result Answer NodeRefusal → U → U → Type 0
+LeavesReceipts told (Ok answer) u v = Unit {0}
+LeavesReceipts told (Err NodeRefusal.StampsSpent) u v = Unit {0}
+LeavesReceipts told (Err NodeRefusal.OutOfMemory) u v = (line : ℕ) → IsSameButRoom (told u line) (told v line)
+LeavesReceipts told (Err refusal) u v = v ≡ u
+
+-- the mark is set for the goal, and there is room for as many receipts as it needs at most
+pub record IsReadyFor (goal : Goal) (s : ReceiptList) : Type 0 where
+  pub mark : s.passing ≡ is_passing goal
+  pub room : need_towards goal false ≤ s.room
+
+-- a node's work that went on: each call found room for its receipt, none was a write, and what stood in a list stands there
+pub record KeepsOn {U : Type 0} (gives : U → ℕ → Call → U → Type 0) (readies : U → ℕ → Readying → U → Type 0) (told : U → ℕ → ReceiptList) (u v : U) : Type 0 where
+  pub all : KeepsAll gives readies told u v
+  pub writes : (line : ℕ) → writes_in (told v line).list ≡ writes_in (told u line).list
+  pub extends : (line : ℕ) → Extends (told u line).list (told v line).list
+
+-- a request that has ended so found room for the receipt of each of its calls. Of writes it added its own answer alone, an answer is the
+-- last receipt of its line, and what stood in a list stands there
+pub record KeepsRequest {U : Type 0} (gives : U → ℕ → Call → U → Type 0) (readies : U → ℕ → Readying → U → Type 0) (told : U → ℕ → ReceiptList) (request : Request) (u : U) (result : Result Answer NodeRefusal) (v : U) : Type 0 where
+  pub all : KeepsAll gives readies told u v
+  pub writes : (line : ℕ) → writes_in (told v line).list ≡ writes_in (told u line).list ++ adds_on request result line
+  pub last : IfOk result (λ answer. IsLastReceipt (goal_of request) answer (told v (line_of request)).list)
+  pub extends : (line : ℕ) → Extends (told u line).list (told v line).list
+
+-- a request of node n over the bank u has ended so, with the bank v and the node m. Once room for its receipts was reserved, it was
+-- accepted and took turns, or was refused. The answer is one to it. The request's line is left Idle, and so are the others, where they
+-- were. The node and the bank are the same: of the same lines of as many nodes, under the same fact
+pub record HasCalled {U K : Type 0} (way : U → BankWay) (nodes_on : U → ℕ → ℕ) (keep : U → K) (fits : K → ℕ → List ℕ → Type 0) (gives : U → ℕ → Call → U → Type 0) (readies : U → ℕ → Readying → U → Type 0) (step : U → ℕ → Pending) (told : U → ℕ → ReceiptList) (n : NodeState) (request : Request) (u : U) (result : Result Answer NodeRefusal) (v : U) (m : NodeState) : Type 0 where
+  pub ready : U
+  pub readied : IsReadied readies u ready
+  pub waits : Waits gives step n request ready result v m
+  pub refused : LeavesReceipts told result u v
+  pub kept : ((line : ℕ) → step u line ≡ Pending.Idle) → KeepsRequest gives readies told request u result v
   pub content : IfOk result (λ answer. IsAnswerTo (fits (keep u) (line_of request)) (goal_of request) answer)
   pub idle : LeavesIdle result (step v (line_of request))
   pub rest : IsIdleBut n.call (step u) → IsIdleBut m.call (step v)
@@ -24,10 +79,12 @@ pub record HasCalled {U K : Type 0} (way : U → BankWay) (nodes_on : U → ℕ 
   pub same_fact : keep v ≡ keep u
 
 -- from bank u to v the node has left the list of the line that a request put out, if there is one: in turns of each call of it
--- that waits for that
-pub record HasMadeWay {U K : Type 0} (way : U → BankWay) (nodes_on : U → ℕ → ℕ) (keep : U → K) (gives : U → ℕ → Call → U → Type 0) (step : U → ℕ → Pending) (victim : Option ℕ) (u v : U) : Type 0 where
+-- that waits for that. The receipts on the other lines stay
+pub record HasMadeWay {U K : Type 0} (way : U → BankWay) (nodes_on : U → ℕ → ℕ) (keep : U → K) (gives : U → ℕ → Call → U → Type 0) (readies : U → ℕ → Readying → U → Type 0) (step : U → ℕ → Pending) (told : U → ℕ → ReceiptList) (victim : Option ℕ) (u v : U) : Type 0 where
   pub runs : (n : NodeState) (c : OpenCall) → n.id ≡ (way u).node → n.call ≡ Some c → c.victim ≡ victim → Runs gives step n u (record n { call = Some record c { victim = None } }) v
   pub rest : ((line : ℕ) → step u line ≡ Pending.Idle) → (line : ℕ) → step v line ≡ Pending.Idle
+  pub kept : ((line : ℕ) → step u line ≡ Pending.Idle) → IfSome victim (λ line. IsReadyFor Goal.Evict (told u line)) → KeepsOn gives readies told u v
+  pub others : (m : ℕ) → IfSome victim (λ line. m ≢ line) → told v m ≡ told u m
   pub same_way : way v ≡ way u
   pub same_nodes : (line : ℕ) → nodes_on v line ≡ nodes_on u line
   pub same_fact : keep v ≡ keep u

@@ -2,6 +2,7 @@ pub mod Alone
 pub mod Answers
 pub mod Change
 pub mod Kept
+pub mod Room
 pub mod Operation
 pub mod Plan
 pub mod Ranking

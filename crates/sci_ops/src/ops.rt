@@ -12,6 +12,7 @@ ghost use Rattle.sci_ops.specs.Kept.{KeepsAnswer};
 ghost use Rattle.sci_ops.specs.Plan.{Takes, LoadsAtMost};
 ghost use Rattle.sci_ops.specs.Ranking.{ranking};
 ghost use Rattle.sci_ops.specs.Rest.{due_turn, is_exchange, ComesTo};
+ghost use Rattle.sci_ops.specs.Room.{IsProvided, KeepsTurn, need_in, need_of};
 ghost use Rattle.sci_ops.specs.Table.{turn_of, begun, after_turn};
 ghost use Rattle.sci_ops.specs.Values.{IsTrueTurn};
 
@@ -19,7 +20,7 @@ use crate::answers::{Answer, Turn};
 use crate::goals::{Goal, WordNo, Write};
 use crate::refusals::BadWord;
 use crate::turns::turn_towards;
-use sci_core::{Keeps, Whole};
+use sci_core::{Keeps, Pending, Whole};
 use sci_port::{Port, Receipts, Solo};
 use sci_words::NodeId;
 use std::marker::Model;
@@ -108,6 +109,22 @@ impl Op {
         self.answer
     }
 
+    /// For how many receipts there has to be room until its end, with the mark set for its goal. A load: one. A write two and an
+    /// eviction one, or one less where the last receipt is a Passed, whose place the next settle takes. Where the node still holds the
+    /// line, which it reads first, a write three and an eviction two. After the end none.
+    pub fn need<P: Port>(&self, port: &P) -> usize
+        ensures { result ≡ need_of self.now (P.at_step port.now) (P.told port.now) }
+    {
+        if self.answer.is_some() {
+            return 0;
+        }
+        match self.goal {
+            Goal::Load => 1,
+            Goal::Write(_) => need_on_way(port) + 1,
+            Goal::Evict => need_on_way(port),
+        }
+    }
+
     /// One turn, by the table of turns: at most three loads and then at most one exchange, which the pending step allows. An
     /// answer is what the last of these calls gave. Seen: a load; Settle or Unhold was done, and answered this line. Wrote: a
     /// write; from Purging of a line with these words and a stamp one less, what the write makes of them was written. Spent: a
@@ -115,12 +132,15 @@ impl Op {
     /// Left or Rolled made it so. A turn after the end gives the answer again, and asks nothing of the port. Where the port has room for
     /// one more receipt, and for a load the mark isn't set, what ends a load or a write is its last receipt, behind those that there
     /// were: of a load the line that it saw, of a write the words that it replaced, those that it wrote, and their stamp.
+    /// Where the mark is set for the goal and there is the room that the operation needs (`need_in` in `specs/Room.antt`), each call finds
+    /// room for its receipt, and the operation has what it needs from here on.
     #[inline(always)]
     pub fn turn<P: Port>(&mut self, port: &mut P) -> Turn
         requires fits { StoresFitting (P.Keep.fits (P.keep port.old) (P.way port.old).number) self.old.goal }
         ensures calls { Takes P.gives (turn_of self.old (P.way port.old).node (P.at_step port.old)) port.old result port.new }
         ensures answers { AnswersAt P.gives P.at_step self.old (P.way port.old).node port.old result port.new }
         ensures last { KeepsAnswer self.old result (P.told port.old) (P.told port.new) }
+        ensures kept { IsProvided self.old.goal self.old.answer (P.at_step port.old) (P.told port.old) → KeepsTurn P.gives P.told self.old port.old result port.new (P.at_step port.new) }
         ensures loads { LoadsAtMost 3 (turn_of self.old (P.way port.old).node (P.at_step port.old)) }
         ensures op { self.new ≡ after_turn self.old result }
         ensures same_way { P.way port.new ≡ P.way port.old }
@@ -160,5 +180,16 @@ impl Op {
     {
         let mut receipts = Receipts::new(whole.allocator());
         self.turn(&mut Solo::new(whole, &mut receipts, node))
+    }
+}
+
+/// For how many receipts there has to be room on the way to a write or an exit.
+fn need_on_way<P: Port>(port: &P) -> usize
+    ensures value { result ≡ need_in Goal.Evict (P.at_step port.now) (P.told port.now) }
+    ensures few { result ≤ 2 }
+{
+    match port.pending() {
+        Pending::Holding { .. } => 2,
+        _ => usize::from(!port.last_passed()),
     }
 }

@@ -1,0 +1,48 @@
+-- A node's work of which its receipts keep all. This project's profile.
+use Rattle.std.specs.Prelude.{◌≡◌, ℕ, cond, List, [], ◌∷◌, ◌++◌}
+use Rattle.sci_core.specs.declared.receipts.Receipt.{Receipt}
+use Rattle.sci_core.specs.Legal.{is_write}
+use Rattle.sci_port.specs.declared.calls.Call.{Call}
+use Rattle.sci_port.specs.KeepsTo.{is_passed}
+use Rattle.sci_port.specs.Readying.{Readying}
+use Rattle.sci_port.specs.ReceiptList.{ReceiptList, HasRoomFor}
+
+-- the writes among receipts
+abbrev pub writes_in : List Receipt → List Receipt
+writes_in [] = []
+writes_in (r ∷ rs) = cond (is_write r) (r ∷ writes_in rs) (writes_in rs)
+
+-- receipts without what is only passed at their end
+abbrev pub before_passed : Receipt → List Receipt → List Receipt
+before_passed r [] = cond (is_passed r) [] (r ∷ [])
+before_passed r (s ∷ rs) = r ∷ s ∷ rs
+
+abbrev pub unpassed : List Receipt → List Receipt
+unpassed [] = []
+unpassed (r ∷ rs) = before_passed r (unpassed rs)
+
+-- what stood in a list stands in front in a later one, but for the Passed at its end, which another may have replaced
+pub record Extends (before after : List Receipt) : Type 0 where
+  pub more : List Receipt
+  pub is : after ≡ unpassed before ++ more
+
+-- the receipt is the last
+pub record IsLast (receipt : Receipt) (list : List Receipt) : Type 0 where
+  pub front : List Receipt
+  pub is : list ≡ front ++ receipt ∷ []
+
+-- calls of a port, one after another, each of which finds room for its receipt
+abbrev pub RoomyChain : {S : Type 0} → (S → Call → S → Type 0) → (S → ReceiptList) → S → List Call → S → Type 0
+RoomyChain gives told s [] t = t ≡ s
+RoomyChain {S} gives told s (c ∷ cs) t = (mid : S) × gives s c mid × HasRoomFor c (told s) × RoomyChain gives told mid cs t
+
+-- from one bank to another by calls that ready the receipts of lines, and no others
+pub data IsReadied {U : Type 0} (readies : U → ℕ → Readying → U → Type 0) : U → U → Type 0 where
+  as_it_was : {u : U} → IsReadied readies u u
+  readied_on : {u w v : U} → (line : ℕ) → (r : Readying) → readies u line r w → IsReadied readies w v → IsReadied readies u v
+
+-- from one bank to another by calls on lines, each of which finds room for its receipt, and by such as ready the receipts
+pub data KeepsAll {U : Type 0} (gives : U → ℕ → Call → U → Type 0) (readies : U → ℕ → Readying → U → Type 0) (told : U → ℕ → ReceiptList) : U → U → Type 0 where
+  keeps_none : {u : U} → KeepsAll gives readies told u u
+  keeps_call : {u w v : U} → (line : ℕ) → (call : Call) → gives u line call w → HasRoomFor call (told u line) → KeepsAll gives readies told w v → KeepsAll gives readies told u v
+  keeps_ready : {u w v : U} → (line : ℕ) → (r : Readying) → readies u line r w → KeepsAll gives readies told w v → KeepsAll gives readies told u v
