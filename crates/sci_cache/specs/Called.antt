@@ -12,12 +12,19 @@ use Rattle.sci_ops.specs.declared.answers.Answer.{Answer}
 use Rattle.sci_ops.specs.declared.answers.Turn.{Turn}
 use Rattle.sci_ops.specs.declared.goals.Goal.{Goal}
 use Rattle.sci_ops.specs.Change.{change}
-use Rattle.sci_ops.specs.Room.{adds_towards, is_passing, need_towards}
+use Rattle.sci_ops.specs.Room.{IsProvided, KeepsTurn, adds_towards, is_passing, need_towards}
 use Rattle.sci_cache.specs.declared.calls.OpenCall.{OpenCall}
 use Rattle.sci_cache.specs.declared.refusals.NodeRefusal.{NodeRefusal}
 use Rattle.sci_cache.specs.declared.requests.Request.{Request}
 use Rattle.sci_cache.specs.Requests.{line_of, goal_of}
-use Rattle.sci_cache.specs.Nodes.{NodeState, IsAnswerTo, IsIdleBut, IsSameNode, LeavesIdle, Runs, Waits}
+use Rattle.sci_cache.specs.Nodes.{NodeState, IsAnswerTo, IsIdleBut, IsSameNode, LeavesIdle, Runs, Waits, line_by, op_by, shown_by}
+
+-- a turn of an open call: where what is at work has what it needs of its line's receipts, the turn keeps them
+pub record KeepsTurnOf {U : Type 0} (gives : U → ℕ → Call → U → Type 0) (step : U → ℕ → Pending) (told : U → ℕ → ReceiptList) (c : OpenCall) (u : U) (shown : Turn) (v : U) : Type 0 where
+  pub turn : Turn
+  pub shows : shown ≡ shown_by c.victim turn
+  pub kept : IsProvided (op_by c.victim c.op).goal (op_by c.victim c.op).answer (step u (line_by c.victim c.line)) (told u (line_by c.victim c.line))
+      → KeepsTurn (λ s call t. gives s (line_by c.victim c.line) call t) (λ s. told s (line_by c.victim c.line)) (op_by c.victim c.op) u turn v (step v (line_by c.victim c.line))
 
 -- what a request that has ended so adds to the node's writes on a line: on its own line its answer, if it wrote
 abbrev pub adds_on : Request → Result Answer NodeRefusal → ℕ → List Receipt

@@ -3,7 +3,7 @@ ghost use Rattle.std.specs.Prelude.{◌≡◌, ◌≢◌, ◌<◌, ◌≤◌, �
 ghost use Rattle.sci_port.specs.KeepsAll.{IsReadied};
 ghost use Rattle.sci_ops.specs.Change.{StoresFitting};
 ghost use Rattle.sci_ops.specs.declared.goals.Goal.{Goal};
-ghost use Rattle.sci_cache.specs.Called.{IsReadyFor, IsSameButRoom};
+ghost use Rattle.sci_cache.specs.Called.{IsReadyFor, IsSameButRoom, KeepsTurnOf};
 ghost use Rattle.sci_cache.specs.declared.refusals.NodeRefusal.{NodeRefusal};
 ghost use Rattle.sci_cache.specs.Requests.{line_of, goal_of, is_evict};
 ghost use Rattle.sci_cache.specs.Residents.{is_resident};
@@ -224,8 +224,8 @@ impl Node {
     }
 
     /// One turn of the open call: of the victim's eviction, as long as there is one, whose end is Moved, and then of the
-    /// request's operation. At the end of an eviction its line leaves the table. Refusal 15 where no call is open, and only
-    /// there.
+    /// request's operation. At the end of an eviction its line leaves the table. Where the line at work has the mark and the room
+    /// that it needs, the turn keeps its receipts, as `Op::turn`. Refusal 15 where no call is open, and only there.
     #[inline(always)]
     pub fn turn<B: Bank>(&mut self, bank: &mut B) -> Result<Turn, NodeRefusal>
         requires node { (B.way bank.old).node ≡ self.old.id }
@@ -241,6 +241,8 @@ impl Node {
         ensures same_nodes { (m : ℕ) → B.nodes_on bank.new m ≡ B.nodes_on bank.old m }
         ensures same_fact { B.keep bank.new ≡ B.keep bank.old }
         ensures others { IfSome self.old.call (λ c. (m : ℕ) → m ≢ line_by c.victim c.line → B.at_step bank.new m ≡ B.at_step bank.old m) }
+        ensures kept { IfSome self.old.call (λ c. IfOk result (λ shown. KeepsTurnOf B.gives B.at_step B.told c bank.old shown bank.new)) }
+        ensures other_receipts { IfSome self.old.call (λ c. (m : ℕ) → m ≢ line_by c.victim c.line → B.told bank.new m ≡ B.told bank.old m) }
     {
         let Some(call) = &self.call else {
             return Err(NodeRefusal::NoCall);

@@ -5,6 +5,7 @@ ghost use Rattle.sci_port.specs.Banks.{AreLinesOf};
 
 mod growths;
 mod memory;
+mod receipts;
 mod waiting;
 
 use crate::checks::{same, same_at};

@@ -3,11 +3,12 @@
 //! saying which call answered it.
 ghost use Rattle.std.specs.Prelude.{◌≡◌, IfOk, length};
 
+use super::receipts::{have, of_three};
 use super::waiting::{CALLS, called, ends, seated};
-use super::{Lent, ended, opened};
+use super::{Lent, ended, given_back, opened};
 use crate::checks::{same, same_at};
 use sci_cache::{Node, NodeRefusal, Request};
-use sci_core::{AnyWords, Line, OpenRefusal};
+use sci_core::{AnyWords, Line, OpenRefusal, Receipt};
 use sci_ops::Answer;
 use sci_port::SoloBank;
 use sci_words::NodeId;
@@ -16,15 +17,15 @@ use std::process::Abort;
 use std::sync::Wait;
 use std::test::Fail;
 
-// A node of three lines, which may name two.
-fn made(rt: &impl Abort, alloc: Global, zero: NodeId) -> Result<Node, Fail>
+// A node of three lines, which may name so many.
+fn made(rt: &impl Abort, alloc: Global, zero: NodeId, capacity: u16) -> Result<Node, Fail>
     ensures { IfOk result (λ node. node.lines ≡ 3) }
 {
-    match Node::new(alloc, zero, 3, 2) {
+    match Node::new(alloc, zero, 3, capacity) {
         Ok(node) => Ok(node),
         Err(refusal) => {
             same(rt, &refusal, &NodeRefusal::OutOfMemory);
-            let again = Node::new(alloc, zero, 3, 2)?;
+            let again = Node::new(alloc, zero, 3, capacity)?;
             super::lists(rt, alloc, &again, &[])?;
             Err(Fail::new("new answered 7"))
         }
@@ -111,7 +112,38 @@ fn waits<R: Abort + Wait>(
     Err(told(request))
 }
 
-// The calls that wait, each on a line that was left. Leaving takes no memory.
+// The same of a node of three lines that names this one, over lines with these receipts: the lines after it.
+fn waits_on<R: Abort + Wait>(
+    rt: &R,
+    alloc: Global,
+    node: &mut Node,
+    lent: Lent,
+    call: (Request, Answer),
+    stands: (u16, [&[Receipt]; 3]),
+) -> Result<Lent, Fail>
+    requires { node.old.lines ≡ 3 }
+    ensures { node.new.lines ≡ 3 }
+{
+    let (request, want) = call;
+    let (named, receipts) = stands;
+    let mut bank = of_three(lent, node)?;
+    match called(rt, node, &mut bank, request) {
+        Ok(answer) => {
+            same_at(rt, &request, &answer, &want);
+            return Ok(given_back(bank));
+        }
+        Err(refusal) => same_at(rt, &request, &refusal, &NodeRefusal::OutOfMemory),
+    }
+    assert!(rt; !node.open());
+    super::lists(rt, alloc, node, &[named])?;
+    let lent = given_back(bank);
+    have(rt, &lent, receipts);
+    let mut bank = of_three(lent, node)?;
+    ends(rt, node, &mut bank, request, Ok(want));
+    Err(told(request))
+}
+
+// The calls that wait, each on a line that was left. There is room for what leaving might keep.
 fn waits_each<R: Abort + Wait>(rt: &R, alloc: Global) -> Result<(), Fail> {
     let (mut node, mut bank) = seated(alloc, Line::ZERO)?;
     let evict = Request::Evict { line: 0 };
@@ -122,12 +154,35 @@ fn waits_each<R: Abort + Wait>(rt: &R, alloc: Global) -> Result<(), Fail> {
     Ok(())
 }
 
-/// Growths: 2 of new, 11 of open, 6 of begin, 1 of resident, 5 of open, 2 of new, 5 of store, 1 of load, 1 of add, 1 of write_line.
+// What the load leaves.
+const SAW: Receipt = Receipt::Read {
+    words: [0; 8],
+    stamp: 0,
+};
+
+/// Growths: 11 of open, 2 of new, 5 of begin, 2 of load, 1 of evict.
+#[test]
+fn refused_receipts(rt: HostRuntime) -> Result<(), Fail> {
+    let alloc = rt.alloc();
+    let zero = NodeId::new(0).ok_or("no node")?;
+    let lent = lent(&rt, alloc)?;
+    let mut node = made(&rt, alloc, zero, 1)?;
+    begins(&rt, alloc, &mut node, 0, &[])?;
+    let (_, _, lent) = ended(&mut node, lent).ok_or("no end")?;
+    // Line 1, and line 0, which it puts out.
+    let load = (Request::Load { line: 1 }, super::ZEROS);
+    let lent = waits_on(&rt, alloc, &mut node, lent, load, (0, [&[], &[], &[]]))?;
+    let evict = (Request::Evict { line: 2 }, Answer::Out);
+    waits_on(&rt, alloc, &mut node, lent, evict, (1, [&[], &[SAW], &[]]))?;
+    Ok(())
+}
+
+/// Growths: 2 of new, 11 of open, 6 of begin, 1 of resident, 5 of open, 2 of new, 6 of store, 1 of load, 2 of add, 1 of write_line.
 #[test]
 fn refused_growths(rt: HostRuntime) -> Result<(), Fail> {
     let alloc = rt.alloc();
     let zero = NodeId::new(0).ok_or("no node")?;
-    let mut node = made(&rt, alloc, zero)?;
+    let mut node = made(&rt, alloc, zero, 2)?;
     let wholes = lent(&rt, alloc)?;
     begins(&rt, alloc, &mut node, 2, &[])?;
     ended(&mut node, wholes).ok_or("no end")?;

@@ -123,10 +123,11 @@ pub(super) fn called<R: Wait>(
     bank: &mut SoloBank<AnyWords>,
     request: Request,
 ) -> Result<Answer, NodeRefusal>
-    requires node { (node.old.id ≡ bank.old.node) × (node.old.lines ≡ 1) }
-    requires bank { length bank.old.wholes.items ≡ 1 }
-    ensures node { (node.new.id ≡ bank.new.node) × (node.new.lines ≡ 1) }
-    ensures bank { length bank.new.wholes.items ≡ 1 }
+    requires node { node.old.id ≡ bank.old.node }
+    requires lines { length bank.old.wholes.items ≡ node.old.lines }
+    ensures node { node.new.id ≡ bank.new.node }
+    ensures lines { length bank.new.wholes.items ≡ node.new.lines }
+    ensures same { node.new.lines ≡ node.old.lines }
 {
     match request {
         Request::Load { line } => node.load(rt, bank, line),
@@ -145,10 +146,11 @@ pub(super) fn ends<R: Abort + Wait>(
     request: Request,
     want: Result<Answer, NodeRefusal>,
 )
-    requires node { (node.old.id ≡ bank.old.node) × (node.old.lines ≡ 1) }
-    requires bank { length bank.old.wholes.items ≡ 1 }
-    ensures node { (node.new.id ≡ bank.new.node) × (node.new.lines ≡ 1) }
-    ensures bank { length bank.new.wholes.items ≡ 1 }
+    requires node { node.old.id ≡ bank.old.node }
+    requires lines { length bank.old.wholes.items ≡ node.old.lines }
+    ensures node { node.new.id ≡ bank.new.node }
+    ensures lines { length bank.new.wholes.items ≡ node.new.lines }
+    ensures same { node.new.lines ≡ node.old.lines }
 {
     same_at(rt, &request, &called(rt, node, bank, request), &want);
 }
