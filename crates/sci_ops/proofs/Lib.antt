@@ -1,6 +1,9 @@
 pub mod Answering
 pub mod Less
 pub mod Noted
+pub mod Unheld
+pub mod Spending
+pub mod Providing
 pub mod Carried
 pub mod Took
 pub mod Short

@@ -5,7 +5,7 @@ use Rattle.sci_core.specs.declared.receipts.Receipt.{Receipt}
 use Rattle.sci_core.specs.declared.receipts.Receipt.TheVariants.{Wrote}
 use Rattle.sci_port.specs.declared.calls.Call.{Call}
 use Rattle.sci_port.specs.KeepsAll.{Extends, RoomyChain, writes_in}
-use Rattle.sci_port.specs.ReceiptList.{ReceiptList, replaces}
+use Rattle.sci_port.specs.ReceiptList.{ReceiptList, last_passed}
 use Rattle.sci_ops.specs.declared.goals.Goal.{Goal}
 use Rattle.sci_ops.specs.declared.answers.Answer.{Answer}
 use Rattle.sci_ops.specs.declared.answers.Turn.{Turn}
@@ -18,9 +18,10 @@ abbrev pub is_passing : Goal → Bool
 is_passing Goal.Load = false
 is_passing goal = true
 
--- for how many receipts there has to be room until the end, where the next settle takes the place of the last receipt, or needs one more
+-- for how many receipts there has to be room until the end: the next settle takes the place of a last receipt that is a Passed, or needs
+-- one more
 abbrev pub need_towards : Goal → Bool → ℕ
-need_towards Goal.Load replacing = 1
+need_towards Goal.Load passed = 1
 need_towards (Goal.Write write) true = 1
 need_towards (Goal.Write write) false = 2
 need_towards Goal.Evict true = 0
@@ -30,7 +31,15 @@ need_towards Goal.Evict false = 1
 abbrev pub need_in : Goal → Pending → ReceiptList → ℕ
 need_in Goal.Load p s = need_towards Goal.Load false
 need_in goal (Pending.Holding word line) s = suc (need_towards goal false)
-need_in goal p s = need_towards goal (replaces s)
+need_in goal p s = need_towards goal (last_passed s.list)
+
+-- none after the end
+abbrev pub need_until : Goal → Option Answer → Pending → ReceiptList → ℕ
+need_until goal (Some answer) p s = 0
+need_until goal None p s = need_in goal p s
+
+abbrev pub need_of : Operation → Pending → ReceiptList → ℕ
+need_of op p s = need_until op.goal op.answer p s
 
 -- an operation that goes on has the mark set for its goal, and the room that it needs
 pub record HasNeed (goal : Goal) (p : Pending) (s : ReceiptList) : Type 0 where

@@ -12,7 +12,7 @@ ghost use Rattle.sci_ops.specs.Kept.{KeepsAnswer};
 ghost use Rattle.sci_ops.specs.Plan.{Takes, LoadsAtMost};
 ghost use Rattle.sci_ops.specs.Ranking.{ranking};
 ghost use Rattle.sci_ops.specs.Rest.{due_turn, is_exchange, ComesTo};
-ghost use Rattle.sci_ops.specs.Room.{IsProvided, KeepsTurn};
+ghost use Rattle.sci_ops.specs.Room.{IsProvided, KeepsTurn, need_in, need_of};
 ghost use Rattle.sci_ops.specs.Table.{turn_of, begun, after_turn};
 ghost use Rattle.sci_ops.specs.Values.{IsTrueTurn};
 
@@ -20,7 +20,7 @@ use crate::answers::{Answer, Turn};
 use crate::goals::{Goal, WordNo, Write};
 use crate::refusals::BadWord;
 use crate::turns::turn_towards;
-use sci_core::{Keeps, Whole};
+use sci_core::{Keeps, Pending, Whole};
 use sci_port::{Port, Receipts, Solo};
 use sci_words::NodeId;
 use std::marker::Model;
@@ -109,6 +109,22 @@ impl Op {
         self.answer
     }
 
+    /// For how many receipts there has to be room until its end, with the mark set for its goal. A load: one. A write two and an
+    /// eviction one, or one less where the last receipt is a Passed, whose place the next settle takes. Where the node still holds the
+    /// line, which it reads first, a write three and an eviction two. After the end none.
+    pub fn need<P: Port>(&self, port: &P) -> usize
+        ensures { result ≡ need_of self.now (P.at_step port.now) (P.told port.now) }
+    {
+        if self.answer.is_some() {
+            return 0;
+        }
+        match self.goal {
+            Goal::Load => 1,
+            Goal::Write(_) => need_on_way(port) + 1,
+            Goal::Evict => need_on_way(port),
+        }
+    }
+
     /// One turn, by the table of turns: at most three loads and then at most one exchange, which the pending step allows. An
     /// answer is what the last of these calls gave. Seen: a load; Settle or Unhold was done, and answered this line. Wrote: a
     /// write; from Purging of a line with these words and a stamp one less, what the write makes of them was written. Spent: a
@@ -164,5 +180,16 @@ impl Op {
     {
         let mut receipts = Receipts::new(whole.allocator());
         self.turn(&mut Solo::new(whole, &mut receipts, node))
+    }
+}
+
+/// For how many receipts there has to be room on the way to a write or an exit.
+fn need_on_way<P: Port>(port: &P) -> usize
+    ensures value { result ≡ need_in Goal.Evict (P.at_step port.now) (P.told port.now) }
+    ensures few { result ≤ 2 }
+{
+    match port.pending() {
+        Pending::Holding { .. } => 2,
+        _ => usize::from(!port.last_passed()),
     }
 }

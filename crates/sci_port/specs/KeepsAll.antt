@@ -12,8 +12,8 @@ abbrev pub writes_in : List Receipt → List Receipt
 writes_in [] = []
 writes_in (r ∷ rs) = cond (is_write r) (r ∷ writes_in rs) (writes_in rs)
 
--- receipts without the Passed at their end
-abbrev before_passed : Receipt → List Receipt → List Receipt
+-- receipts without what is only passed at their end
+abbrev pub before_passed : Receipt → List Receipt → List Receipt
 before_passed r [] = cond (is_passed r) [] (r ∷ [])
 before_passed r (s ∷ rs) = r ∷ s ∷ rs
 

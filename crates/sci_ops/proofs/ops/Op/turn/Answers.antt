@@ -1,6 +1,7 @@
 use Rattle.std.proofs.Common.{◌≡◌, ◌∙◌, ℕ, Option, Some, None, refl, sym, ap, subst}
 use Rattle.sci_core.specs.declared.pending.Pending.{Pending}
 use Rattle.sci_port.specs.declared.calls.Call.{Call}
+use Rattle.sci_port.specs.ReceiptList.{ReceiptList}
 use Rattle.sci_ops.specs.declared.goals.Goal.{Goal}
 use Rattle.sci_ops.specs.declared.answers.Answer.{Answer}
 use Rattle.sci_ops.specs.declared.answers.Turn.{Turn}
@@ -8,10 +9,12 @@ use Rattle.sci_ops.specs.Answers.{AnswersAt}
 use Rattle.sci_ops.specs.Change.{StoresFitting}
 use Rattle.sci_ops.specs.Operation.{Operation}
 use Rattle.sci_ops.specs.Plan.{Takes}
+use Rattle.sci_ops.specs.Room.{IsProvided, KeepsTurn}
 use Rattle.sci_ops.specs.Table.{turn_of, turn_again, after_turn}
 use Rattle.sci_ops.proofs.Answering.{answers_at}
 use Rattle.sci_ops.proofs.Noted.{keeps_answer}
 use Rattle.sci_ops.proofs.Short.{three_loads}
+use Rattle.sci_ops.proofs.Spending.{keeps_ended, keeps_turn}
 use Rattle.sci_ops.proofs.Took.{taken_as, took_none, turn_keeps}
 use Rattle.sci_ops.proofs.ops.Op.turn.Goals as goal
 
@@ -32,6 +35,10 @@ stays_so op (Turn.Done a) h = absurd (h a refl)
 stays_so op Turn.Moved h = refl
 stays_so op Turn.Waiting h = refl
 
+-- where there is the room that the operation needs, the turn keeps its receipts
+abbrev KeepsAt : {S : Type 0} → (S → Call → S → Type 0) → (S → Pending) → (S → ReceiptList) → S → Operation → Turn → S → Type 0
+KeepsAt gives at_step told s op turn t = IsProvided op.goal op.answer (at_step s) (told s) → KeepsTurn gives told op s turn t (at_step t)
+
 pub returns-in-Some : goal.returns-in-Some
 returns-in-Some g c =
     let op = c.args.self.now in
@@ -40,6 +47,7 @@ returns-in-Some g c =
       calls = taken_as (ap (λ (x : Option Answer). turn_again op.goal x (g.P.Port.way c.args.port.now).node (g.P.Port.at_step c.args.port.now)) answered) took_none;
       answers = λ none. absurd (no_answer c.in-Some.answer (sym answered ∙ none));
       last = λ none. absurd (no_answer c.in-Some.answer (sym answered ∙ none));
+      kept = λ given. keeps_ended g.P.Port.gives g.P.Port.told op c.in-Some.answer c.args.port.now (g.P.Port.at_step c.args.port.now) answered;
       loads = three_loads op _ _;
       op = ap (with_answer op.goal) answered;
       same_way = refl;
@@ -61,6 +69,8 @@ returns-in-Done g c =
           (taken_as (ap (λ (x : Option Answer). turn_again op.goal x me (g.P.Port.at_step c.args.port.now)) c.in_default.is) c.in-Done.ensures.calls);
       answers = answered;
       last = keeps_answer g.P.Port.gives g.P.Port.at_step g.P.Port.told g.met.P.Port.receives c.args.self.now me c.args.port.now c.turn_towards-turn.new.port (Turn.Done c.in-Done.answer) answered;
+      kept = subst (λ (x : Operation). KeepsAt g.P.Port.gives g.P.Port.at_step g.P.Port.told c.args.port.now x (Turn.Done c.in-Done.answer) c.turn_towards-turn.new.port) c.self.view_is
+          (keeps_turn g.P.Port.gives g.P.Port.at_step g.P.Port.told _ _ _ g.met.P.Port.owes g.met.P.Port.receives op me c.args.port.now c.turn_towards-turn.new.port (Turn.Done c.in-Done.answer) c.in_default.is c.in-Done.ensures.calls);
       loads = three_loads c.args.self.now _ _;
       op = ap (λ (x : Operation). after_turn x (Turn.Done c.in-Done.answer)) c.self.view_is;
       same_way = turn_keeps g.P.Port.way g.met.P.Port.same_way c.in-Done.ensures.calls;
@@ -76,6 +86,8 @@ returns-in_default-turn g c =
           (taken_as (ap (λ (x : Option Answer). turn_again c.self.inside.goal x me (g.P.Port.at_step c.args.port.now)) c.in_default.is) c.turn_towards-turn.ensures.calls);
       answers = answers_none g.P.Port.gives g.P.Port.at_step c.args.self.now me c.args.port.now c.turn_towards-turn.new.port turn c.in_default-turn.not-Done;
       last = keeps_answer g.P.Port.gives g.P.Port.at_step g.P.Port.told g.met.P.Port.receives c.args.self.now me c.args.port.now c.turn_towards-turn.new.port turn (answers_none g.P.Port.gives g.P.Port.at_step c.args.self.now me c.args.port.now c.turn_towards-turn.new.port turn c.in_default-turn.not-Done);
+      kept = subst (λ (x : Operation). KeepsAt g.P.Port.gives g.P.Port.at_step g.P.Port.told c.args.port.now x turn c.turn_towards-turn.new.port) c.self.view_is
+          (keeps_turn g.P.Port.gives g.P.Port.at_step g.P.Port.told _ _ _ g.met.P.Port.owes g.met.P.Port.receives (with_answer c.self.inside.goal c.self.inside.answer) me c.args.port.now c.turn_towards-turn.new.port turn c.in_default.is c.turn_towards-turn.ensures.calls);
       loads = three_loads c.args.self.now _ _;
       op = stays_so c.args.self.now turn c.in_default-turn.not-Done;
       same_way = turn_keeps g.P.Port.way g.met.P.Port.same_way c.turn_towards-turn.ensures.calls;
