@@ -13,6 +13,12 @@ use Rattle.sci_fine.proofs.Elements.{inside, at_end}
 use Rattle.sci_fine.proofs.KeptAll.{begins_kept}
 use Rattle.sci_work.specs.Hands.{AtEach, HoldEach, IsHandOf, IsIdleSeat}
 
+same_tail : {A : Type 0} (x y : A) (xs ys : List A) → x ∷ xs ≡ y ∷ ys → xs ≡ ys
+same_tail x y xs ys e = cc
+
+same_head : {A : Type 0} (x y : A) (xs ys : List A) → x ∷ xs ≡ y ∷ ys → x ≡ y
+same_head x y xs ys e = cc
+
 module _ {K : Type 0} {g : keeps.Ghosts K} where
   pub no_hand : (node : ℕ) (seats : List (Seat K g)) → seats ≡ [] → IsHandOf [] node seats
   no_hand node seats is = subst (λ (z : List (Seat K g)). IsHandOf [] node z) (sym is) record { count = refl; each = λ k l s el es. absurd (some-ne-none l (sym el)) }
@@ -84,21 +90,15 @@ module _ {K : Type 0} {g : keeps.Ghosts K} where
   pub as_many : (hands : List (Vec (Seat K g))) (seats : List (Seat K g)) → HoldEach hands seats → length seats ≡ length hands
   as_many hands seats hold = sym (length-map seats (λ (s : Seat K g). s ∷ [])) ∙ ap (λ (l : List (List (Seat K g))). length l) (sym hold) ∙ length-map hands (λ (h : Vec (Seat K g)). h.items)
 
-  same_tail : {A : Type 0} (x y : A) (xs ys : List A) → x ∷ xs ≡ y ∷ ys → xs ≡ ys
-  same_tail x y xs ys e = cc
-
-  same_head : {A : Type 0} (x y : A) (xs ys : List A) → x ∷ xs ≡ y ∷ ys → x ≡ y
-  same_head x y xs ys e = cc
-
   -- the hand where a seat stands, and the seat that a hand holds
   pub hand_at : (hands : List (Vec (Seat K g))) (seats : List (Seat K g)) → HoldEach hands seats → (k : ℕ) (s : Seat K g) → get_elem? seats k ≡ some s → (h : Vec (Seat K g)) × (get_elem? hands k ≡ some h) × (h.items ≡ s ∷ [])
   hand_at hands [] hold k s at = absurd (some-ne-none s (sym at))
   hand_at [] (t ∷ ts) hold k s at = absurd (let e = hold in cc)
-  hand_at (h ∷ hs) (t ∷ ts) hold zero s at = (h, (refl, same_head h.items (t ∷ []) (held hs) (each_alone ts) hold ∙ ap (λ (x : Seat K g). x ∷ []) (some-injective t s at)))
+  hand_at (h ∷ hs) (t ∷ ts) hold zero s at = (h, refl, same_head h.items (t ∷ []) (held hs) (each_alone ts) hold ∙ ap (λ (x : Seat K g). x ∷ []) (some-injective t s at))
   hand_at (h ∷ hs) (t ∷ ts) hold (suc k) s at = hand_at hs ts (same_tail h.items (t ∷ []) (held hs) (each_alone ts) hold) k s at
 
   pub seat_at : (hands : List (Vec (Seat K g))) (seats : List (Seat K g)) → HoldEach hands seats → (k : ℕ) (h : Vec (Seat K g)) → get_elem? hands k ≡ some h → (s : Seat K g) × (get_elem? seats k ≡ some s) × (h.items ≡ s ∷ [])
   seat_at [] seats hold k h at = absurd (some-ne-none h (sym at))
   seat_at (x ∷ xs) [] hold k h at = absurd (let e = hold in cc)
-  seat_at (x ∷ xs) (t ∷ ts) hold zero h at = (t, (refl, ap (λ (y : Vec (Seat K g)). y.items) (sym (some-injective x h at)) ∙ same_head x.items (t ∷ []) (held xs) (each_alone ts) hold))
+  seat_at (x ∷ xs) (t ∷ ts) hold zero h at = (t, refl, ap (λ (y : Vec (Seat K g)). y.items) (sym (some-injective x h at)) ∙ same_head x.items (t ∷ []) (held xs) (each_alone ts) hold)
   seat_at (x ∷ xs) (t ∷ ts) hold (suc k) h at = seat_at xs ts (same_tail x.items (t ∷ []) (held xs) (each_alone ts) hold) k h at

@@ -43,17 +43,17 @@ module _ {K : Type 0} {g : keeps.Ghosts K} where
       (subst (λ (z : List (FineLine K)). IsHandOf z number seats) same
       (subst (λ (n : ℕ). IsHandOf ls n seats) mine (hand_again ls node keep seats of idle kept)))
 
+  first_none : (seats : List (Seat K g)) → ((s : Seat K g) → get_elem? seats 0 ≡ some s → writes_in s.receipts.list ≡ []) → writes_in (receipts_on seats 0).list ≡ []
+  first_none [] all = refl
+  first_none (x ∷ xs) all = all x refl
+
   -- a node that began with no writes has ended with those of its program
   pub ends_so : (program : Program) (before after : List (Seat K g)) → Begins program before → HasWritten program (receipts_on before 0).list (receipts_on after 0).list → Ends program after
-  ends_so (Program.Count adds) before after begins written s at =
+  ends_so (Program.Count adds) before after begins written = λ s at.
       let none : writes_in (receipts_on before 0).list ≡ [] = first_none before begins in
       let more : writes_in (receipts_on after 0).list ≡ written.more = written.behind ∙ ap (λ (l : List Receipt). l ++ written.more) none in
       let here : writes_in s.receipts.list ≡ written.more = ap (λ (l : ReceiptList). writes_in l.list) (sym (read_at (λ (x : Seat K g). x.receipts) after 0 s no_receipts at)) ∙ more in
       subst (AreAdds adds) (sym here) written.are
-    where
-      first_none : (seats : List (Seat K g)) → ((s : Seat K g) → get_elem? seats 0 ≡ some s → writes_in s.receipts.list ≡ []) → writes_in (receipts_on seats 0).list ≡ []
-      first_none [] all = refl
-      first_none (x ∷ xs) all = all x refl
   ends_so (Program.Ring source lines) before after begins written = tt
   ends_so (Program.Stencil work) before after begins written = tt
 

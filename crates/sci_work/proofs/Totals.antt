@@ -28,7 +28,7 @@ by_one = change (Write.Add 0 1)
 -- how many writes there are
 one_counted : (b : Bool) (r : Receipt) (n : ℕ) (ws : List Receipt) → n ≡ length ws → cond b 1 0 + n ≡ length (cond b (r ∷ ws) ws)
 one_counted true r n ws is = let z : 1 + n ≡ suc n = omega arith in z ∙ ap suc is
-one_counted false r n ws is = is
+one_counted false r n ws is = let z : 0 + n ≡ n = omega arith in z ∙ is
 
 writes_counted : (l : List Receipt) → writes_of l ≡ length (writes_in l)
 writes_counted [] = refl
@@ -45,7 +45,7 @@ each_of (Passed words stamp ∷ rs) all (suc p) r at = each_of rs all p r at
 each_of (Wrote before words stamp ∷ rs) all (suc p) r at = each_of rs (All-tail (WritesBy by_one) (Wrote before words stamp) (writes_in rs) all) p r at
 
 sum_all : (n each : ℕ) (f : ℕ → ℕ) → ((j : ℕ) → j < n → f j ≡ each) → sum_below n f ≡ n * each
-sum_all zero each f all = refl
+sum_all zero each f all = let z : 0 ≡ 0 * each = omega arith in z
 sum_all (suc n) each f all =
     let less : sum_below n f ≡ n * each = sum_all n each f (λ j low. all j (omega (arith, low))) in
     let last : f n ≡ each = all n (omega arith) in

@@ -19,10 +19,7 @@ idle_look : (p : Pending) (tag : Option Tag) → p ≡ Pending.Idle → look_by 
 idle_look p None is = is
 idle_look p (Some t) is = ap (λ (x : Pending). look_by x (Some t)) is
 
-module _ {U K : Type 0} {way : U → BankWay} {keep : U → K} {step : U → ℕ → Pending} {gives : U → ℕ → Call → U → Type 0} {readies : U → ℕ → Readying → U → Type 0} {told : U → ℕ → ReceiptList} where
-  watched_not : (u : U) → HasWatched way keep step gives readies told u u
-  watched_not u = record { made = λ n. none; same_way = refl; same_fact = refl; rests = rests_not u }
-
+module _ {U : Type 0} {step : U → ℕ → Pending} {gives : U → ℕ → Call → U → Type 0} {readies : U → ℕ → Readying → U → Type 0} {told : U → ℕ → ReceiptList} where
   rests_looked : (u : U) (line : ℕ) (tag : Option Tag) (v : U) → gives u line (Own tag) v → step v line ≡ look_by (step u line) tag → ((m : ℕ) → m ≢ line → step v m ≡ step u m) → RestsAgain step gives readies told u v
   rests_looked u line tag v given looked others = record {
     idle = λ idle m. elim (cases_eq m line) [
@@ -31,6 +28,10 @@ module _ {U K : Type 0} {way : U → BankWay} {keep : U → K} {step : U → ℕ
     ];
     kept = λ idle. keeps_call line (Own tag) given tt keeps_none;
   }
+
+module _ {U K : Type 0} {way : U → BankWay} {keep : U → K} {step : U → ℕ → Pending} {gives : U → ℕ → Call → U → Type 0} {readies : U → ℕ → Readying → U → Type 0} {told : U → ℕ → ReceiptList} where
+  watched_not : (u : U) → HasWatched way keep step gives readies told u u
+  watched_not u = record { made = λ n. none; same_way = refl; same_fact = refl; rests = rests_not u }
 
   pub watched_more : {u w v : U} → HasWatched way keep step gives readies told u w → (line : ℕ) (tag : Option Tag) → gives w line (Own tag) v → way v ≡ way w → keep v ≡ keep w
       → step v line ≡ look_by (step w line) tag → ((m : ℕ) → m ≢ line → step v m ≡ step w m) → HasWatched way keep step gives readies told u v

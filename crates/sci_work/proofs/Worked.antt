@@ -18,13 +18,14 @@ module _ {U : Type 0} {gives : U → ℕ → Call → U → Type 0} {readies : U
   keeps_field f call ready (keeps_call line c given room rest) = keeps_field f call ready rest ∙ call _ line c _ given
   keeps_field f call ready (keeps_ready line r given rest) = keeps_field f call ready rest ∙ ready _ line r _ given
 
-module _ {U K : Type 0} {way : U → BankWay} {keep : U → K} {step : U → ℕ → Pending} {gives : U → ℕ → Call → U → Type 0} {readies : U → ℕ → Readying → U → Type 0} {told : U → ℕ → ReceiptList} where
+module _ {U : Type 0} {step : U → ℕ → Pending} {gives : U → ℕ → Call → U → Type 0} {readies : U → ℕ → Readying → U → Type 0} {told : U → ℕ → ReceiptList} where
   pub rests_not : (u : U) → RestsAgain step gives readies told u u
   rests_not u = record { idle = λ idle. idle; kept = λ idle. keeps_none }
 
   pub rests_then : {u w v : U} → RestsAgain step gives readies told u w → RestsAgain step gives readies told w v → RestsAgain step gives readies told u v
   rests_then a b = record { idle = λ idle. b.idle (a.idle idle); kept = λ idle. keeps_then (a.kept idle) (b.kept (a.idle idle)) }
 
+module _ {U K : Type 0} {way : U → BankWay} {keep : U → K} {step : U → ℕ → Pending} {gives : U → ℕ → Call → U → Type 0} {readies : U → ℕ → Readying → U → Type 0} {told : U → ℕ → ReceiptList} where
   pub still_not : {u : U} {n : NodeState} → IsBankOf (way u) n → IsStillBankOf way keep step gives readies told u n u
   still_not {u = u} ready = record { ready = ready; same_way = refl; same_fact = refl; rests = rests_not u }
 

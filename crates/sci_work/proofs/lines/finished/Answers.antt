@@ -16,4 +16,4 @@ pub returns-in-Ok-clause-ok : goal.returns-in-Ok-clause-ok
 returns-in-Ok-clause-ok g c = closed_of g.K.Keeps.fits c.args.line _ c.in-Ok.made.closed c.in-Ok.ensures.ok.end
 
 pub returns-in-Ok-clause-history : goal.returns-in-Ok-clause-history
-returns-in-Ok-clause-history g c = history_of g.K.Keeps.fits c.args.line c.args.seats.items c.in-Ok.made.closed _ c.in-Ok.ensures.ok (each_all (λ s. HasKeptAll s) c.args.seats.items (λ k s e. (c.requires k s e).2.1))
+returns-in-Ok-clause-history g c = history_of g.K.Keeps.fits c.args.line c.args.seats.items c.in-Ok.made.closed _ c.in-Ok.ensures.ok (each_all (λ s. HasKeptAll s) c.args.seats.items (λ k s e. (c.requires k s e).2))

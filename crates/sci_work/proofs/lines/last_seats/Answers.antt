@@ -51,7 +51,7 @@ loop-one-preserved g c =
       hands = at_more (λ k hand. IsHandOf lines k (vec_items hand)) c.loop-one.all.items c.push_reserved-in-loop-one.new.self.items c.pop.new.self more.items i.hands
           (subst (λ (z : ℕ). IsHandOf lines z (vec_items c.pop.new.self)) here s.0);
       seats = subst (λ (z : List _). (k : ℕ) (x : _) → get_elem? z k ≡ some x → IsSeatOf line x × (x.standing.pending ≡ Pending.Idle) × HasKeptAll x) (sym put.items)
-          (each_more (λ x. IsSeatOf line x × (x.standing.pending ≡ Pending.Idle) × HasKeptAll x) c.loop-one.seats.items c.in-Some-pop.seat i.seats (s.1.of, (s.1.idle, s.1.kept)));
+          (each_more (λ x. IsSeatOf line x × (x.standing.pending ≡ Pending.Idle) × HasKeptAll x) c.loop-one.seats.items c.in-Some-pop.seat i.seats (s.1.of, s.1.idle, s.1.kept));
     }
 
 pub push_reserved-requires : goal.push_reserved-requires

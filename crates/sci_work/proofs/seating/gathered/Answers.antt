@@ -36,7 +36,7 @@ loop-hand-preserved g c =
     record {
       left = λ k x e. subst (λ (z : ℕ). IsHandOf (c.args.line.now ∷ []) (k + z) (vec_items x)) (sym more.len) (f.1 k x e);
       all = subst (λ (z : List _). (k : ℕ) (x : _) → get_elem? z k ≡ some x → IsSeatOf c.args.line.now x × (x.standing.pending ≡ Pending.Idle) × HasKeptAll x) (sym more.items)
-          (each_more (λ x. IsSeatOf c.args.line.now x × (x.standing.pending ≡ Pending.Idle) × HasKeptAll x) c.loop-hand.seats.items c.seat_of.result i.all (s.of, (s.idle, s.kept)));
+          (each_more (λ x. IsSeatOf c.args.line.now x × (x.standing.pending ≡ Pending.Idle) × HasKeptAll x) c.loop-hand.seats.items c.seat_of.result i.all (s.of, s.idle, s.kept));
       held = held_more c.loop-hand.seats.items c.push.new.self.items c.seat_of.result (into_iter_items c.loop-hand.hand-iterator) (into_iter_items c.next.new.self) c.args.hands.items c.in-Some.hand more.items c.seat_of.ensures step.0 i.held;
     }
 
