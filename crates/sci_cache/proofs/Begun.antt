@@ -1,5 +1,5 @@
 -- A request that is refused, and one that begins a call.
-use Rattle.std.proofs.Common.{◌≡◌, ◌⊎◌, inl, inr, ℕ, ◌<◌, ◌≤◌, Bool, true, false, nat_lt, not, if◌then◌else◌, Option, Some, None, is_some, List, refl, sym, ap, subst, ◌∙◌, arith}
+use Rattle.std.proofs.Common.{◌≡◌, ◌≢◌, ◌⊎◌, inl, inr, ℕ, ◌<◌, ◌≤◌, Bool, true, false, nat_lt, not, if◌then◌else◌, Option, Some, None, IfSome, is_some, List, refl, sym, ap, subst, ◌∙◌, arith}
 use Rattle.std.proofs.lemmas.Bool.Decides.{nat_tests}
 use Rattle.sci_ops.specs.Operation.{Operation}
 use Rattle.sci_ops.specs.Table.{begun}
@@ -8,12 +8,12 @@ use Rattle.sci_cache.specs.declared.requests.Request.{Request}
 use Rattle.sci_cache.specs.Requests.{line_of, goal_of, is_evict, has_bad_word}
 use Rattle.sci_cache.specs.Residents.{is_resident, used, displaced_by, AreBelow}
 use Rattle.sci_cache.specs.Nodes.{NodeState, node_state, node_with, node_used, call_with, victim_with, residents_with, refusal_of, IsLine, IsSoundCall}
-use Rattle.sci_cache.proofs.Ordered.{below_displaced}
+use Rattle.sci_cache.proofs.Ordered.{below_displaced, displaced_apart}
 
-if_so : {A : Type 0} (b : Bool) (x y : A) → b ≡ true → (if b then x else y) ≡ x
+pub if_so : {A : Type 0} (b : Bool) (x y : A) → b ≡ true → (if b then x else y) ≡ x
 if_so b x y h = ap (λ (a : Bool). if a then x else y) h
 
-if_not : {A : Type 0} (b : Bool) (x y : A) → b ≡ false → (if b then x else y) ≡ y
+pub if_not : {A : Type 0} (b : Bool) (x y : A) → b ≡ false → (if b then x else y) ≡ y
 if_not b x y h = ap (λ (a : Bool). if a then x else y) h
 
 inside : (x n : ℕ) → x < n → not (nat_lt x n) ≡ false
@@ -94,3 +94,35 @@ module _ (n : NodeState) (r : Request) (line : ℕ) (op : Operation) (victim : O
   -- that call is opened
   pub opened : (m : NodeState) → m ≡ node_used n r → record m { call = Some record { line = line; op = op; victim = victim } } ≡ node_with n r
   opened m h = λ i. record (h i) { call = Some (call_made i) }
+
+none_line : (a b d : Bool) → ◌≡◌ {A = Option NodeRefusal} (if a then Some NodeRefusal.CallOpen else (if not b then Some NodeRefusal.BadLine else (if d then Some NodeRefusal.BadWord else None))) None → b ≡ true
+none_line true b d h = absurd (let e = h in cc)
+none_line false true d h = refl
+none_line false false d h = absurd (let e = h in cc)
+
+less : (x n : ℕ) → nat_lt x n ≡ true → x < n
+less x n h = grind (arith, nat_tests, h)
+
+-- a request that is accepted names a line
+pub has_line : (n : NodeState) (r : Request) → refusal_of n r ≡ None → line_of r < n.lines
+has_line n r h = less (line_of r) n.lines (none_line (is_some n.call) (nat_lt (line_of r) n.lines) (has_bad_word r) h)
+
+-- of the lines as the node has them inside
+pub line_before : (n now : NodeState) → n ≡ now → (r : Request) → refusal_of now r ≡ None → line_of r < n.lines
+line_before n now view r h = subst (λ (k : NodeState). line_of r < k.lines) (sym view) (has_line now r h)
+
+line_with : (lines : ℕ) (b : Bool) (o : Option ℕ) → IsLine lines o → IsLine lines (if b then None else o)
+line_with lines true o h = tt
+line_with lines false o h = h
+
+-- the line that it puts out is one that there is
+pub inside_with : (n : NodeState) (r : Request) → AreBelow n.lines n.residents → IsLine n.lines (victim_with n r)
+inside_with n r below = line_with n.lines (is_evict r) (displaced_by n.capacity (line_of r) n.residents) (below_displaced n.lines (line_of r) n.capacity n.residents below)
+
+apart_with : (line : ℕ) (b : Bool) (o : Option ℕ) → IfSome o (λ x. line ≢ x) → IfSome (if b then None else o) (λ x. line ≢ x)
+apart_with line true o h = tt
+apart_with line false o h = h
+
+-- and another
+pub victim_apart : (n : NodeState) (r : Request) → IfSome (victim_with n r) (λ x. line_of r ≢ x)
+victim_apart n r = apart_with (line_of r) (is_evict r) (displaced_by n.capacity (line_of r) n.residents) (displaced_apart (line_of r) n.capacity n.residents)

@@ -1,5 +1,5 @@
 -- A turn over the port to one line of a bank, as the bank sees it.
-use Rattle.std.proofs.Common.{◌≡◌, ◌≢◌, ℕ, Option, Some, None, List, [], ◌∷◌, refl, sym, ap, subst, ◌∙◌}
+use Rattle.std.proofs.Common.{◌≡◌, ◌≢◌, ℕ, Option, Some, None, List, [], ◌∷◌, ◌++◌, refl, sym, ap, subst, ◌∙◌}
 use Rattle.sci_core.specs.declared.pending.Pending.{Pending}
 use Rattle.sci_core.specs.declared.lines.Line.{Line}
 use Rattle.sci_core.specs.declared.events.Event.{Event}
@@ -7,15 +7,19 @@ use Rattle.sci_core.specs.declared.outcomes.Outcome.{Outcome}
 use Rattle.sci_port.specs.declared.calls.Call.{Call}
 use Rattle.sci_port.specs.declared.calls.Call.TheVariants.{Own, MemWas, TagWas, Stepped}
 use Rattle.sci_port.specs.Call.{Chain}
+use Rattle.sci_port.specs.KeepsAll.{Extends, RoomyChain, writes_in}
 use Rattle.sci_port.specs.Owes.{AnswerFits, Owes}
+use Rattle.sci_port.specs.ReceiptList.{HasRoomFor, ReceiptList}
 use Rattle.sci_ops.specs.declared.answers.Answer.{Answer}
 use Rattle.sci_ops.specs.declared.answers.Turn.{Turn}
 use Rattle.sci_ops.specs.declared.goals.Goal.{Goal}
 use Rattle.sci_ops.specs.declared.goals.Write.{Write}
 use Rattle.sci_ops.specs.Answers.{IsAnswer, ChainTo, Answers, AnswersAt}
+use Rattle.sci_ops.specs.Kept.{KeepsAnswer}
 use Rattle.sci_ops.specs.Operation.{Operation}
 use Rattle.sci_ops.specs.Plan.{Plan, Follows, Takes}
-use Rattle.sci_ops.specs.Table.{turn_in, turn_of}
+use Rattle.sci_ops.specs.Room.{IsProvided, KeepsTurn, adds}
+use Rattle.sci_ops.specs.Table.{after_turn, turn_in, turn_of}
 use Rattle.sci_cache.specs.Nodes.{IsAnswerTo, ShowsAnswerTo}
 
 -- what no call on the line changes, no chain of them does
@@ -97,3 +101,49 @@ module _ {U X : Type 0} (gives : U → Call → U → Type 0) (step : U → Pend
   shows_answer op me u (Turn.Done a) v h open_ = let b = h open_ in chain_answers op.goal a b.calls u v b.chain
   shows_answer op me u Turn.Moved v h open_ = tt
   shows_answer op me u Turn.Waiting v h open_ = tt
+
+-- no call takes a port to another line
+module _ {S U : Type 0} (over : S → Call → S → Type 0) (gives : U → ℕ → Call → U → Type 0) (bank : S → U) (line : S → ℕ)
+    (each : (s : S) (c : Call) (t : S) → over s c t → (line t ≡ line s) × gives (bank s) (line s) c (bank t))
+    (step : U → ℕ → Pending) (told : U → ℕ → ReceiptList) where
+  pub chain_line : (calls : List Call) (s t : S) → Chain over s calls t → line t ≡ line s
+  chain_line [] s t h = ap line h
+  chain_line (c ∷ cs) s t (mid, h, rest) = chain_line cs mid t rest ∙ (each s c mid h).0
+
+  roomy_through : (l : ℕ) (calls : List Call) (s t : S) → line s ≡ l → RoomyChain over (λ x. told (bank x) (line x)) s calls t → RoomyChain (λ a c b. gives a l c b) (λ a. told a l) (bank s) calls (bank t)
+  roomy_through l [] s t e h = ap bank h
+  roomy_through l (c ∷ cs) s t e (mid, h, room, rest) =
+      let w = each s c mid h in
+      (bank mid, subst (λ (k : ℕ). gives (bank s) k c (bank mid)) e w.1, subst (λ (k : ℕ). HasRoomFor c (told (bank s) k)) e room, roomy_through l cs mid t (w.0 ∙ e) rest)
+
+  module _ (op : Operation) (turn : Turn) (s t : S) (same : line t ≡ line s) where
+    abbrev KeepsOver : Type 0
+    KeepsOver = IsProvided op.goal op.answer (step (bank s) (line s)) (told (bank s) (line s)) → KeepsTurn over (λ x. told (bank x) (line x)) op s turn t (step (bank t) (line t))
+
+    abbrev KeepsAt : ℕ → U → U → Type 0
+    KeepsAt l u v = IsProvided op.goal op.answer (step u l) (told u l) → KeepsTurn (λ a c b. gives a l c b) (λ a. told a l) op u turn v (step v l)
+
+    kept_over : KeepsOver → KeepsAt (line s) (bank s) (bank t)
+    kept_over h p =
+        let k = h p in
+        record {
+          calls = k.calls;
+          chain = roomy_through (line s) k.calls s t refl k.chain;
+          provided = subst (λ (n : ℕ). IsProvided op.goal (after_turn op turn).answer (step (bank t) n) (told (bank t) n)) same k.provided;
+          writes = subst (λ (n : ℕ). writes_in (told (bank t) n).list ≡ writes_in (told (bank s) (line s)).list ++ adds op.goal op.answer turn) same k.writes;
+          extends = subst (λ (n : ℕ). Extends (told (bank s) (line s)).list (told (bank t) n).list) same k.extends;
+        }
+
+    pub kept_through : (l : ℕ) (u v : U) → line s ≡ l → bank s ≡ u → bank t ≡ v → KeepsOver → KeepsAt l u v
+    kept_through l u v on from to h =
+        subst (λ (k : ℕ). KeepsAt k u v) on
+        (subst (λ (w : U). KeepsAt (line s) w v) from
+        (subst (λ (w : U). KeepsAt (line s) (bank s) w) to (kept_over h)))
+
+pub last_through : {S U : Type 0} (bank : S → U) (line : S → ℕ) (told : U → ℕ → ReceiptList) (op : Operation) (turn : Turn) (s t : S) → line t ≡ line s → (l : ℕ) (u v : U) → line s ≡ l → bank s ≡ u → bank t ≡ v
+    → KeepsAnswer op turn (told (bank s) (line s)) (told (bank t) (line t)) → KeepsAnswer op turn (told u l) (told v l)
+last_through {U} bank line told op turn s t same l u v on from to h =
+    subst (λ (k : ℕ). KeepsAnswer op turn (told u k) (told v k)) on
+    (subst (λ (w : U). KeepsAnswer op turn (told w (line s)) (told v (line s))) from
+    (subst (λ (w : U). KeepsAnswer op turn (told (bank s) (line s)) (told w (line s))) to
+    (subst (λ (k : ℕ). KeepsAnswer op turn (told (bank s) (line s)) (told (bank t) k)) same h)))

@@ -3,15 +3,18 @@ use Rattle.std.proofs.Common.{◌≡◌, ◌≢◌, ◌⊎◌, inl, inr, ℕ, �
 use Rattle.std.proofs.lemmas.Bool.{cases_eq}
 use Rattle.sci_core.specs.declared.pending.Pending.{Pending}
 use Rattle.sci_port.specs.declared.calls.Call.{Call}
+use Rattle.sci_port.specs.ReceiptList.{ReceiptList}
 use Rattle.sci_ops.specs.declared.goals.Goal.{Goal}
 use Rattle.sci_ops.specs.declared.answers.Answer.{Answer}
 use Rattle.sci_ops.specs.declared.answers.Turn.{Turn}
 use Rattle.sci_ops.specs.Answers.{AnswersAt, ChainTo, IsAnswer}
 use Rattle.sci_ops.specs.Operation.{Operation}
 use Rattle.sci_ops.specs.Plan.{Takes, LoadsAtMost}
+use Rattle.sci_ops.specs.Room.{IsProvided, KeepsTurn}
 use Rattle.sci_ops.specs.Table.{turn_of}
 use Rattle.sci_cache.specs.declared.calls.OpenCall.{OpenCall}
 use Rattle.sci_cache.specs.declared.refusals.NodeRefusal.{NodeRefusal}
+use Rattle.sci_cache.specs.Called.{KeepsTurnOf}
 use Rattle.sci_cache.specs.Nodes.{NodeState, TurnsAt, TurnsBy, line_by, op_by, shown_by, call_after, residents_after, taken_by, node_state, LeavesBy, ShowsAnswerTo, IsSameNode, IsLine, IsSoundCall, IsIdleBut}
 use Rattle.sci_cache.specs.Residents.{without}
 
@@ -70,6 +73,20 @@ module _ {U : Type 0} (gives : U → ℕ → Call → U → Type 0) (step : U �
       } in
       subst (λ (k : NodeState). TurnsBy gives step k k.call u (Ok shown) v m) view
       (subst (λ (x : Option OpenCall). TurnsBy gives step n x u (Ok shown) v m) (sym calls) turns)
+
+-- what it keeps of the receipts on the line at work
+module _ {U : Type 0} (gives : U → ℕ → Call → U → Type 0) (step : U → ℕ → Pending) (told : U → ℕ → ReceiptList) (c : OpenCall) (u v : U) (t : Turn) where
+  abbrev KeptBy : Operation → ℕ → Type 0
+  KeptBy o line = IsProvided o.goal o.answer (step u line) (told u line) → KeepsTurn (λ s call r. gives s line call r) (λ s. told s line) o u t v (step v line)
+
+  pub kept_by : (o : Operation) (w : Option ℕ) (shown : Turn) → c.victim ≡ w → o ≡ op_by w c.op → KeptBy o (line_by w c.line) → shown ≡ shown_by w t → KeepsTurnOf gives step told c u shown v
+  kept_by o w shown victim op kept shows =
+      let with_op : KeptBy (op_by w c.op) (line_by w c.line) = subst (λ (x : Operation). KeptBy x (line_by w c.line)) op kept in
+      record {
+        turn = t;
+        shows = shows ∙ ap (λ (x : Option ℕ). shown_by x t) (sym victim);
+        kept = subst (λ (x : Option ℕ). KeptBy (op_by x c.op) (line_by x c.line)) (sym victim) with_op;
+      }
 
 -- a turn that goes on leaves the node as it is
 pub goes_on : (n : NodeState) (c : OpenCall) (w : Option ℕ) (t : Turn) → n.call ≡ Some c → ((answer : Answer) → t ≡ Turn.Done answer → ⊥) → (t ≡ shown_by w t) × (n ≡ record n { residents = residents_after c w t n.residents; call = call_after c w t })
@@ -132,6 +149,9 @@ module _ (n now : NodeState) (view : n ≡ now) (c : OpenCall) (calls : n.call �
 
   pub sound : IsSoundCall n.lines n.call → (c.line < n.lines) × (c.op.answer ≡ None) × IsLine n.lines c.victim
   sound h = subst (IsSoundCall n.lines) calls h
+
+  pub elsewhere_now : {P : ℕ → Type 0} (w : Option ℕ) → c.victim ≡ w → ((m : ℕ) → m ≢ line_by w c.line → P m) → IfSome now.call (λ (d : OpenCall). (m : ℕ) → m ≢ line_by d.victim d.line → P m)
+  elsewhere_now {P} w victim h = others_by {P = P} now.call c w call_now victim h
 
   pub below_by : IsSoundCall n.lines n.call → IfSome now.call (λ (d : OpenCall). line_by d.victim d.line < now.lines)
   below_by h =

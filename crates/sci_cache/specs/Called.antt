@@ -1,5 +1,5 @@
 -- What a call of a node that waits for its end has come to. This project's profile.
-use Rattle.std.specs.Prelude.{◌≡◌, ℕ, nat_eq, if◌then◌else◌, List, [], ◌++◌, Option, Some, None, Result, Ok, Err, IfOk}
+use Rattle.std.specs.Prelude.{◌≡◌, ◌≢◌, ℕ, ◌≤◌, false, nat_eq, if◌then◌else◌, List, [], ◌++◌, Option, Some, None, Result, Ok, Err, IfOk, IfSome}
 use Rattle.sci_core.specs.declared.pending.Pending.{Pending}
 use Rattle.sci_core.specs.declared.receipts.Receipt.{Receipt}
 use Rattle.sci_core.specs.declared.receipts.Receipt.TheVariants.{Read, Wrote}
@@ -12,12 +12,19 @@ use Rattle.sci_ops.specs.declared.answers.Answer.{Answer}
 use Rattle.sci_ops.specs.declared.answers.Turn.{Turn}
 use Rattle.sci_ops.specs.declared.goals.Goal.{Goal}
 use Rattle.sci_ops.specs.Change.{change}
-use Rattle.sci_ops.specs.Room.{adds_towards}
+use Rattle.sci_ops.specs.Room.{IsProvided, KeepsTurn, adds_towards, is_passing, need_towards}
 use Rattle.sci_cache.specs.declared.calls.OpenCall.{OpenCall}
 use Rattle.sci_cache.specs.declared.refusals.NodeRefusal.{NodeRefusal}
 use Rattle.sci_cache.specs.declared.requests.Request.{Request}
 use Rattle.sci_cache.specs.Requests.{line_of, goal_of}
-use Rattle.sci_cache.specs.Nodes.{NodeState, IsAnswerTo, IsIdleBut, IsSameNode, LeavesIdle, Runs, Waits}
+use Rattle.sci_cache.specs.Nodes.{NodeState, IsAnswerTo, IsIdleBut, IsSameNode, LeavesIdle, Runs, Waits, line_by, op_by, shown_by}
+
+-- a turn of an open call: where what is at work has what it needs of its line's receipts, the turn keeps them
+pub record KeepsTurnOf {U : Type 0} (gives : U → ℕ → Call → U → Type 0) (step : U → ℕ → Pending) (told : U → ℕ → ReceiptList) (c : OpenCall) (u : U) (shown : Turn) (v : U) : Type 0 where
+  pub turn : Turn
+  pub shows : shown ≡ shown_by c.victim turn
+  pub kept : IsProvided (op_by c.victim c.op).goal (op_by c.victim c.op).answer (step u (line_by c.victim c.line)) (told u (line_by c.victim c.line))
+      → KeepsTurn (λ s call t. gives s (line_by c.victim c.line) call t) (λ s. told s (line_by c.victim c.line)) (op_by c.victim c.op) u turn v (step v (line_by c.victim c.line))
 
 -- what a request that has ended so adds to the node's writes on a line: on its own line its answer, if it wrote
 abbrev pub adds_on : Request → Result Answer NodeRefusal → ℕ → List Receipt
@@ -41,6 +48,17 @@ LeavesReceipts told (Ok answer) u v = Unit {0}
 LeavesReceipts told (Err NodeRefusal.StampsSpent) u v = Unit {0}
 LeavesReceipts told (Err NodeRefusal.OutOfMemory) u v = (line : ℕ) → IsSameButRoom (told u line) (told v line)
 LeavesReceipts told (Err refusal) u v = v ≡ u
+
+-- the mark is set for the goal, and there is room for as many receipts as it needs at most
+pub record IsReadyFor (goal : Goal) (s : ReceiptList) : Type 0 where
+  pub mark : s.passing ≡ is_passing goal
+  pub room : need_towards goal false ≤ s.room
+
+-- a node's work that went on: each call found room for its receipt, none was a write, and what stood in a list stands there
+pub record KeepsOn {U : Type 0} (gives : U → ℕ → Call → U → Type 0) (readies : U → ℕ → Readying → U → Type 0) (told : U → ℕ → ReceiptList) (u v : U) : Type 0 where
+  pub all : KeepsAll gives readies told u v
+  pub writes : (line : ℕ) → writes_in (told v line).list ≡ writes_in (told u line).list
+  pub extends : (line : ℕ) → Extends (told u line).list (told v line).list
 
 -- a request that has ended so found room for the receipt of each of its calls. Of writes it added its own answer alone, an answer is the
 -- last receipt of its line, and what stood in a list stands there
@@ -68,10 +86,12 @@ pub record HasCalled {U K : Type 0} (way : U → BankWay) (nodes_on : U → ℕ 
   pub same_fact : keep v ≡ keep u
 
 -- from bank u to v the node has left the list of the line that a request put out, if there is one: in turns of each call of it
--- that waits for that
-pub record HasMadeWay {U K : Type 0} (way : U → BankWay) (nodes_on : U → ℕ → ℕ) (keep : U → K) (gives : U → ℕ → Call → U → Type 0) (step : U → ℕ → Pending) (victim : Option ℕ) (u v : U) : Type 0 where
+-- that waits for that. The receipts on the other lines stay
+pub record HasMadeWay {U K : Type 0} (way : U → BankWay) (nodes_on : U → ℕ → ℕ) (keep : U → K) (gives : U → ℕ → Call → U → Type 0) (readies : U → ℕ → Readying → U → Type 0) (step : U → ℕ → Pending) (told : U → ℕ → ReceiptList) (victim : Option ℕ) (u v : U) : Type 0 where
   pub runs : (n : NodeState) (c : OpenCall) → n.id ≡ (way u).node → n.call ≡ Some c → c.victim ≡ victim → Runs gives step n u (record n { call = Some record c { victim = None } }) v
   pub rest : ((line : ℕ) → step u line ≡ Pending.Idle) → (line : ℕ) → step v line ≡ Pending.Idle
+  pub kept : ((line : ℕ) → step u line ≡ Pending.Idle) → IfSome victim (λ line. IsReadyFor Goal.Evict (told u line)) → KeepsOn gives readies told u v
+  pub others : (m : ℕ) → IfSome victim (λ line. m ≢ line) → told v m ≡ told u m
   pub same_way : way v ≡ way u
   pub same_nodes : (line : ℕ) → nodes_on v line ≡ nodes_on u line
   pub same_fact : keep v ≡ keep u

@@ -4,6 +4,7 @@
 mod calls;
 mod node;
 mod ports;
+mod readying;
 mod refusals;
 mod requests;
 mod tables;

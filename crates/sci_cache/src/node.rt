@@ -1,15 +1,19 @@
 //! Nodes.
 ghost use Rattle.std.specs.Prelude.{◌≡◌, ◌≢◌, ◌<◌, ◌≤◌, ◌⊎◌, ◌↔◌, ℕ, Some, None, Ok, Err, length, true, is_some, [], IfOk, IfErr, IfSome, OnOk, OnErr, IsOk};
+ghost use Rattle.sci_port.specs.KeepsAll.{IsReadied};
 ghost use Rattle.sci_ops.specs.Change.{StoresFitting};
+ghost use Rattle.sci_ops.specs.declared.goals.Goal.{Goal};
+ghost use Rattle.sci_cache.specs.Called.{IsReadyFor, IsSameButRoom, KeepsTurnOf};
 ghost use Rattle.sci_cache.specs.declared.refusals.NodeRefusal.{NodeRefusal};
-ghost use Rattle.sci_cache.specs.Requests.{line_of, is_evict};
+ghost use Rattle.sci_cache.specs.Requests.{line_of, goal_of, is_evict};
 ghost use Rattle.sci_cache.specs.Residents.{is_resident};
 
 use crate::calls::OpenCall;
 use crate::ports::turn_at;
+use crate::readying::{aim_at, reserve_at, reserve_out};
 use crate::refusals::NodeRefusal;
 use crate::requests::Request;
-use crate::tables::{make_recent, take_out};
+use crate::tables::{last_of_full, make_recent, renew, take_out};
 use lru::LruCache;
 use sci_ops::{Goal, Op, Turn};
 use sci_port::Bank;
@@ -40,7 +44,7 @@ impl Model for Node {
 
 impl Node {
     ghost use Rattle.sci_core.specs.declared.pending.Pending.TheVariants.{Idle};
-    ghost use Rattle.sci_cache.specs.Nodes.{node_state, refusal_of, IsRefused, IsSoundCall, call_with, victim_with, node_used, node_closed, node_with, TurnsBy, line_by, ShowsAnswerTo, IsIdleBut, IsSameNode};
+    ghost use Rattle.sci_cache.specs.Nodes.{node_state, refusal_of, IsLine, IsRefused, IsSoundCall, call_with, victim_with, node_used, node_closed, node_with, TurnsBy, line_by, ShowsAnswerTo, IsIdleBut, IsSameNode};
 
     /// A node of a memory of so many lines, which names up to `capacity` of them and has used none. The refusals: 13 for a
     /// capacity of 0 or more than 1,024, then 7.
@@ -123,23 +127,89 @@ impl Node {
         ensures same_node { IsSameNode self.old self.new }
         ensures succeeds { refusal_of self.old request.now ≡ None → (is_evict request.now ≡ true) ⊎ (is_resident (line_of request.now) self.old.residents ≡ true) → IsOk result }
     {
-        if self.call.is_some() {
-            return Err(NodeRefusal::CallOpen);
+        if let Some(refusal) = self.refusal(request) {
+            return Err(refusal);
         }
-        let line = request.line();
-        if line >= self.lines {
-            return Err(NodeRefusal::BadLine);
-        }
-        let Ok(_) = request.op() else {
-            return Err(NodeRefusal::BadWord);
-        };
         if request.is_evict() {
             return Ok(None);
         }
-        let Ok(victim) = make_recent(&mut self.table, line) else {
+        let Ok(victim) = make_recent(&mut self.table, request.line()) else {
             return Err(NodeRefusal::OutOfMemory);
         };
         Ok(victim)
+    }
+
+    // Why a request is refused, but for want of memory: 14, 12, 10.
+    #[inline(always)]
+    pub(crate) fn refusal(&self, request: &Request) -> Option<NodeRefusal>
+        ensures { result ≡ refusal_of self.now request.now }
+    {
+        if self.call.is_some() {
+            return Some(NodeRefusal::CallOpen);
+        }
+        if request.line() >= self.lines {
+            return Some(NodeRefusal::BadLine);
+        }
+        let Ok(_) = request.op() else {
+            return Some(NodeRefusal::BadWord);
+        };
+        None
+    }
+
+    // Makes the line of a request that nothing else stands against the most recent, with room for the receipts of the request
+    // and of the eviction of the line that this puts out, and with their marks: the line that this puts out.
+    #[inline(always)]
+    pub(crate) fn enter<B: Bank>(
+        &mut self,
+        bank: &mut B,
+        request: &Request,
+    ) -> Result<Option<LineNo>, AllocError>
+        requires lines { (B.way bank.old).lines ≡ self.old.lines }
+        requires accepted { refusal_of self.old request.now ≡ None }
+        ensures victim { IfOk result (λ v. v ≡ victim_with self.old request.now) }
+        ensures inside { OnOk result (IsLine self.old.lines (victim_with self.old request.now)) }
+        ensures used { OnOk result (self.new ≡ node_used self.old request.now) }
+        ensures same { OnErr result (self.new ≡ self.old) }
+        ensures same_node { IsSameNode self.old self.new }
+        ensures readied { IsReadied B.readies bank.old bank.new }
+        ensures kept { OnErr result ((m : ℕ) → IsSameButRoom (B.told bank.old m) (B.told bank.new m)) }
+        ensures ready { OnOk result (IsReadyFor (goal_of request.now) (B.told bank.new (line_of request.now))) }
+        ensures ready_out { IfOk result (λ v. IfSome v (λ w. IsReadyFor Goal.Evict (B.told bank.new w))) }
+    {
+        let line = request.line();
+        reserve_at(bank, line, request.need())?;
+        let victim = self.put_in(bank, request)?;
+        aim_at(bank, line, request.passes(), victim);
+        Ok(victim)
+    }
+
+    // The same, of the table alone, with room for the eviction.
+    #[inline(always)]
+    fn put_in<B: Bank>(
+        &mut self,
+        bank: &mut B,
+        request: &Request,
+    ) -> Result<Option<LineNo>, AllocError>
+        requires lines { (B.way bank.old).lines ≡ self.old.lines }
+        requires line { line_of request.now < self.old.lines }
+        ensures victim { IfOk result (λ v. v ≡ victim_with self.old request.now) }
+        ensures inside { OnOk result (IsLine self.old.lines (victim_with self.old request.now)) }
+        ensures used { OnOk result (self.new ≡ node_used self.old request.now) }
+        ensures same { OnErr result (self.new ≡ self.old) }
+        ensures same_node { IsSameNode self.old self.new }
+        ensures readied { IsReadied B.readies bank.old bank.new }
+        ensures same_receipts { (m : ℕ) → IsSameButRoom (B.told bank.old m) (B.told bank.new m) }
+        ensures room { IfOk result (λ v. IfSome v (λ w. 1 ≤ (B.told bank.new w).room)) }
+    {
+        if request.is_evict() {
+            return Ok(None);
+        }
+        let line = request.line();
+        if renew(&mut self.table, line) {
+            return Ok(None);
+        }
+        reserve_out(bank, last_of_full(&self.table))?;
+        make_recent(&mut self.table, line)
     }
 
     // Ends a call that was never opened: an eviction takes its line out.
@@ -154,8 +224,8 @@ impl Node {
     }
 
     /// One turn of the open call: of the victim's eviction, as long as there is one, whose end is Moved, and then of the
-    /// request's operation. At the end of an eviction its line leaves the table. Refusal 15 where no call is open, and only
-    /// there.
+    /// request's operation. At the end of an eviction its line leaves the table. Where the line at work has the mark and the room
+    /// that it needs, the turn keeps its receipts, as `Op::turn`. Refusal 15 where no call is open, and only there.
     #[inline(always)]
     pub fn turn<B: Bank>(&mut self, bank: &mut B) -> Result<Turn, NodeRefusal>
         requires node { (B.way bank.old).node ≡ self.old.id }
@@ -171,6 +241,8 @@ impl Node {
         ensures same_nodes { (m : ℕ) → B.nodes_on bank.new m ≡ B.nodes_on bank.old m }
         ensures same_fact { B.keep bank.new ≡ B.keep bank.old }
         ensures others { IfSome self.old.call (λ c. (m : ℕ) → m ≢ line_by c.victim c.line → B.at_step bank.new m ≡ B.at_step bank.old m) }
+        ensures kept { IfSome self.old.call (λ c. IfOk result (λ shown. KeepsTurnOf B.gives B.at_step B.told c bank.old shown bank.new)) }
+        ensures other_receipts { IfSome self.old.call (λ c. (m : ℕ) → m ≢ line_by c.victim c.line → B.told bank.new m ≡ B.told bank.old m) }
     {
         let Some(call) = &self.call else {
             return Err(NodeRefusal::NoCall);

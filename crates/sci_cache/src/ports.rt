@@ -2,6 +2,7 @@
 ghost use Rattle.std.specs.Prelude.{◌≡◌, ◌≢◌, ◌<◌, ℕ, None};
 ghost use Rattle.sci_ops.specs.Answers.{AnswersAt};
 ghost use Rattle.sci_ops.specs.Change.{StoresFitting};
+ghost use Rattle.sci_ops.specs.Kept.{KeepsAnswer};
 ghost use Rattle.sci_ops.specs.Plan.{Takes, LoadsAtMost};
 ghost use Rattle.sci_ops.specs.Room.{IsProvided, KeepsTurn};
 ghost use Rattle.sci_ops.specs.Table.{turn_of, after_turn};
@@ -11,7 +12,7 @@ use sci_ops::{Op, Turn};
 use sci_port::{At, Bank};
 use sci_words::LineNo;
 
-/// One turn of the operation on the line, over the bank's port to it: `Op::turn`. The other lines' steps stay.
+/// One turn of the operation on the line, over the bank's port to it: `Op::turn`. The other lines' steps and receipts stay.
 #[inline(always)]
 pub fn turn_at<B: Bank>(bank: &mut B, line: LineNo, op: &mut Op) -> Turn
     requires line { line < (B.way bank.old).lines }
@@ -23,6 +24,7 @@ pub fn turn_at<B: Bank>(bank: &mut B, line: LineNo, op: &mut Op) -> Turn
     ensures idle { op.old.answer ≡ None → EndsIdle result (B.at_step bank.new line) }
     ensures op { op.new ≡ after_turn op.old result }
     ensures kept { IsProvided op.old.goal op.old.answer (B.at_step bank.old line) (B.told bank.old line) → KeepsTurn (λ s call t. B.gives s line call t) (λ s. B.told s line) op.old bank.old result bank.new (B.at_step bank.new line) }
+    ensures last { KeepsAnswer op.old result (B.told bank.old line) (B.told bank.new line) }
     ensures same_way { B.way bank.new ≡ B.way bank.old }
     ensures same_nodes { (m : ℕ) → B.nodes_on bank.new m ≡ B.nodes_on bank.old m }
     ensures same_fact { B.keep bank.new ≡ B.keep bank.old }

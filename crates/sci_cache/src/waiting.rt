@@ -1,4 +1,5 @@
-//! Calls of a node that wait for their end.
+//! Calls of a node that wait for their end. Each reserves room for its receipts first, on its line and on the line that it puts
+//! out, and sets their marks. So refusal 7 changes nothing but room, and the other refusals of `begin` nothing.
 ghost use Rattle.std.specs.Prelude.{◌≡◌, ◌<◌, Some};
 ghost use Rattle.sci_ops.specs.declared.goals.Goal as goal;
 ghost use Rattle.sci_ops.specs.declared.goals.Write as write;
@@ -22,7 +23,7 @@ use std::sync::Wait;
 #[inline(never)]
 fn leave<B: Bank, R: Wait>(rt: &R, bank: &mut B, victim: LineNo)
     requires line { victim < (B.way bank.old).lines }
-    ensures { HasMadeWay B.way B.nodes_on B.keep B.gives B.at_step (Some victim) bank.old bank.new }
+    ensures { HasMadeWay B.way B.nodes_on B.keep B.gives B.readies B.at_step B.told (Some victim) bank.old bank.new }
 {
     let mut op = Op::evict();
     let backoff = Backoff::new();
@@ -40,7 +41,7 @@ fn leave<B: Bank, R: Wait>(rt: &R, bank: &mut B, victim: LineNo)
 #[inline(always)]
 fn make_way<B: Bank, R: Wait>(rt: &R, bank: &mut B, victim: Option<LineNo>)
     requires line { IsLine (B.way bank.old).lines victim }
-    ensures { HasMadeWay B.way B.nodes_on B.keep B.gives B.at_step victim bank.old bank.new }
+    ensures { HasMadeWay B.way B.nodes_on B.keep B.gives B.readies B.at_step B.told victim bank.old bank.new }
 {
     let Some(victim) = victim else {
         return;
@@ -62,9 +63,11 @@ impl Node {
         requires fits { StoresFitting (B.Keep.fits (B.keep bank.old) (line_of request)) (goal_of request) }
         ensures { HasCalled B.way B.nodes_on B.keep B.Keep.fits B.gives B.readies B.at_step B.told self.old request bank.old result bank.new self.new }
     {
-        let victim = match self.admit(&request) {
-            Ok(victim) => victim,
-            Err(refusal) => return Err(refusal),
+        if let Some(refusal) = self.refusal(&request) {
+            return Err(refusal);
+        }
+        let Ok(victim) = self.enter(bank, &request) else {
+            return Err(NodeRefusal::OutOfMemory);
         };
         make_way(rt, bank, victim);
         let line = request.line();
@@ -86,7 +89,7 @@ impl Node {
         unreachable!()
     }
 
-    /// Sees the line: Seen, with words that fit. It may wait for ever. The refusals: those of `begin`, which change nothing.
+    /// Sees the line: Seen, with words that fit. It may wait for ever. The refusals: those of `begin`.
     #[inline(always)]
     pub fn load<B: Bank, R: Wait>(
         &mut self,
@@ -101,8 +104,8 @@ impl Node {
         self.call(rt, bank, Request::Load { line })
     }
 
-    /// Replaces a word, 0 to 7, by this value: Wrote. It may wait for ever. The refusals: those of `begin`, which change nothing,
-    /// and 11 for a line whose stamp counts no more writes, which keeps its words.
+    /// Replaces a word, 0 to 7, by this value: Wrote. It may wait for ever. The refusals: those of `begin`, and
+    /// 11 for a line whose stamp counts no more writes, which keeps its words.
     #[inline(always)]
     pub fn store<B: Bank, R: Wait>(
         &mut self,
@@ -120,8 +123,8 @@ impl Node {
         self.call(rt, bank, Request::Store { line, word, value })
     }
 
-    /// Adds this number to a word, 0 to 7, modulo 2 to the 64: Wrote. It may wait for ever. The refusals: those of `begin`, which
-    /// change nothing, and 11 for a line whose stamp counts no more writes, which keeps its words.
+    /// Adds this number to a word, 0 to 7, modulo 2 to the 64: Wrote. It may wait for ever. The refusals: those of `begin`, and 11
+    /// for a line whose stamp counts no more writes, which keeps its words.
     #[inline(always)]
     pub fn add<B: Bank, R: Wait>(
         &mut self,
@@ -139,8 +142,8 @@ impl Node {
         self.call(rt, bank, Request::Add { line, word, delta })
     }
 
-    /// Replaces all eight words: Wrote. It may wait for ever. The refusals: those of `begin`, which change nothing, and 11 for a
-    /// line whose stamp counts no more writes, which keeps its words.
+    /// Replaces all eight words: Wrote. It may wait for ever. The refusals: those of `begin`, and 11 for a line whose
+    /// stamp counts no more writes, which keeps its words.
     #[inline(always)]
     pub fn write_line<B: Bank, R: Wait>(
         &mut self,
@@ -158,7 +161,7 @@ impl Node {
     }
 
     /// Leaves the line's sharing list, and takes the line out of the table: Out. It may wait for ever. The refusals: those of
-    /// `begin`, which change nothing.
+    /// `begin`.
     #[inline(always)]
     pub fn evict<B: Bank, R: Wait>(
         &mut self,

@@ -3,7 +3,7 @@ use Rattle.sci_ops.specs.Change.{StoresFitting}
 use Rattle.sci_ops.specs.Plan.{LoadsAtMost}
 use Rattle.sci_ops.specs.Table.{turn_of}
 use Rattle.sci_cache.proofs.Leaving.{ends_idle}
-use Rattle.sci_cache.proofs.Through.{turn_through, answer_through, chain_keeps, shows_answer, owes_fit}
+use Rattle.sci_cache.proofs.Through.{turn_through, answer_through, chain_keeps, chain_line, kept_through, last_through, shows_answer, owes_fit}
 use Rattle.sci_cache.proofs.ports.turn_at.Goals as goal
 
 pub new-requires : goal.new-requires
@@ -52,3 +52,18 @@ pub returns-clause-loads : goal.returns-clause-loads
 returns-clause-loads g c =
     subst (λ u. LoadsAtMost 3 (turn_of c.args.op.now (g.B.Bank.way u).node (g.B.Bank.at_step u c.args.line))) c.new.ensures.same_bank
     (subst (λ (l : ℕ). LoadsAtMost 3 (turn_of c.args.op.now (g.B.Bank.way c.new.result.bank.now).node (g.B.Bank.at_step c.new.result.bank.now l))) c.new.ensures.line c.turn.ensures.loads)
+
+pub returns-clause-kept : goal.returns-clause-kept
+returns-clause-kept g c =
+    let same = chain_line _ g.B.Bank.gives (λ x. x.bank.now) (λ x. x.line) (λ s call t h. (h.0, h.2)) g.B.Bank.at_step g.B.Bank.told c.turn.ensures.calls.calls c.new.result c.turn.new.port c.turn.ensures.calls.chain in
+    kept_through _ g.B.Bank.gives (λ x. x.bank.now) (λ x. x.line) (λ s call t h. (h.0, h.2)) g.B.Bank.at_step g.B.Bank.told c.args.op.now c.turn.result c.new.result c.turn.new.port same c.args.line c.args.bank.now _ c.new.ensures.line c.new.ensures.same_bank (search rules) c.turn.ensures.kept
+
+pub returns-clause-last : goal.returns-clause-last
+returns-clause-last g c =
+    let same = chain_line _ g.B.Bank.gives (λ x. x.bank.now) (λ x. x.line) (λ s call t h. (h.0, h.2)) g.B.Bank.at_step g.B.Bank.told c.turn.ensures.calls.calls c.new.result c.turn.new.port c.turn.ensures.calls.chain in
+    last_through (λ x. x.bank.now) (λ x. x.line) g.B.Bank.told c.args.op.now c.turn.result c.new.result c.turn.new.port same c.args.line c.args.bank.now _ c.new.ensures.line c.new.ensures.same_bank (search rules) c.turn.ensures.last
+
+pub returns-clause-other_receipts : goal.returns-clause-other_receipts
+returns-clause-other_receipts g c = λ m other.
+    let h = turn_through _ g.B.Bank.gives (λ x. x.bank.now) (λ x. x.line) (λ s call t h. (h.0, h.2)) (λ u. (g.B.Bank.way u).node) g.B.Bank.at_step c.args.op.now c.turn.result c.args.line c.new.result c.turn.new.port c.args.bank.now _ c.new.ensures.line c.new.ensures.same_bank (search rules) c.turn.ensures.calls in
+    chain_keeps g.B.Bank.gives c.args.line (λ u. g.B.Bank.told u m) (λ u call v k. (g.met.B.Bank.receives u c.args.line call v k).others m other) h.calls c.args.bank.now _ h.chain
