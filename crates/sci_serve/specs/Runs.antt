@@ -1,5 +1,5 @@
 -- What the command `run` writes. This project's profile.
-use Rattle.std.specs.Prelude.{◌≡◌, ℕ, ◌+◌, ◌*◌, ◌/◌, ◌<◌, ◌≤◌, List, [], ◌++◌, length, take, codes, Some, Bool, IsUtf8, if◌then◌else◌}
+use Rattle.std.specs.Prelude.{◌≡◌, ℕ, ◌+◌, ◌*◌, ◌/◌, ◌%◌, ◌^◌, ◌<◌, ◌≤◌, List, [], ◌++◌, length, take, codes, Some, Bool, IsUtf8, if◌then◌else◌}
 use Rattle.sci_core.specs.Closed.{ClosedLine}
 use Rattle.sci_script.specs.declared.refusals.ScriptRefusal.TheVariants.{OutOfMemory, BadCommand, BadNumber, NotDone, WriteFailed}
 use Rattle.sci_words.specs.declared.layouts.Layout.TheVariants.{Two}
@@ -37,7 +37,7 @@ IsTextOf (Stencil nodes capacity phases cells dump) text =
 IsTextOf (Ring lines capacity items dump) text =
     (closed : List ClosedLine) × AreClosed (FitsRing items lines) (lines + 1) closed × HaveNodes 2 closed × (text ≡ list_line (codes "items") items ++ dump_part dump 2 closed)
 IsTextOf (Count nodes adds capacity dump) text =
-    (closed : List ClosedLine) × (word : ℕ) × IsCounted word closed × HaveNodes nodes closed × (text ≡ count_line word ++ dump_part dump nodes closed)
+    (closed : List ClosedLine) × IsCounted ((nodes * adds) % 2 ^ 64) closed × HaveNodes nodes closed × (text ≡ count_line ((nodes * adds) % 2 ^ 64) ++ dump_part dump nodes closed)
 
 -- the input is a text of settings, and this is what their run prints
 abbrev pub Runs : List ℕ → List ℕ → Type 0

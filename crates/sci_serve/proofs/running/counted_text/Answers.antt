@@ -1,7 +1,8 @@
-use Rattle.std.proofs.Common.{◌∙◌, ◌≤◌, ◌++◌, ℕ, List, length, subst, sym, ap, arith}
+use Rattle.std.proofs.Common.{◌∙◌, ◌≤◌, ◌++◌, ◌*◌, ◌%◌, ◌^◌, ℕ, List, length, subst, sym, ap, arith}
 use Rattle.sci_core.specs.Closed.{ClosedLine}
 use Rattle.sci_work.specs.Ended.{HaveNodes, IsCounted}
 use Rattle.sci_serve.specs.Runs.{dump_part}
+use Rattle.sci_serve.specs.Works.{count_line}
 use Rattle.sci_serve.proofs.running.counted_text.Goals as goal
 
 pub push_dump-requires-clause-lines : goal.push_dump-requires-clause-lines
@@ -17,11 +18,10 @@ push_dump-requires-clause-nodes g c =
 pub returns-clause-ok : goal.returns-clause-ok
 returns-clause-ok g c =
     let closed = c.deref.result.now in
-    let word = c.in_ok-word.word in
+    let total = (c.args.nodes * c.args.adds) % 2 ^ 64 in let is = c.in_ok-word.ensures.total in
     let have = subst (λ (cs : List ClosedLine). HaveNodes c.args.nodes cs) (sym c.deref.ensures.value) c.in_ok-word.ensures.nodes in (
       closed,
-      word,
-      subst (λ (cs : List ClosedLine). IsCounted word cs) (sym c.deref.ensures.value) c.in_ok-word.ensures.ok,
+      subst (λ (cs : List ClosedLine). IsCounted total cs) (sym c.deref.ensures.value) (subst (λ (n : ℕ). IsCounted n c.in_ok-word.lines.items) is c.in_ok-word.ensures.ok),
       have,
-      c.in_ok-push_dump.ensures c.args.nodes have ∙ ap (λ (text : List ℕ). text ++ dump_part c.args.dump c.args.nodes closed) c.in_ok-text.ensures,
+      c.in_ok-push_dump.ensures c.args.nodes have ∙ ap (λ (text : List ℕ). text ++ dump_part c.args.dump c.args.nodes closed) (c.in_ok-text.ensures ∙ ap count_line is),
     )
