@@ -66,6 +66,7 @@ CASES = [
     *[(["trace", "--why"], script, 1, Traced(text), refused(rest) + why + "\n") for script, rest, why, text in REASONS],
     *[(["draw", "--why"], script, 1, Drawn(text), refused(rest) + why + "\n") for script, rest, why, text in REASONS],
     *[(["outcomes", "--why"], script, 1, "", refused(rest) + why + "\n") for script, rest, why, _ in REASONS],
+    *[(["play", "--why"], script, 1, "", refused(rest) + why + "\n") for script, rest, why, _ in REASONS],
     (["script", "--why"], ROW, 0, TEXT, ""),
     (["script", "--why", "row"], "", 0, TEXT, ""),
     (["script", "bad", "--why"], "", 1, "", refused("17 at line 1") + "word 2: a number from 1 to 1024 wanted\n"),
@@ -81,5 +82,13 @@ CASES = [
     (["talk", "--why"], SAID, 0, ANSWERED, WHYS),
     (["talk", "--why"], AT_LIMIT + "xx\n" + AT_LIMIT + "x\n", 0, "refused 16\nrefused 16\n", "a line of more than 1048576 bytes\n" * 2),
     (["talk", "--why"], UNENDED, 0, "ok\nok\nnode 0 wrote stamp 1\nok\nok\nok\nok\nrefused 18\n", "node 1 waits for node 0\n"),
+    # A carriage return is part of a line that has no end.
+    (
+        ["talk", "--why"],
+        "memory 1 1\r\nlode\r\nlode\r",
+        0,
+        "ok\nrefused 16\nrefused 16\n",
+        "unknown command\na byte that is no printable ASCII\n",
+    ),
     (["talk", "--why"], "memory 1 1\nlode\nlist 0\n", 0, "ok\nrefused 16\nline 0 HOME\nok\n", CLOSED),
 ]

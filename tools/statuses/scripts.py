@@ -188,6 +188,8 @@ CASES += [
     (["talk"], "list 0\nmemory 0 1\nmemory 1 1\nmemory 1 1\nlist 0", 0, "refused 16\nrefused 17\nok\nrefused 16\nline 0 HOME\nok\n", ""),
     (["talk"], UNENDED + "done 0\n", 0, "ok\nok\nnode 0 wrote stamp 1\nok\nok\nok\nok\nrefused 18\nnode 0 wrote stamp 2\nok\n", ""),
     (["talk"], AT_LIMIT + "\n" + AT_LIMIT + " \n" + ROW, 0, "ok\nrefused 16\n" + TALKED, ""),
+    # More than 1,000 reads: a talk has no end but that of its input.
+    (["talk"], ("#" + " " * 4094 + "\n") * 1500 + ROW, 0, "ok\n" * 1500 + TALKED, ""),
     (["talk"], Broken("memory 1 1\nlist 0\nlist"), 1, "ok\nline 0 HOME\nok\n", READ),
     (["talk"], FOLDER, 1, "", READ),
     (["talk"], CLOSED, 1, "", READ),
