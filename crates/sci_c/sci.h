@@ -69,7 +69,7 @@ typedef struct {       /* an event. What an event doesn't have is 0 */
 typedef struct {            /* a row of the table, but for lines */
     uint16_t word;          /* whose tag is changed, or SCI_MEMORY: memory's word */
     uint8_t carry, answers; /* SCI_STAYS, SCI_TAKES, SCI_GIVES; 1: the line taken or given is answered */
-    uint16_t slot;          /* whose slot moves, or SCI_MEMORY */
+    uint16_t slot;          /* whose slot moves, or SCI_MEMORY; 0 where none moves */
     uint64_t before, after; /* the code to be found, and the one put in its place */
     sci_step step;          /* the actor's step after */
 } sci_row;
