@@ -6,7 +6,7 @@ ghost use Rattle.sci_core.specs.declared.receipts.Receipt.TheVariants.{Read, Pas
 ghost use Rattle.sci_port.specs.declared.calls.Call.TheVariants.{Stepped};
 ghost use Rattle.sci_port.specs.KeepsTo.{is_passed};
 ghost use Rattle.sci_port.specs.Readying.{no_receipts};
-ghost use Rattle.sci_port.specs.ReceiptList.{Appends, CountsOver, HasRoom, Receives, Replaces, Settles, WritesOver, keeps, last_passed, line_before, replaces};
+ghost use Rattle.sci_port.specs.ReceiptList.{Appends, CountsOver, HasRoom, Receives, ReceivesIfRoom, Replaces, Settles, WritesOver, keeps, last_passed, line_before, replaces};
 
 use sci_core::{Event, Line, Outcome, Pending, Receipt};
 use std::alloc::{AllocError, Global};
@@ -135,6 +135,25 @@ impl Receipts {
         self.receive(event, &before, outcome);
     }
 
+    // The same, if the event `keeps` its receipt (`is_kept`), and else nothing.
+    #[tactic(auto, using(crate::proofs::Before::room_to_keep, crate::proofs::Before::kept_so, crate::proofs::Before::unkept))]
+    #[inline(always)]
+    pub(crate) fn keep_if(
+        &mut self,
+        is_kept: bool,
+        step: &Pending,
+        event: &Event,
+        outcome: &Outcome,
+    )
+        requires allowed { (n : ℕ) × (me : ℕ) × (is_allowed n me step.now event.now ≡ true) }
+        requires asked { is_kept ≡ keeps event.now self.old }
+        ensures { ReceivesIfRoom step.now (Stepped event.now outcome.now) self.old self.new }
+    {
+        if is_kept {
+            self.keep(step, event, outcome);
+        }
+    }
+
     /// The receipts, in order.
     pub fn as_slice(&self) -> &[Receipt]
         ensures { result.now ≡ self.now.list }
@@ -169,24 +188,22 @@ impl Receipts {
     }
 
     // The node was given the line.
-    #[inline(always)]
-    fn read(&mut self, line: &Line)
+    #[inline(never)]
+    fn read(&mut self, line: Line)
         requires { 0 < self.old.room }
-        ensures { Appends self.old (Read line.now.words line.now.stamp) self.new }
+        ensures { Appends self.old (Read line.words line.stamp) self.new }
     {
-        self.list.push_reserved(Receipt::Read {
-            words: line.words,
-            stamp: line.stamp,
-        });
+        let Line { words, stamp } = line;
+        self.list.push_reserved(Receipt::Read { words, stamp });
     }
 
     // The node settled with the line.
-    #[inline(always)]
-    fn settled(&mut self, line: &Line)
+    #[inline(never)]
+    fn settled(&mut self, line: Line)
         requires { replaces self.old ≡ false → 0 < self.old.room }
-        ensures { Settles self.old.passing (last_passed self.old.list) self.old line.now self.new }
+        ensures { Settles self.old.passing (last_passed self.old.list) self.old line self.new }
     {
-        let Line { words, stamp } = *line;
+        let Line { words, stamp } = line;
         if !self.passing {
             self.push(Receipt::Read { words, stamp });
         } else if self.last_passed() {
@@ -197,16 +214,20 @@ impl Receipts {
     }
 
     // The node wrote these words over the line.
-    #[inline(always)]
-    fn wrote(&mut self, before: &Line, words: &[u64; 8])
+    #[inline(never)]
+    fn wrote(&mut self, before: Line, words: [u64; 8])
         requires room { 0 < self.old.room }
-        requires counts { before.now.stamp < 18446744073709551615 }
-        ensures { Appends self.old (Wrote before.now.words words.now (before.now.stamp + 1)) self.new }
+        requires counts { before.stamp < 18446744073709551615 }
+        ensures { Appends self.old (Wrote before.words words (before.stamp + 1)) self.new }
     {
+        let Line {
+            words: replaced,
+            stamp,
+        } = before;
         self.list.push_reserved(Receipt::Wrote {
-            before: before.words,
-            words: *words,
-            stamp: before.stamp + 1,
+            before: replaced,
+            words,
+            stamp: stamp + 1,
         });
     }
 
@@ -224,17 +245,30 @@ impl Receipts {
             match event {
                 Event::Unhold => {
                     if let Some(line) = answer {
-                        self.read(line);
+                        self.read(*line);
                     }
                 }
                 Event::Settle => {
                     if let Some(line) = answer {
-                        self.settled(line);
+                        self.settled(*line);
                     }
                 }
-                Event::Written(Some(words)) => self.wrote(before, words),
+                Event::Written(Some(words)) => self.wrote(*before, *words),
                 _ => (),
             }
+        }
+    }
+
+    /// The same, if the event `keeps` its receipt (`is_kept`), and else nothing.
+    #[tactic(auto, using(crate::proofs::Before::room_to_keep, crate::proofs::Before::kept_so, crate::proofs::Before::unkept))]
+    #[inline(always)]
+    pub fn receive_if(&mut self, is_kept: bool, event: &Event, before: &Line, outcome: &Outcome)
+        requires asked { is_kept ≡ keeps event.now self.old }
+        requires counts { CountsOver event.now before.now }
+        ensures { (p : Pending) → WritesOver p event.now before.now → ReceivesIfRoom p (Stepped event.now outcome.now) self.old self.new }
+    {
+        if is_kept {
+            self.receive(event, before, outcome);
         }
     }
 }

@@ -5,7 +5,7 @@ ghost use Rattle.sci_core.specs.Whole.{WholeLine};
 ghost use Rattle.sci_port.specs.Banks.{AreLinesOf, GivesAt, lent_lines, lent_way, nodes_at, step_at};
 ghost use Rattle.sci_port.specs.declared.calls.Call.TheVariants.{Stepped};
 ghost use Rattle.sci_port.specs.Readying.{ChangesAt, Readies, receipts_at};
-ghost use Rattle.sci_port.specs.ReceiptList.{HasRoom, Receives, ReceivesIfRoom};
+ghost use Rattle.sci_port.specs.ReceiptList.{ReceivesIfRoom, keeps};
 
 use crate::bank::Bank;
 use crate::receipts::Receipts;
@@ -88,6 +88,24 @@ impl<K: Keeps> SoloBank<K> {
 }
 
 impl<K: Keeps> SoloBank<K> {
+    // The node's pending step on the line.
+    #[inline(always)]
+    fn step_on(&self, line: LineNo) -> Pending
+        requires { line < length self.now.wholes.items }
+        ensures { result ≡ step_at (lent_lines self.now.keep self.now.node self.now.wholes.items) line }
+    {
+        self.wholes[usize::from(line)].pending(self.node)
+    }
+
+    // The event has a receipt, and there is room for it on the line.
+    #[inline(always)]
+    fn keeps(&self, line: LineNo, event: &Event) -> bool
+        requires { line < length self.now.wholes.items }
+        ensures { result ≡ keeps event.now (receipts_at self.now.receipts.items line) }
+    {
+        self.receipts[usize::from(line)].keeps(event)
+    }
+
     // An event on the line that the node's pending step there allows, without its receipt.
     #[inline(always)]
     fn make(&mut self, line: LineNo, event: Event) -> Outcome
@@ -102,23 +120,6 @@ impl<K: Keeps> SoloBank<K> {
         step_lent(&mut wholes[usize::from(line)], me, event)
     }
 
-    // The same, with its receipt.
-    fn make_kept(&mut self, line: LineNo, event: Event) -> Outcome
-        requires line { line < length self.old.wholes.items }
-        requires allowed { is_allowed (nodes_at (lent_lines self.old.keep self.old.node self.old.wholes.items) line) self.old.node (step_at (lent_lines self.old.keep self.old.node self.old.wholes.items) line) event ≡ true }
-        requires fits { FitsEvent (K.fits self.old.keep line) event }
-        requires room { HasRoom event (receipts_at self.old.receipts.items line) }
-        ensures gives { GivesAt K.fits (lent_lines self.old.keep self.old.node self.old.wholes.items) line (Stepped event result) (lent_lines self.new.keep self.new.node self.new.wholes.items) }
-        ensures received { ChangesAt (Receives (step_at (lent_lines self.old.keep self.old.node self.old.wholes.items) line) (Stepped event result)) (λ m. receipts_at self.old.receipts.items m) line (λ m. receipts_at self.new.receipts.items m) }
-    {
-        let before = Bank::pending(self, line);
-        let asked = event;
-        let outcome = self.make(line, event);
-        let receipts = self.receipts.as_mut_slice();
-        receipts[usize::from(line)].keep(&before, &asked, &outcome);
-        outcome
-    }
-
     // The same, with its receipt where there is room for one.
     #[inline(always)]
     fn make_in_room(&mut self, line: LineNo, event: Event) -> Outcome
@@ -128,11 +129,13 @@ impl<K: Keeps> SoloBank<K> {
         ensures gives { GivesAt K.fits (lent_lines self.old.keep self.old.node self.old.wholes.items) line (Stepped event result) (lent_lines self.new.keep self.new.node self.new.wholes.items) }
         ensures receives { ChangesAt (ReceivesIfRoom (step_at (lent_lines self.old.keep self.old.node self.old.wholes.items) line) (Stepped event result)) (λ m. receipts_at self.old.receipts.items m) line (λ m. receipts_at self.new.receipts.items m) }
     {
-        if self.receipts[usize::from(line)].keeps(&event) {
-            self.make_kept(line, event)
-        } else {
-            self.make(line, event)
-        }
+        let keeps = self.keeps(line, &event);
+        let before = self.step_on(line);
+        let asked = event;
+        let outcome = self.make(line, event);
+        let receipts = self.receipts.as_mut_slice();
+        receipts[usize::from(line)].keep_if(keeps, &before, &asked, &outcome);
+        outcome
     }
 }
 
@@ -188,7 +191,7 @@ impl<K: Keeps> Bank for SoloBank<K> {
     fn pending(&self, line: LineNo) -> Pending {
         // It is sound, as `stage` says.
         let _ = self.stage(line);
-        self.wholes[usize::from(line)].pending(self.node)
+        self.step_on(line)
     }
 
     fn stage(&self, line: LineNo) -> Stage {

@@ -1,16 +1,7 @@
-use Rattle.std.proofs.Common.{◌≡◌}
-use Rattle.sci_core.specs.Whole.{state_of}
-use Rattle.sci_port.specs.Banks.{LentLines, lent_lines, step_at}
-use Rattle.sci_port.proofs.Banked.{holds_of_read, node_below}
 use Rattle.sci_port.proofs.solo_bank.SoloBankBank.pending.Goals as goal
 
 pub returns-clause-value : goal.returns-clause-value
-returns-clause-value g c =
-    let s : LentLines _ = lent_lines c.args.self.now.keep c.args.self.now.node c.args.self.now.wholes.items in
-    holds_of_read g.K.Keeps.fits s c.args.line c.requires c.args.self.now.of (λ w. c.pending.result ≡ (state_of w).steps s.node → c.pending.result ≡ step_at s c.args.line) c.from.result c.index.result.now c.index.result.now c.from.ensures c.index.ensures (λ e. e) c.pending.ensures
+returns-clause-value g c = c.step_on.ensures
 
 pub returns-clause-sound : goal.returns-clause-sound
-returns-clause-sound g c = rw (returns-clause-value g c) c.stage.ensures.sound
-
-pub pending-requires : goal.pending-requires
-pending-requires g c = node_below g.K.Keeps.fits (lent_lines c.args.self.now.keep c.args.self.now.node c.args.self.now.wholes.items) c.args.line c.requires c.args.self.now.of c.from.result c.index.result.now c.index.result.now c.from.ensures c.index.ensures
+returns-clause-sound g c = rw c.step_on.ensures c.stage.ensures.sound
