@@ -4,6 +4,7 @@ pub mod Noted
 pub mod Unheld
 pub mod Spending
 pub mod Providing
+pub mod SoFar
 pub mod Carried
 pub mod Took
 pub mod Short

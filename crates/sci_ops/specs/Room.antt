@@ -68,3 +68,8 @@ pub record KeepsTurn {S : Type 0} (gives : S → Call → S → Type 0) (told : 
   pub provided : IsProvided op.goal (after_turn op turn).answer p (told t)
   pub writes : writes_in (told t).list ≡ writes_in (told s).list ++ adds op.goal op.answer turn
   pub extends : Extends (told s).list (told t).list
+
+-- so far, or to its end, an operation that had the room added its own answer alone to the writes, and what stood in the list stands there
+pub record KeepsSoFar (op : Operation) (s : ReceiptList) (turn : Turn) (t : ReceiptList) : Type 0 where
+  pub writes : writes_in t.list ≡ writes_in s.list ++ adds op.goal op.answer turn
+  pub extends : Extends s.list t.list

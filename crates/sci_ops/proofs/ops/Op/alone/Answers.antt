@@ -9,6 +9,7 @@ use Rattle.sci_ops.specs.Table.{after_turn}
 use Rattle.sci_ops.proofs.Ending.Falls.{alone_at_rest, bound_at_rest}
 use Rattle.sci_ops.proofs.Ending.Turning.{turns}
 use Rattle.sci_ops.proofs.Less.{takes_less}
+use Rattle.sci_ops.proofs.SoFar.{goes_so_far, none_so_far, still_given}
 use Rattle.sci_ops.proofs.Staged.{stores_on}
 use Rattle.sci_ops.proofs.ops.Op.alone.Goals as goal
 
@@ -18,6 +19,7 @@ turns-init g c = record {
   same_way = refl;
   same_fact = refl;
   turns = (0, omega arith, no_turn);
+  kept = λ given. (given, none_so_far c.args.self.now c.args.solo.now.receipts.now);
   alone = alone_at_rest _ _ _ _ c.requires.rest;
   cost = omega arith;
 }
@@ -37,6 +39,10 @@ turns-preserved g c =
       same_way = c.in-Moved.ensures.same_way ∙ i.same_way;
       same_fact = c.in-Moved.ensures.same_fact ∙ i.same_fact;
       turns = (suc i.turns.0, omega (arith, i.turns.1), turn i.turns.2 h.0);
+      kept = λ given.
+          let k = i.kept given in
+          let t = c.in-Moved.ensures.kept k.0 in
+          (still_given c.turns.self c.turn.new.self _ _ c.in-Moved.ensures.op t.provided, goes_so_far c.args.self.now c.turns.self _ _ _ Turn.Moved i.same_op k.1 t.writes t.extends);
       alone = h.1.0;
       cost = omega (arith, h.1.1, i.cost);
     }
@@ -61,6 +67,7 @@ returns-in-Done g c =
       bound = omega (arith, h.1.0, i.cost, bound);
       op = c.in-Done.ensures.op ∙ ap (λ (x : Operation). after_turn x (Turn.Done c.in-Done.answer)) i.same_op;
       rest = h.1.1;
+      kept = λ given. let k = i.kept given in let t = c.in-Done.ensures.kept k.0 in goes_so_far c.args.self.now c.turns.self _ _ _ (Turn.Done c.in-Done.answer) i.same_op k.1 t.writes t.extends;
       same_way = c.in-Done.ensures.same_way ∙ i.same_way;
       same_fact = c.in-Done.ensures.same_fact ∙ i.same_fact;
     }
