@@ -17,3 +17,4 @@ pub mod Telling
 pub mod Appending
 pub mod KeptAll
 pub mod KeptBank
+pub mod Writing

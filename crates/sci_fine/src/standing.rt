@@ -1,6 +1,6 @@
 //! A node's pending step, on the terms of its line.
 ghost use Rattle.std.specs.Prelude.{◌≡◌, true};
-ghost use Rattle.sci_core.specs.Stage.{outline_of, stage_of};
+ghost use Rattle.sci_core.specs.Stage.{outline_of, pending_of, stage_of};
 ghost use Rattle.sci_core.specs.Step.{look_of};
 ghost use Rattle.sci_core.specs.Table.{has_row, row_of};
 ghost use Rattle.sci_core.specs.declared.pending.Pending.TheVariants.{Idle};
@@ -82,6 +82,14 @@ impl<K: Keeps> Standing<K> {
         ensures standing { IsStanding self.now.terms.nodes (K.fits self.now.terms.keep self.now.terms.number) self.now.node result }
     {
         self.stage.with(&self.line)
+    }
+
+    // The line that the step keeps; any line, where it keeps none.
+    #[inline(always)]
+    pub(crate) fn line(&self) -> Line
+        ensures { self.now.pending ≡ pending_of (stage_of self.now.pending) result }
+    {
+        self.line
     }
 
     // The exchange that an allowed event asks for, but for lines.

@@ -3,7 +3,6 @@ ghost use Rattle.std.specs.Prelude.{◌≡◌, ◌<◌, Some, true};
 ghost use Rattle.sci_core.specs.Answers.{is_allowed, FitsEvent};
 ghost use Rattle.sci_core.specs.Table.{has_row};
 ghost use Rattle.sci_port.specs.declared.calls.Call.TheVariants.{Own, MemWas, TagWas, Stepped};
-ghost use Rattle.sci_port.specs.ReceiptList.{HasRoom, Receives};
 ghost use Rattle.sci_fine.specs.Seats.{IsSeatOf, HasMade, HasReceived};
 ghost use Rattle.sci_fine.specs.Steps.{IsLook};
 
@@ -107,21 +106,6 @@ impl<K: Keeps> Seat<K> {
         }
     }
 
-    // The same, with its receipt.
-    fn make_kept(&mut self, line: &FineLine<K>, event: Event) -> Outcome
-        requires of { IsSeatOf line.now self.old }
-        requires allowed { is_allowed self.old.standing.terms.nodes self.old.standing.node self.old.standing.pending event ≡ true }
-        requires fits { FitsEvent (K.fits self.old.standing.terms.keep self.old.standing.terms.number) event }
-        requires room { HasRoom event self.old.receipts }
-        ensures made { HasMade K.fits self.old (Stepped event result) self.new }
-        ensures received { Receives self.old.standing.pending (Stepped event result) self.old.receipts self.new.receipts }
-    {
-        let before = self.standing.pending();
-        let outcome = self.make(line, &event);
-        self.receipts.keep(&before, &event, &outcome);
-        outcome
-    }
-
     // An event of the node that its pending step allows: its receipt is kept where there is room for one.
     #[inline(always)]
     pub(crate) fn step(&mut self, line: &FineLine<K>, event: &Event) -> Outcome
@@ -131,10 +115,10 @@ impl<K: Keeps> Seat<K> {
         ensures made { HasMade K.fits self.old (Stepped event.now result) self.new }
         ensures receives { HasReceived self.old (Stepped event.now result) self.new }
     {
-        if self.receipts.keeps(event) {
-            self.make_kept(line, *event)
-        } else {
-            self.make(line, event)
-        }
+        let keeps = self.receipts.keeps(event);
+        let before = self.standing.line();
+        let outcome = self.make(line, event);
+        self.receipts.receive_if(keeps, event, &before, &outcome);
+        outcome
     }
 }

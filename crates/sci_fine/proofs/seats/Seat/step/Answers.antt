@@ -1,23 +1,25 @@
-use Rattle.std.proofs.Common.{◌∙◌, sym, subst}
+use Rattle.std.proofs.Common.{◌∙◌, ap, sym, subst}
 use Rattle.sci_port.specs.declared.calls.Call.TheVariants.{Stepped}
-use Rattle.sci_port.specs.ReceiptList.{ReceiptList, ReceivesIfRoom}
-use Rattle.sci_port.proofs.Before.{kept_so, room_to_keep, unkept}
+use Rattle.sci_port.specs.ReceiptList.{ReceiptList, ReceivesIfRoom, keeps}
+use Rattle.sci_fine.proofs.Writing.{writes_kept}
 use Rattle.sci_fine.proofs.seats.Seat.step.Goals as goal
 
-pub make_kept-requires : goal.make_kept-requires
-make_kept-requires g c =
+pub receive_if-requires : goal.receive_if-requires
+receive_if-requires g c =
     let s = c.args.self.now in
-    record { of = c.requires.of; allowed = c.requires.allowed; fits = c.requires.fits; room = room_to_keep c.args.event.now s.receipts (sym c.keeps.ensures ∙ c.if-keeps.true) }
-
-pub returns-then-keeps : goal.returns-then-keeps
-returns-then-keeps g c =
-    let s = c.args.self.now in
-    record { made = c.make_kept.ensures.made; receives = kept_so s.standing.pending c.args.event.now c.make_kept.result s.receipts c.make_kept.new.self.receipts (sym c.keeps.ensures ∙ c.if-keeps.true) c.make_kept.ensures.received }
-
-pub returns-else-keeps : goal.returns-else-keeps
-returns-else-keeps g c =
-    let s = c.args.self.now in let p = s.standing.pending in
     record {
-      made = c.make.ensures.made;
-      receives = subst (λ (r : ReceiptList). ReceivesIfRoom p (Stepped c.args.event.now c.make.result) s.receipts r) (sym c.make.ensures.kept) (unkept p c.args.event.now c.make.result s.receipts (sym c.keeps.ensures ∙ c.if-keeps.false));
+      asked = c.keeps-keeps.ensures ∙ ap (λ (r : ReceiptList). keeps c.args.event.now r) (sym c.make-outcome.ensures.kept);
+      counts = (writes_kept s.standing.terms.nodes s.standing.node s.standing.pending c.args.event.now c.line-before.result c.requires.allowed c.line-before.ensures).1;
+    }
+
+pub invariant_of-self : goal.invariant_of-self
+invariant_of-self g c = let t = c.make-outcome.new.self in record { of = t.of; seen = t.seen; hand = t.hand; below = t.below }
+
+pub returns : goal.returns
+returns g c =
+    let s = c.args.self.now in let h = c.make-outcome.ensures.made in let p = s.standing.pending in
+    let over = (writes_kept s.standing.terms.nodes s.standing.node p c.args.event.now c.line-before.result c.requires.allowed c.line-before.ensures).0 in
+    record {
+      made = record { same = h.same; came = h.came; owes = h.owes };
+      receives = subst (λ (r : ReceiptList). ReceivesIfRoom p (Stepped c.args.event.now c.make-outcome.result) r c.receive_if.new.self) c.make-outcome.ensures.kept (c.receive_if.ensures p over);
     }
