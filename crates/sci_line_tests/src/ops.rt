@@ -4,6 +4,7 @@ ghost use Rattle.sci_core.specs.Whole.{state_of};
 ghost use Rattle.sci_ops.specs.Alone.{IsAtRest};
 
 mod memory;
+mod needs;
 mod replays;
 
 use crate::checks::{same, same_at};
