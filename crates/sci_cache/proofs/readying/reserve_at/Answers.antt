@@ -1,4 +1,4 @@
-use Rattle.std.proofs.Common.{◌≤◌, ℕ, is_ok, refl, sym, subst}
+use Rattle.std.proofs.Common.{◌≤◌, ℕ, is_ok, refl, subst}
 use Rattle.sci_port.specs.KeepsAll.{as_it_was}
 use Rattle.sci_port.specs.Readying.Readying.{Reserved}
 use Rattle.sci_port.proofs.KeepsAll.{readied_once}

@@ -1,4 +1,4 @@
-use Rattle.std.proofs.Common.{◌≡◌, ◌≤◌, Option, IfSome, OnOk, ℕ, refl, sym, subst}
+use Rattle.std.proofs.Common.{◌≤◌, Option, IfSome, OnOk, ℕ, refl, sym, subst}
 use Rattle.sci_port.specs.KeepsAll.{as_it_was}
 use Rattle.sci_cache.specs.Nodes.{IsLine}
 use Rattle.sci_cache.proofs.readying.reserve_out.Goals as goal

@@ -1,8 +1,6 @@
-use Rattle.std.proofs.Common.{◌≡◌, ◌≢◌, ◌<◌, ◌≤◌, Option, IfSome, ℕ, refl, ap, sym, subst, ◌∙◌}
+use Rattle.std.proofs.Common.{◌≢◌, ◌<◌, ◌≤◌, Option, IfSome, ℕ, ap, sym, subst, ◌∙◌}
 use Rattle.sci_port.specs.Banks.{BankWay}
-use Rattle.sci_port.specs.ReceiptList.{ReceiptList}
 use Rattle.sci_port.proofs.KeepsAll.{readied_then}
-use Rattle.sci_ops.specs.Room.{is_passing}
 use Rattle.sci_cache.specs.Called.{IsReadyFor}
 use Rattle.sci_cache.specs.Requests.{line_of, goal_of}
 use Rattle.sci_cache.specs.Nodes.{IsLine}

@@ -1,9 +1,8 @@
-use Rattle.std.proofs.Common.{◌≡◌, ◌≤◌, ◌<◌, ◌-◌, false, Option, None, IfSome, List, ℕ, slice_get, refl, ap, sym, subst, ◌∙◌}
+use Rattle.std.proofs.Common.{◌≤◌, ◌<◌, ◌-◌, Option, None, IfSome, List, ℕ, slice_get, refl, ap, sym, subst, ◌∙◌}
 use Rattle.std.specs.Map.{keys_of}
 use Rattle.sci_port.specs.KeepsAll.{as_it_was}
-use Rattle.sci_cache.specs.Requests.{line_of}
 use Rattle.sci_cache.specs.Residents.{AreBelow, displaced_by, is_resident, used}
-use Rattle.sci_cache.specs.Nodes.{node_state, IsLine, IsSoundNode, NodeState}
+use Rattle.sci_cache.specs.Nodes.{node_state, IsLine, NodeState}
 use Rattle.sci_cache.proofs.Begun.{inside_with, used_evict, used_line, victim_evict, victim_used}
 use Rattle.sci_cache.proofs.Ordered.{below_get, below_used, displaced_new, displaced_resident}
 use Rattle.sci_cache.proofs.Reserved.{either_way, ok_with, on_err_with, on_ok, on_ok_with}
