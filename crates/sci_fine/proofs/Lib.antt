@@ -16,3 +16,4 @@ pub mod Staying
 pub mod Telling
 pub mod Appending
 pub mod KeptAll
+pub mod KeptBank

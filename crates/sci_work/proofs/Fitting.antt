@@ -1,20 +1,24 @@
 -- What a line holds once it is closed is its value, and fits what is known of it.
-use Rattle.std.proofs.Common.{◌≡◌, ◌≢◌, ◌⊎◌, ⊎_elim, ℕ, ◌<◌, true, Option, Some, None, List, [], ◌∷◌, length, get_or, refl, sym, ap, subst, ◌∙◌, arith}
-use mathlib.Core.Option.{some}
-use lib.ListN.{get_elem?}
+use Rattle.std.proofs.Common.{◌≡◌, ◌≢◌, ⊎_elim, ℕ, ◌<◌, true, Option, Some, None, List, [], ◌∷◌, get_or, refl, sym, ap, subst, ◌∙◌}
+use Rattle.std.specs.Prelude.{All}
 use Rattle.sci_words.specs.declared.memory.MemState.{MemState}
 use Rattle.sci_words.specs.declared.tags.Kind.{Kind}
 use Rattle.sci_words.specs.declared.tags.Tag.{Tag}
+use Rattle.sci_core.specs.declared.keeps.Keeps as keeps
 use Rattle.sci_core.specs.declared.lines.Line.{Line}
+use Rattle.sci_core.specs.declared.receipts.Receipt.{Receipt}
 use Rattle.sci_core.specs.Chain.{IsPath, forward}
 use Rattle.sci_core.specs.Closed.{ClosedLine, IsExactClosed, value_by, value_of}
 use Rattle.sci_core.specs.Law.{is_valid}
 use Rattle.sci_core.specs.Run.{HasValue}
 use Rattle.sci_core.specs.State.{State, blank, invalid}
 use Rattle.sci_port.specs.declared.calls.Call.{Call}
+use Rattle.sci_port.specs.Receipts.{IsWhole}
 use Rattle.sci_fine.specs.declared.line.FineLine.{FineLine}
+use Rattle.sci_fine.specs.declared.seats.Seat.{Seat}
 use Rattle.sci_fine.specs.Ends.{IsEnd, IsReadOff}
-use Rattle.sci_work.specs.Ended.{IsClosedOf}
+use Rattle.sci_fine.specs.Kept.{HasKeptAll, IsFinished, list_at, lists_of}
+use Rattle.sci_work.specs.Ended.{IsClosedOf, IsHistoryOf}
 use Rattle.sci_work.proofs.Seated.{head_inside, or_at}
 
 nobody : (forw : ℕ → Option ℕ) (from : Option ℕ) (nodes : List ℕ) → from ≡ None → IsPath from forw nodes → nodes ≡ []
@@ -59,3 +63,11 @@ module _ (n : ℕ) (fits : List ℕ → Type 0) (s : State) (v : Line) (c : Clos
 -- what `finish` gives of a line
 pub closed_of : {K : Type 0} (fits : K → ℕ → List ℕ → Type 0) (l : FineLine K) (logs : List (List (ℕ × Call))) (c : ClosedLine) → IsEnd fits l.terms logs c → IsClosedOf fits l c
 closed_of fits l logs c e = record { exact = e.exact; nodes = e.read.tag_count; fit = fit_is l.terms.nodes (fits l.terms.keep l.terms.number) e.state e.value c e.valued e.read e.exact }
+
+-- and of its seats' receipts, where each has kept all
+pub history_of : {K : Type 0} {g : keeps.Ghosts K} (fits : K → ℕ → List ℕ → Type 0) (l : FineLine K) (seats : List (Seat K g)) (c : ClosedLine) (lists : List (List Receipt)) → IsFinished fits l.terms seats c lists → All (λ (s : Seat K g). HasKeptAll s) seats
+    → IsHistoryOf l seats c
+history_of fits l seats c lists f all =
+    let e = f.end in
+    subst (λ (v : Line). IsWhole l.terms.nodes l.terms.opening v (λ j. list_at (lists_of seats) j)) (sym (value_is l.terms.nodes (fits l.terms.keep l.terms.number) e.state e.value c e.valued e.read e.exact c.mem.forw refl))
+    (subst (λ (z : List (List Receipt)). IsWhole l.terms.nodes l.terms.opening e.value (λ j. list_at z j)) f.own (f.whole all))

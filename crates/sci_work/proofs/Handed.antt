@@ -1,33 +1,72 @@
 -- A node's hand, as the seats of its bank before the node works and after.
-use Rattle.std.proofs.Common.{◌≡◌, ℕ, zero, suc, List, [], ◌∷◌, length, map, get_or, refl, sym, subst, arith}
+use Rattle.std.proofs.Common.{◌≡◌, ℕ, zero, suc, List, [], ◌∷◌, ◌++◌, length, map, get_or, refl, sym, ap, subst, ◌∙◌, arith}
 use Rattle.std.proofs.lemmas.List.{length-map}
+use Rattle.std.specs.Global.{Vec}
 use mathlib.Core.Option.{some, some-injective, some-ne-none}
 use lib.ListN.{get_elem?}
 use Rattle.sci_core.specs.declared.keeps.Keeps as keeps
 use Rattle.sci_core.specs.declared.pending.Pending.{Pending}
-use Rattle.sci_port.proofs.Seated.{at_place}
+use Rattle.sci_core.specs.declared.receipts.Receipt.{Receipt}
+use Rattle.sci_port.specs.KeepsAll.{writes_in}
+use Rattle.sci_port.specs.Readying.{no_receipts, receipts_at}
+use Rattle.sci_port.specs.ReceiptList.{ReceiptList}
+use Rattle.sci_port.specs.SeatBanks.{receipts_of}
+use Rattle.sci_port.proofs.Seated.{at_place, read_at}
 use Rattle.sci_fine.specs.declared.line.FineLine.{FineLine}
 use Rattle.sci_fine.specs.declared.seats.Seat.{Seat}
-use Rattle.sci_fine.specs.Banks.{AreLines, AreSeatsAt, IsLine}
+use Rattle.sci_fine.specs.Banks.{AreLines, AreSeatsAt, IsLine, seating_of}
+use Rattle.sci_fine.specs.Seats.{AreNew}
+use Rattle.sci_fine.proofs.KeptBank.{AllKept}
 use Rattle.sci_work.specs.declared.programs.Program.{Program}
-use Rattle.sci_work.specs.Hands.{IsHandOf}
-use Rattle.sci_work.specs.Programs.{Suits}
+use Rattle.sci_work.specs.Adding.{AreAdds}
+use Rattle.sci_work.specs.Hands.{AtEach, HoldEach, IsHandOf}
+use Rattle.sci_work.specs.Programs.{HasWritten, Suits}
+use Rattle.sci_work.specs.Starts.{Begins, Ends}
+use Rattle.sci_work.proofs.Dealing.{hand_at, seat_at}
 use Rattle.sci_work.proofs.Seated.{all_idle, fact_is, hand_again, node_is}
 
 module _ {K : Type 0} {g : keeps.Ghosts K} where
   abbrev pub steps_of : List (Seat K g) → List Pending
   steps_of seats = map (λ (s : Seat K g). s.standing.pending) seats
 
+  abbrev pub receipts_on : List (Seat K g) → ℕ → ReceiptList
+  receipts_on seats line = receipts_at (receipts_of (λ (s : Seat K g). seating_of s) seats) line
+
   -- a bank at these lines, by a hand at them, is Idle on every line
   pub idle_before : (lines : List (FineLine K)) (number : ℕ) → AreLines lines → (hand seats : List (Seat K g)) → seats ≡ hand → IsHandOf lines number hand → (line : ℕ) → get_or (steps_of seats) line Pending.Idle ≡ Pending.Idle
   idle_before lines number are hand seats is h line = subst (λ (z : List (Seat K g)). get_or (steps_of z) line Pending.Idle ≡ Pending.Idle) (sym is) (all_idle lines number are hand h line)
 
-  -- and its seats are a hand again where it is Idle on every line after
-  pub hand_after : (lines ls : List (FineLine K)) (number node : ℕ) (keep : K) (seats back : List (Seat K g)) → ls ≡ lines → node ≡ number → back ≡ seats → AreSeatsAt keep node ls seats → ((line : ℕ) → get_or (steps_of seats) line Pending.Idle ≡ Pending.Idle) → IsHandOf lines number back
-  hand_after lines ls number node keep seats back same mine is of idle =
+  -- and its seats are a hand again where it is Idle on every line after, and they have kept all
+  pub hand_after : (lines ls : List (FineLine K)) (number node : ℕ) (keep : K) (seats back : List (Seat K g)) → ls ≡ lines → node ≡ number → back ≡ seats → AreSeatsAt keep node ls seats → ((line : ℕ) → get_or (steps_of seats) line Pending.Idle ≡ Pending.Idle) → AllKept seats → IsHandOf lines number back
+  hand_after lines ls number node keep seats back same mine is of idle kept =
       subst (λ (z : List (Seat K g)). IsHandOf lines number z) (sym is)
       (subst (λ (z : List (FineLine K)). IsHandOf z number seats) same
-      (subst (λ (n : ℕ). IsHandOf ls n seats) mine (hand_again ls node keep seats of idle)))
+      (subst (λ (n : ℕ). IsHandOf ls n seats) mine (hand_again ls node keep seats of idle kept)))
+
+  first_none : (seats : List (Seat K g)) → ((s : Seat K g) → get_elem? seats 0 ≡ some s → writes_in s.receipts.list ≡ []) → writes_in (receipts_on seats 0).list ≡ []
+  first_none [] all = refl
+  first_none (x ∷ xs) all = all x refl
+
+  -- a node that began with no writes has ended with those of its program
+  pub ends_so : (program : Program) (before after : List (Seat K g)) → Begins program before → HasWritten program (receipts_on before 0).list (receipts_on after 0).list → Ends program after
+  ends_so (Program.Count adds) before after begins written = λ s at.
+      let none : writes_in (receipts_on before 0).list ≡ [] = first_none before begins in
+      let more : writes_in (receipts_on after 0).list ≡ written.more = written.behind ∙ ap (λ (l : List Receipt). l ++ written.more) none in
+      let here : writes_in s.receipts.list ≡ written.more = ap (λ (l : ReceiptList). writes_in l.list) (sym (read_at (λ (x : Seat K g). x.receipts) after 0 s no_receipts at)) ∙ more in
+      subst (AreAdds adds) (sym here) written.are
+  ends_so (Program.Ring source lines) before after begins written = tt
+  ends_so (Program.Stencil work) before after begins written = tt
+
+  -- hands of new seats have written nothing
+  pub none_written : (seats : List (Seat K g)) → AreNew seats → (adds : ℕ) (hands : List (Vec (Seat K g))) → HoldEach hands seats → AtEach (λ k hand. Begins (Program.Count adds) hand.items) hands
+  none_written seats new adds hands hold k hand at s first =
+      let x = seat_at hands seats hold k hand at in
+      let same : x.0 ≡ s = some-injective x.0 s (ap (λ (l : List (Seat K g)). get_elem? l 0) (sym x.2) ∙ first) in
+      ap (λ (z : Seat K g). writes_in z.receipts.list) (sym same) ∙ ap (λ (l : ReceiptList). writes_in l.list) (new k x.0 x.1).1
+
+  -- and of hands that have counted so has each seat
+  pub all_counted : (adds : ℕ) (hands : List (Vec (Seat K g))) (seats : List (Seat K g)) → HoldEach hands seats → AtEach (λ k hand. Ends (Program.Count adds) hand.items) hands → AtEach (λ k s. AreAdds adds (writes_in s.receipts.list)) seats
+  all_counted adds hands seats hold end k s at = let h = hand_at hands seats hold k s at in end k h.0 h.1 s (ap (λ (l : List (Seat K g)). get_elem? l 0) h.2)
 
   -- a bank at these lines, by a hand at them
   module _ (lines : List (FineLine K)) (number : ℕ) (are : AreLines lines) (hand : List (Seat K g)) (h : IsHandOf lines number hand)

@@ -1,4 +1,4 @@
-pub mod Calling
+pub mod Adding
 pub mod Closing
 pub mod Counts
 pub mod Dealing
@@ -12,11 +12,10 @@ pub mod Opening
 pub mod Plain
 pub mod Refusing
 pub mod Residual
-pub mod Resting
-pub mod Rests
 pub mod Seated
 pub mod Sharing
 pub mod Showing
+pub mod Totals
 pub mod Watched
 pub mod Words
 pub mod Worked

@@ -17,6 +17,7 @@ use Rattle.sci_fine.specs.declared.seats.Seat.{Seat}
 use Rattle.sci_fine.specs.declared.views.Terms.{Terms}
 use Rattle.sci_fine.specs.Banks.{AreLines, AreSeatsAt, AreSeatsOf, IsOnePerLine, seated}
 use Rattle.sci_fine.proofs.Elements.{inside, at_end}
+use Rattle.sci_fine.proofs.KeptBank.{AllKept}
 use Rattle.sci_work.specs.Hands.{AtEach, IsHandOf, IsIdleSeat}
 
 -- who stands first is one of the nodes
@@ -112,6 +113,10 @@ module _ {K : Type 0} {g : keeps.Ghosts K} where
       pub fact_is : (l : FineLine K) → get_elem? lines 0 ≡ some l → l.terms.keep ≡ keep
       fact_is l at = let s = first_seat in (of.each 0 l s.0 at s.1).fact
 
+    -- its seats have kept all
+    pub all_kept : (seats : List (Seat K g)) → IsHandOf lines number seats → AllKept seats
+    all_kept seats hand k s at = let l = at_place lines k (subst (λ (n : ℕ). k < n) hand.count (inside seats s k at)) in (hand.each k l.0 s l.1 at).kept
+
     -- a bank whose seats are a node's hand is Idle on every line
     pub all_idle : (seats : List (Seat K g)) → IsHandOf lines number seats → (line : ℕ) → step_on (seated are.keep number lines seats) line ≡ Pending.Idle
     all_idle seats hand line = idle_on seats (λ k s at. let l = at_place lines k (subst (λ (n : ℕ). k < n) hand.count (inside seats s k at)) in (hand.each k l.0 s l.1 at).idle) line
@@ -122,8 +127,8 @@ module _ {K : Type 0} {g : keeps.Ghosts K} where
         idle_on (x ∷ xs) idle (suc k) = idle_on xs (λ j s at. idle (suc j) s at) k
 
   -- and the other way round
-  pub hand_again : (lines : List (FineLine K)) (number : ℕ) (keep : K) (seats : List (Seat K g)) → AreSeatsAt keep number lines seats → ((line : ℕ) → step_on (seated keep number lines seats) line ≡ Pending.Idle) → IsHandOf lines number seats
-  hand_again lines number keep seats of idle = record {
+  pub hand_again : (lines : List (FineLine K)) (number : ℕ) (keep : K) (seats : List (Seat K g)) → AreSeatsAt keep number lines seats → ((line : ℕ) → step_on (seated keep number lines seats) line ≡ Pending.Idle) → AllKept seats → IsHandOf lines number seats
+  hand_again lines number keep seats of idle kept = record {
     count = of.count;
-    each = λ k l s atl ats. let i = of.each k l s atl ats in record { of = i.of; node_is = i.node_is; idle = sym (read_at (λ (x : Seat K g). x.standing.pending) seats k s Pending.Idle ats) ∙ idle k };
+    each = λ k l s atl ats. let i = of.each k l s atl ats in record { of = i.of; node_is = i.node_is; idle = sym (read_at (λ (x : Seat K g). x.standing.pending) seats k s Pending.Idle ats) ∙ idle k; kept = kept k s ats };
   }

@@ -2,7 +2,11 @@
 use Rattle.std.specs.Prelude.{◌≡◌, ℕ, ◌≤◌, List, [], ◌∷◌, length, All, slice_index}
 use mathlib.Core.Option.{some}
 use lib.ListN.{get_elem?}
+use Rattle.sci_port.specs.Receipts.{IsWhole}
 use Rattle.sci_fine.specs.declared.line.FineLine.{FineLine}
+use Rattle.sci_fine.specs.declared.seats.Seat.{Seat}
+use Rattle.sci_fine.specs.Kept.{list_at, lists_of}
+use Rattle.sci_core.specs.declared.keeps.Keeps as keeps
 use Rattle.sci_core.specs.Closed.{ClosedLine, IsExactClosed, value_of}
 
 -- each closed line has so many nodes
@@ -22,6 +26,10 @@ pub record IsClosedOf {K : Type 0} (fits : K → ℕ → List ℕ → Type 0) (l
   pub exact : IsExactClosed c
   pub nodes : length c.tags ≡ l.terms.nodes
   pub fit : fits l.terms.keep l.terms.number (value_of c).words
+
+-- the receipts of the seats are one history of the line, whole, from its opening to what it holds once it is closed
+abbrev pub IsHistoryOf : {K : Type 0} {g : keeps.Ghosts K} → FineLine K → List (Seat K g) → ClosedLine → Type 0
+IsHistoryOf l seats c = IsWhole l.terms.nodes l.terms.opening (value_of c) (λ j. list_at (lists_of seats) j)
 
 -- each line was closed so
 pub record AreClosedOf {K : Type 0} (fits : K → ℕ → List ℕ → Type 0) (lines : List (FineLine K)) (closed : List ClosedLine) : Type 0 where

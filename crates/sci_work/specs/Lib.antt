@@ -1,3 +1,4 @@
+pub mod Adding
 pub mod Ended
 pub mod Hands
 pub mod Locked

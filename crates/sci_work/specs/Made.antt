@@ -5,6 +5,9 @@ use Rattle.sci_core.specs.declared.pending.Pending.{Pending}
 use Rattle.sci_port.specs.declared.calls.Call.{Call}
 use Rattle.sci_port.specs.declared.calls.Call.TheVariants.{Own}
 use Rattle.sci_port.specs.Banks.{BankWay}
+use Rattle.sci_port.specs.KeepsAll.{IsReadied, KeepsAll}
+use Rattle.sci_port.specs.Readying.{Readying}
+use Rattle.sci_port.specs.ReceiptList.{ReceiptList}
 use Rattle.sci_ops.specs.declared.answers.Answer.{Answer}
 use Rattle.sci_cache.specs.declared.refusals.NodeRefusal.{NodeRefusal}
 use Rattle.sci_cache.specs.declared.requests.Request.{Request}
@@ -17,11 +20,17 @@ pub record IsBankOf (way : BankWay) (n : NodeState) : Type 0 where
   pub lines : way.lines ≡ n.lines
   pub closed : n.call ≡ None
 
--- from the bank u to v it is the node's with no call open still, of as many lines, and under the same fact
-pub record IsStillBankOf {U K : Type 0} (way : U → BankWay) (keep : U → K) (u : U) (n : NodeState) (v : U) : Type 0 where
+-- from the bank u to v, a node that was Idle on every line is so again, and its receipts keep all that it did
+pub record RestsAgain {U : Type 0} (step : U → ℕ → Pending) (gives : U → ℕ → Call → U → Type 0) (readies : U → ℕ → Readying → U → Type 0) (told : U → ℕ → ReceiptList) (u v : U) : Type 0 where
+  pub idle : ((line : ℕ) → step u line ≡ Pending.Idle) → (line : ℕ) → step v line ≡ Pending.Idle
+  pub kept : ((line : ℕ) → step u line ≡ Pending.Idle) → KeepsAll gives readies told u v
+
+-- from the bank u to v it is the node's with no call open still, of as many lines, under the same fact, and at rest if it was
+pub record IsStillBankOf {U K : Type 0} (way : U → BankWay) (keep : U → K) (step : U → ℕ → Pending) (gives : U → ℕ → Call → U → Type 0) (readies : U → ℕ → Readying → U → Type 0) (told : U → ℕ → ReceiptList) (u : U) (n : NodeState) (v : U) : Type 0 where
   pub ready : IsBankOf (way v) n
   pub same_way : way v ≡ way u
   pub same_fact : keep v ≡ keep u
+  pub rests : RestsAgain step gives readies told u v
 
 -- a call on a line that there is, begun where none is open, is refused with 7 or 11
 abbrev pub IsLineRefusal : NodeRefusal → Type 0
@@ -42,10 +51,12 @@ ComesInWork WorkRefusal.BadSettings = ⊥
 ComesInWork WorkRefusal.NoThread = ⊥
 ComesInWork refusal = Unit {0}
 
-module _ {U : Type 0} (gives : U → ℕ → Call → U → Type 0) (step : U → ℕ → Pending) where
-  -- calls that waited, of which these were writes that ended, the last in front: the line, and its words; and looks at own tags
+module _ {U : Type 0} (gives : U → ℕ → Call → U → Type 0) (readies : U → ℕ → Readying → U → Type 0) (step : U → ℕ → Pending) where
+  -- calls that waited, of which these were writes that ended, the last in front: the line, and its words; room that was made for receipts;
+  -- and looks at own tags
   pub data Made : List (ℕ × List ℕ) → NodeState → U → NodeState → U → Type 0 where
     none : {n : NodeState} {u : U} → Made [] n u n u
+    ready : {ws : List (ℕ × List ℕ)} {n k : NodeState} {u w v : U} → Made ws n u k w → IsReadied readies w v → Made ws n u k v
     look : {ws : List (ℕ × List ℕ)} {n k : NodeState} {u w v : U} → (line : ℕ) → (tag : Option Tag) → Made ws n u k w → gives w line (Own tag) v → Made ws n u k v
     load : {ws : List (ℕ × List ℕ)} {n k m : NodeState} {u w v : U} → (line : ℕ) → (result : Result Answer NodeRefusal) → Made ws n u k w → Waits gives step k (Request.Load line) w result v m → Made ws n u m v
     write : {ws : List (ℕ × List ℕ)} {n k m : NodeState} {u w v : U} → (line : ℕ) → (words : List ℕ) → (answer : Answer) → Made ws n u k w → Waits gives step k (Request.WriteLine line words) w (Ok answer) v m → Made ((line, words) ∷ ws) n u m v
@@ -58,7 +69,8 @@ module _ {U : Type 0} (gives : U → ℕ → Call → U → Type 0) (step : U �
     pub made : Made (writes count) n u m v
 
 -- from the bank u to v any node has only looked at own tags
-pub record HasWatched {U K : Type 0} (way : U → BankWay) (keep : U → K) (gives : U → ℕ → Call → U → Type 0) (step : U → ℕ → Pending) (u v : U) : Type 0 where
-  pub made : (n : NodeState) → Made gives step [] n u n v
+pub record HasWatched {U K : Type 0} (way : U → BankWay) (keep : U → K) (step : U → ℕ → Pending) (gives : U → ℕ → Call → U → Type 0) (readies : U → ℕ → Readying → U → Type 0) (told : U → ℕ → ReceiptList) (u v : U) : Type 0 where
+  pub made : (n : NodeState) → Made gives readies step [] n u n v
   pub same_way : way v ≡ way u
   pub same_fact : keep v ≡ keep u
+  pub rests : RestsAgain step gives readies told u v

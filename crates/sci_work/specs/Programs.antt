@@ -1,10 +1,12 @@
 -- What a program asks of its lines, and what is true of a node's share. This project's own.
 use Rattle.std.specs.Prelude.{◌≡◌, ℕ, ◌<◌, ◌≤◌, List, length}
+use Rattle.sci_core.specs.declared.receipts.Receipt.{Receipt}
 use Rattle.sci_ops.specs.declared.goals.Goal.{Goal}
 use Rattle.sci_ops.specs.declared.goals.Write.{Write}
 use Rattle.sci_ops.specs.Change.{StoresFitting}
 use Rattle.sci_work.specs.declared.programs.Program.{Program}
 use Rattle.sci_work.specs.declared.refusals.WorkRefusal.{WorkRefusal}
+use Rattle.sci_work.specs.Adding.{HasAdded}
 use Rattle.sci_work.specs.Plain.{plain}
 use Rattle.sci_work.specs.Ring.{IsRing, IsRingSize}
 use Rattle.sci_work.specs.Shares.{IsShare, IsWork}
@@ -18,6 +20,11 @@ abbrev pub IsShareOf : Program → ℕ → List ℕ → Type 0
 IsShareOf (Program.Count adds) number share = Unit {0}
 IsShareOf (Program.Ring source lines) number share = number ≡ 1 → share ≡ source.now
 IsShareOf (Program.Stencil work) number share = IsShare (plain work.cells.now work.phases) work.nodes number work.tiles share
+
+-- what a node that has its share has added to its receipts on line 0
+abbrev pub HasWritten : Program → List Receipt → List Receipt → Type 0
+HasWritten (Program.Count adds) before after = HasAdded adds before after
+HasWritten program before after = Unit {0}
 
 -- whether its nodes await items or phases of others
 abbrev pub Awaits : Program → Type 0

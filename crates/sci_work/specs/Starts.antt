@@ -1,21 +1,34 @@
 -- What a node's thread is started with, and what it ends with. This project's own.
-use Rattle.std.specs.Prelude.{◌≡◌, ◌≢◌, ℕ, ◌<◌, ◌≤◌, ◌⊎◌, List, length, Result, Err, IsOk, IfOk, IfErr, vec_len}
+use Rattle.std.specs.Prelude.{◌≡◌, ◌≢◌, ℕ, ◌<◌, ◌≤◌, ◌⊎◌, List, [], length, Result, Err, IsOk, IfOk, IfErr, OnOk, vec_len}
 use Rattle.std.specs.Global.{Vec}
 use mathlib.Core.Option.{some}
 use lib.ListN.{get_elem?}
 use Rattle.sci_core.specs.declared.keeps.Keeps as keeps
+use Rattle.sci_port.specs.KeepsAll.{writes_in}
 use Rattle.sci_fine.specs.declared.line.FineLine.{FineLine}
 use Rattle.sci_fine.specs.declared.seats.Seat.{Seat}
 use Rattle.sci_fine.specs.Banks.{AreLines}
 use Rattle.sci_work.specs.declared.programs.Program.{Program}
 use Rattle.sci_work.specs.declared.refusals.WorkRefusal.{WorkRefusal}
+use Rattle.sci_work.specs.Adding.{AreAdds}
 use Rattle.sci_work.specs.Hands.{AtEach, IsHandOf}
 use Rattle.sci_work.specs.Programs.{Awaits, ComesInPart, IsShareOf, Suits}
+
+-- a node that is to count has written nothing on line 0
+abbrev pub Begins : {K : Type 0} {g : keeps.Ghosts K} → Program → List (Seat K g) → Type 0
+Begins {K} {g} (Program.Count adds) seats = (s : Seat K g) → get_elem? seats 0 ≡ some s → writes_in s.receipts.list ≡ []
+Begins program seats = Unit {0}
+
+-- and one that has counted its adds alone
+abbrev pub Ends : {K : Type 0} {g : keeps.Ghosts K} → Program → List (Seat K g) → Type 0
+Ends {K} {g} (Program.Count adds) seats = (s : Seat K g) → get_elem? seats 0 ≡ some s → AreAdds adds (writes_in s.receipts.list)
+Ends program seats = Unit {0}
 
 -- the lines of one memory, the node's seats at them, and a program that suits their fact
 pub record IsPart {K : Type 0} {g : keeps.Ghosts K} (fits : K → ℕ → List ℕ → Type 0) (lines : List (FineLine K)) (program : Program) (number : ℕ) (seats : List (Seat K g)) : Type 0 where
   pub lines_are : AreLines lines
   pub hand : IsHandOf lines number seats
+  pub begins : Begins program seats
   pub suits : (l : FineLine K) → get_elem? lines 0 ≡ some l → Suits program (fits l.terms.keep) (length lines) number
 
 -- the same of each of at most 64 nodes
@@ -23,18 +36,21 @@ pub record AreParts {K : Type 0} {g : keeps.Ghosts K} (fits : K → ℕ → List
   pub lines_are : AreLines lines
   pub few : vec_len hands ≤ 64
   pub hands_are : AtEach (λ k hand. IsHandOf lines k hand.items) hands.items
+  pub begin : AtEach (λ k hand. Begins program hand.items) hands.items
   pub suits : (k : ℕ) (l : FineLine K) → k < vec_len hands → get_elem? lines 0 ≡ some l → Suits program (fits l.terms.keep) (length lines) k
 
 -- the node's seats, Idle again, and its share, or why there is none
 pub record IsPartDone {K : Type 0} {g : keeps.Ghosts K} (lines : List (FineLine K)) (program : Program) (number : ℕ) (seats : List (Seat K g)) (share : Result (Vec ℕ) WorkRefusal) : Type 0 where
   pub hand : IsHandOf lines number seats
   pub share_is : IfOk share (λ s. IsShareOf program number s.items)
+  pub ends : OnOk share (Ends program seats)
   pub refused : IfErr share (ComesInPart program)
 
 -- what so many nodes have ended with: their seats, Idle again, and their shares
 pub record AreEnded {K : Type 0} {g : keeps.Ghosts K} (lines : List (FineLine K)) (program : Program) (nodes : ℕ) (hands : Vec (Vec (Seat K g))) (shares : Vec (Vec ℕ)) : Type 0 where
   pub hand_count : vec_len hands ≡ nodes
   pub hands_are : AtEach (λ k hand. IsHandOf lines k hand.items) hands.items
+  pub end : AtEach (λ k hand. Ends program hand.items) hands.items
   pub share_count : vec_len shares ≡ nodes
   pub shares_are : AtEach (λ k share. IsShareOf program k share.items) shares.items
 

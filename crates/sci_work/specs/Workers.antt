@@ -3,6 +3,9 @@ use Rattle.std.specs.Prelude.{◌≡◌, ℕ, None}
 use Rattle.sci_core.specs.declared.pending.Pending.{Pending}
 use Rattle.sci_port.specs.declared.calls.Call.{Call}
 use Rattle.sci_port.specs.Banks.{BankWay}
+use Rattle.sci_port.specs.KeepsAll.{KeepsAll}
+use Rattle.sci_port.specs.Readying.{Readying}
+use Rattle.sci_port.specs.ReceiptList.{ReceiptList}
 use Rattle.sci_cache.specs.Nodes.{NodeState}
 
 -- the bank is this node's and has its lines, no call is open, and the node is Idle on every line
@@ -12,14 +15,10 @@ pub record IsReady {U : Type 0} (step : U → ℕ → Pending) (way : BankWay) (
   pub free : n.call ≡ None
   pub idle : (line : ℕ) → step u line ≡ Pending.Idle
 
--- calls on lines led from the one to the other
-pub data Led {U : Type 0} (gives : U → ℕ → Call → U → Type 0) : U → U → Type 0 where
-  stays : {u : U} → Led gives u u
-  goes : {u w v : U} → (line : ℕ) → (call : Call) → gives u line call w → Led gives w v → Led gives u v
-
--- a node's work led the bank u to v: calls did, and all have ended; it is the node's as before, and under the same fact
-pub record HasWorked {U K : Type 0} (way : U → BankWay) (keep : U → K) (step : U → ℕ → Pending) (gives : U → ℕ → Call → U → Type 0) (u : U) (n : NodeState) (v : U) : Type 0 where
+-- a node's work led the bank u to v: by calls each of which found room for its receipt, and all have ended; it is the node's as before,
+-- and under the same fact
+pub record HasWorked {U K : Type 0} (way : U → BankWay) (keep : U → K) (step : U → ℕ → Pending) (gives : U → ℕ → Call → U → Type 0) (readies : U → ℕ → Readying → U → Type 0) (told : U → ℕ → ReceiptList) (u : U) (n : NodeState) (v : U) : Type 0 where
   pub ready : IsReady step (way v) n v
-  pub led : Led gives u v
+  pub kept : KeepsAll gives readies told u v
   pub same_way : way v ≡ way u
   pub same_fact : keep v ≡ keep u

@@ -4,6 +4,7 @@ ghost use Rattle.sci_ops.specs.declared.goals.Goal as goal;
 ghost use Rattle.sci_ops.specs.declared.goals.Write as write;
 ghost use Rattle.sci_ops.specs.Change.{StoresFitting};
 ghost use Rattle.sci_cache.specs.declared.refusals.NodeRefusal as refusals;
+ghost use Rattle.sci_work.specs.Adding.{HasAdded};
 ghost use Rattle.sci_work.specs.Made.{ComesInCall, HasWatched, IsBankOf, IsLineRefusal, IsStillBankOf, Made};
 ghost use Rattle.sci_work.specs.Workers.{HasWorked, IsReady};
 
@@ -49,8 +50,8 @@ pub(crate) fn loaded<R: Wait, G: Gate, B: Bank>(
     requires line { line < (B.way bank.old).lines }
     ensures fits { IfOk result (λ words. B.Keep.fits (B.keep bank.old) line words) }
     ensures err { IfErr result ComesInCall }
-    ensures made { Made B.gives B.at_step [] node.old bank.old node.new bank.new }
-    ensures still { IsStillBankOf B.way B.keep bank.old node.new bank.new }
+    ensures made { Made B.gives B.readies B.at_step [] node.old bank.old node.new bank.new }
+    ensures still { IsStillBankOf B.way B.keep B.at_step B.gives B.readies B.told bank.old node.new bank.new }
 {
     door.enter()?;
     let answer = node.load(rt, bank, line);
@@ -73,7 +74,7 @@ fn watched<G: Gate, B: Bank>(
 ) -> Result<(), WorkRefusal>
     requires line { line < (B.way bank.old).lines }
     ensures err { IfErr result (λ e. e ≡ WorkRefusal.Stopped) }
-    ensures watched { HasWatched B.way B.keep B.gives B.at_step bank.old bank.new }
+    ensures watched { HasWatched B.way B.keep B.at_step B.gives B.readies B.told bank.old bank.new }
 {
     let seen = bank.own(line);
     if let Some(
@@ -112,8 +113,8 @@ pub(crate) fn reached<R: Wait, G: Gate, B: Bank>(
     ensures fits { IfOk result (λ words. B.Keep.fits (B.keep bank.old) line words) }
     ensures number { IfOk result (λ words. number ≤ slice_index words 0) }
     ensures err { IfErr result ComesInCall }
-    ensures made { Made B.gives B.at_step [] node.old bank.old node.new bank.new }
-    ensures still { IsStillBankOf B.way B.keep bank.old node.new bank.new }
+    ensures made { Made B.gives B.readies B.at_step [] node.old bank.old node.new bank.new }
+    ensures still { IsStillBankOf B.way B.keep B.at_step B.gives B.readies B.told bank.old node.new bank.new }
 {
     for _ in rt.forever() {
         let words = loaded(rt, door, node, bank, line)?;
@@ -139,9 +140,9 @@ pub(crate) fn written<R: Wait, G: Gate, B: Bank>(
     requires line { line < (B.way bank.old).lines }
     requires fits { B.Keep.fits (B.keep bank.old) line words }
     ensures err { IfErr result ComesInCall }
-    ensures made { OnOk result (Made B.gives B.at_step ((line, words) ∷ []) node.old bank.old node.new bank.new) }
-    ensures none { OnErr result (Made B.gives B.at_step [] node.old bank.old node.new bank.new) }
-    ensures still { IsStillBankOf B.way B.keep bank.old node.new bank.new }
+    ensures made { OnOk result (Made B.gives B.readies B.at_step ((line, words) ∷ []) node.old bank.old node.new bank.new) }
+    ensures none { OnErr result (Made B.gives B.readies B.at_step [] node.old bank.old node.new bank.new) }
+    ensures still { IsStillBankOf B.way B.keep B.at_step B.gives B.readies B.told bank.old node.new bank.new }
 {
     door.enter()?;
     let answer = node.write_line(rt, bank, line, words);
@@ -165,7 +166,8 @@ pub(crate) fn added<R: Wait, G: Gate, B: Bank>(
     requires line { line < (B.way bank.old).lines }
     requires fits { StoresFitting (B.Keep.fits (B.keep bank.old) line) (goal.Goal.Write (write.Write.Add 0 1)) }
     ensures err { IfErr result ComesInCall }
-    ensures worked { HasWorked B.way B.keep B.at_step B.gives bank.old node.new bank.new }
+    ensures worked { HasWorked B.way B.keep B.at_step B.gives B.readies B.told bank.old node.new bank.new }
+    ensures added { OnOk result (HasAdded 1 (B.told bank.old line).list (B.told bank.new line).list) }
 {
     door.enter()?;
     let answer = node.add(rt, bank, line, 0, 1);

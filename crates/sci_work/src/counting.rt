@@ -1,6 +1,6 @@
 //! Nodes that count on one line.
-ghost use Rattle.std.specs.Prelude.{◌≡◌, ◌≢◌, ◌<◌, ◌≤◌, ◌↔◌, Err, length, IfOk, IfErr, IsTrue};
-ghost use Rattle.sci_core.specs.Closed.{IsExactClosed};
+ghost use Rattle.std.specs.Prelude.{◌≡◌, ◌≢◌, ◌<◌, ◌≤◌, ◌↔◌, ◌*◌, ◌%◌, ◌^◌, Err, length, slice_index, IfOk, IfErr, IsTrue};
+ghost use Rattle.sci_core.specs.Closed.{IsExactClosed, value_of};
 ghost use Rattle.sci_work.specs.Ended.{HaveNodes, IsCounted, IsCountSize};
 ghost use Rattle.sci_work.specs.Starts.{ComesInCount, ComesInStart};
 
@@ -34,6 +34,7 @@ fn counted<R: Threads + Wait + Sync, G: Gate>(
 ) -> Result<Closed, WorkRefusal>
     requires { (0 < nodes) × (nodes ≤ 64) }
     ensures ok { IfOk result (λ closed. IsExactClosed closed) }
+    ensures total { IfOk result (λ closed. slice_index (value_of closed).words 0 ≡ (nodes * adds) % 2 ^ 64) }
     ensures nodes { IfOk result (λ closed. length closed.tags ≡ nodes) }
     ensures err { IfErr result (ComesInStart (Program.Count adds)) }
 {
@@ -54,7 +55,7 @@ fn counted<R: Threads + Wait + Sync, G: Gate>(
 }
 
 /// Each of 1 to 64 nodes, in a thread of its own, adds 1 to word 0 of line 0, at most 1,000,000 times. Gives the word once the
-/// line is closed, and the closed line, an exact sharing list. A node's table names up to 1,024 lines. It may wait for ever. The
+/// line is closed, which is all adds modulo 2^64, and the closed line, an exact sharing list. A node's table names up to 1,024 lines. It may wait for ever. The
 /// refusals: 22 for a number outside these limits; then that of the lowest node whose refusal isn't 25: 7, 11, 20 where the gate
 /// held a call back to its limit, and 26 where the node's thread couldn't be started. A refused growth outside the nodes is 7.
 pub fn count<R: Threads + Wait + Sync, G: Gate>(
@@ -66,6 +67,7 @@ pub fn count<R: Threads + Wait + Sync, G: Gate>(
     gate: &G,
 ) -> Result<(u64, Vec<Closed>), WorkRefusal>
     ensures limits { (result ≡ Err WorkRefusal.BadSettings) ↔ (IsCountSize nodes adds capacity → ⊥) }
+    ensures total { IfOk result (λ r. r.0 ≡ (nodes * adds) % 2 ^ 64) }
     ensures ok { IfOk result (λ r. IsCounted r.0 r.1.items) }
     ensures nodes { IfOk result (λ r. HaveNodes nodes r.1.items) }
     ensures err { IfErr result ComesInCount }

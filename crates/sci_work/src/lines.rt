@@ -1,9 +1,9 @@
 //! The lines of a workload, and each node's seats at them.
 ghost use Rattle.std.specs.Prelude.{◌≡◌, ◌<◌, ◌≤◌, ◌++◌, ◌∷◌, [], ℕ, replicate, IfOk, IfErr, vec_len};
 ghost use Rattle.sci_fine.specs.Banks.{IsLine};
-ghost use Rattle.sci_fine.specs.Seats.{AreIdleFrom};
-ghost use Rattle.sci_work.specs.Ended.{AreClosedOf, IsClosedOf};
-ghost use Rattle.sci_work.specs.Hands.{AreIdle, AtEach, IsHandOf};
+ghost use Rattle.sci_fine.specs.Seats.{AreNew};
+ghost use Rattle.sci_work.specs.Ended.{AreClosedOf, IsClosedOf, IsHistoryOf};
+ghost use Rattle.sci_work.specs.Hands.{AreIdle, AtEach, IsHandOf, IsIdleSeat};
 
 use crate::refusals::WorkRefusal;
 use crate::seating::Hand;
@@ -33,7 +33,7 @@ fn extended<K: Keeps>(
     seats: Vec<Seat<K>>,
 ) -> Result<Vec<Hand<K>>, WorkRefusal>
     requires count { vec_len seats ≡ vec_len hands }
-    requires seats { AreIdleFrom line.now 0 seats.items }
+    requires seats { AtEach (λ k s. IsIdleSeat k line.now s) seats.items }
     requires hands { AtEach (λ k hand. IsHandOf lines.now k hand.items) hands.items }
     ensures len { IfOk result (λ all. vec_len all ≡ vec_len hands) }
     ensures each { IfOk result (λ all. AtEach (λ k hand. IsHandOf (lines.now ++ line.now ∷ []) k hand.items) all.items) }
@@ -67,7 +67,9 @@ pub(crate) fn zeroed<K: Keeps>(
     requires fits { K.fits keep number (replicate 8 0) }
     ensures line { IfOk result (λ r. IsLine nodes keep number r.0) }
     ensures len { IfOk result (λ r. vec_len r.1 ≡ nodes) }
-    ensures seats { IfOk result (λ r. AreIdleFrom r.0 0 r.1.items) }
+    ensures opening { IfOk result (λ r. r.0.terms.opening.words ≡ replicate 8 0) }
+    ensures seats { IfOk result (λ r. AtEach (λ k s. IsIdleSeat k r.0 s) r.1.items) }
+    ensures new { IfOk result (λ r. AreNew r.1.items) }
     ensures err { IfErr result (λ e. e ≡ WorkRefusal.OutOfMemory) }
 {
     match FineLine::new(alloc, nodes, number, Line::ZERO, keep) {
@@ -138,6 +140,7 @@ pub(crate) fn finished<K: Keeps>(
 ) -> Result<Closed, WorkRefusal>
     requires { AreIdle line seats.items }
     ensures ok { IfOk result (λ one. IsClosedOf K.fits line one) }
+    ensures history { IfOk result (λ one. IsHistoryOf line seats.items one) }
     ensures err { IfErr result (λ e. e ≡ WorkRefusal.OutOfMemory) }
 {
     match line.finish(alloc, seats) {

@@ -1,7 +1,6 @@
 //! Each node's seats at the lines of a workload.
 ghost use Rattle.std.specs.Prelude.{◌≡◌, ◌∷◌, [], IfOk, IfErr, vec_len};
-ghost use Rattle.sci_fine.specs.Seats.{AreIdleFrom};
-ghost use Rattle.sci_work.specs.Hands.{AreIdle, AtEach, IsHandOf};
+ghost use Rattle.sci_work.specs.Hands.{AreIdle, AtEach, HoldEach, IsHandOf, IsIdleSeat};
 
 use crate::refusals::WorkRefusal;
 use sci_core::Keeps;
@@ -48,10 +47,11 @@ pub fn dealt<K: Keeps>(
     line: &FineLine<K>,
     seats: Vec<Seat<K>>,
 ) -> Result<Vec<Hand<K>>, WorkRefusal>
-    requires { AreIdleFrom line.now 0 seats.items }
+    requires { AtEach (λ k s. IsIdleSeat k line.now s) seats.items }
     ensures err { IfErr result (λ e. e ≡ WorkRefusal.OutOfMemory) }
     ensures len { IfOk result (λ hands. vec_len hands ≡ vec_len seats) }
     ensures each { IfOk result (λ hands. AtEach (λ k hand. IsHandOf (line.now ∷ []) k hand.items) hands.items) }
+    ensures hold { IfOk result (λ hands. HoldEach hands.items seats.items) }
 {
     let _ = line;
     let mut hands = Vec::new(alloc);
@@ -75,6 +75,7 @@ pub fn gathered<K: Keeps>(
     requires { AtEach (λ k hand. IsHandOf (line.now ∷ []) k hand.items) hands.items }
     ensures err { IfErr result (λ e. e ≡ WorkRefusal.OutOfMemory) }
     ensures ok { IfOk result (λ seats. AreIdle line.now seats.items) }
+    ensures held { IfOk result (λ seats. HoldEach hands.items seats.items) }
 {
     let _ = line;
     let mut seats = Vec::new(alloc);

@@ -3,9 +3,9 @@ ghost use Rattle.std.specs.Prelude.{◌≡◌, ◌↔◌, [], ℕ, ◌<◌, ◌�
 ghost use Rattle.std.specs.PromisedHandle.{KeepsEach};
 ghost use Rattle.sci_core.specs.declared.pending.Pending.TheVariants.{Idle};
 ghost use Rattle.sci_work.specs.Hands.{AtEach};
-ghost use Rattle.sci_work.specs.Programs.{ComesInPart, IsShareOf, Suits};
+ghost use Rattle.sci_work.specs.Programs.{ComesInPart, HasWritten, IsShareOf, Suits};
 ghost use Rattle.sci_work.specs.Starts.{AreEnded, AreParts, ComesInStart, HaveEnded, IsAnswerOf, IsLowestRefusal, IsNoRefusal, IsPart, IsPartDone};
-ghost use Rattle.sci_work.specs.Workers.{Led};
+ghost use Rattle.sci_port.specs.KeepsAll.{KeepsAll};
 
 use crate::doors::Door;
 use crate::gates::Gate;
@@ -54,7 +54,8 @@ pub fn share_of<R: Wait, G: Gate, B: Bank>(
     ensures share { IfOk result (λ share. IsShareOf program.entry number share.items) }
     ensures err { IfErr result (ComesInPart program.entry) }
     ensures idle { (line : ℕ) → B.at_step bank.new line ≡ Idle }
-    ensures led { Led B.gives bank.old bank.new }
+    ensures kept { KeepsAll B.gives B.readies B.told bank.old bank.new }
+    ensures written { OnOk result (HasWritten program.entry (B.told bank.old 0).list (B.told bank.new 0).list) }
 {
     match Node::new(alloc, bank.node(), bank.lines(), capacity) {
         Ok(mut node) => run(rt, alloc, door, &mut node, bank, program, number),

@@ -34,8 +34,8 @@ fn item<R: Wait, G: Gate, B: Bank>(
     requires few { i + 1 < 2 ^ 64 }
     ensures value { IfOk result (λ x. (source : List ℕ) → IsRing (B.Keep.fits (B.keep bank.old)) source lines → x ≡ slice_index source i) }
     ensures err { IfErr result ComesInWork }
-    ensures made { Made B.gives B.at_step [] node.old bank.old node.new bank.new }
-    ensures still { IsStillBankOf B.way B.keep bank.old node.new bank.new }
+    ensures made { Made B.gives B.readies B.at_step [] node.old bank.old node.new bank.new }
+    ensures still { IsStillBankOf B.way B.keep B.at_step B.gives B.readies B.told bank.old node.new bank.new }
 {
     let line = line_of(i, lines);
     let number = i + 1;
@@ -61,10 +61,10 @@ pub(crate) fn consumed<R: Wait, G: Gate, B: Bank>(
     requires size { IsRingSize n lines }
     requires ring { IsRingOf (B.Keep.fits (B.keep bank.old)) n lines }
     ensures items { IfOk result (λ v. (source : List ℕ) → IsRing (B.Keep.fits (B.keep bank.old)) source lines → n ≤ length source → v.items ≡ take n source) }
-    ensures ok { OnOk result (Made B.gives B.at_step (count_writes lines n) node.old bank.old node.new bank.new) }
+    ensures ok { OnOk result (Made B.gives B.readies B.at_step (count_writes lines n) node.old bank.old node.new bank.new) }
     ensures err { IfErr result ComesInWork }
-    ensures made { MadeSome B.gives B.at_step (count_writes lines) n node.old bank.old node.new bank.new }
-    ensures still { IsStillBankOf B.way B.keep bank.old node.new bank.new }
+    ensures made { MadeSome B.gives B.readies B.at_step (count_writes lines) n node.old bank.old node.new bank.new }
+    ensures still { IsStillBankOf B.way B.keep B.at_step B.gives B.readies B.told bank.old node.new bank.new }
 {
     let mut items = Vec::new(alloc);
     for i in 0..n {
@@ -99,10 +99,10 @@ pub fn consume<R: Wait, G: Gate, B: Bank>(
     ensures limits { (result ≡ Err WorkRefusal.BadSettings) ↔ (IsRingSize n lines → ⊥) }
     ensures untouched { (IsRingSize n lines → ⊥) → (node.new ≡ node.old) × (bank.new ≡ bank.old) }
     ensures items { IfOk result (λ v. (source : List ℕ) → IsRing (B.Keep.fits (B.keep bank.old)) source lines → n ≤ length source → v.items ≡ take n source) }
-    ensures ok { OnOk result (Made B.gives B.at_step (count_writes lines n) node.old bank.old node.new bank.new) }
+    ensures ok { OnOk result (Made B.gives B.readies B.at_step (count_writes lines n) node.old bank.old node.new bank.new) }
     ensures err { IsRingSize n lines → IfErr result ComesInWork }
-    ensures made { MadeSome B.gives B.at_step (count_writes lines) n node.old bank.old node.new bank.new }
-    ensures still { IsStillBankOf B.way B.keep bank.old node.new bank.new }
+    ensures made { MadeSome B.gives B.readies B.at_step (count_writes lines) n node.old bank.old node.new bank.new }
+    ensures still { IsStillBankOf B.way B.keep B.at_step B.gives B.readies B.told bank.old node.new bank.new }
 {
     let mut door = Door::new(gate, stop, node.id().get());
     if !is_ring_size(n, lines) {

@@ -35,8 +35,8 @@ fn free<R: Wait, G: Gate, B: Bank>(
     requires few { i + 1 < 2 ^ 64 }
     ensures free { IfOk result (λ seen. i + 1 ≤ seen + lines) }
     ensures err { IfErr result ComesInCall }
-    ensures made { Made B.gives B.at_step [] node.old bank.old node.new bank.new }
-    ensures still { IsStillBankOf B.way B.keep bank.old node.new bank.new }
+    ensures made { Made B.gives B.readies B.at_step [] node.old bank.old node.new bank.new }
+    ensures still { IsStillBankOf B.way B.keep B.at_step B.gives B.readies B.told bank.old node.new bank.new }
 {
     let least = (i + 1).saturating_sub(u64::from(lines));
     if consumed >= least {
@@ -61,10 +61,10 @@ pub(crate) fn produced<R: Wait, G: Gate, B: Bank>(
     requires room { lines < (B.way bank.old).lines }
     requires size { IsRingSize (length source.now) lines }
     requires ring { IsRing (B.Keep.fits (B.keep bank.old)) source.now lines }
-    ensures ok { OnOk result (Made B.gives B.at_step (item_writes source.now lines (length source.now)) node.old bank.old node.new bank.new) }
+    ensures ok { OnOk result (Made B.gives B.readies B.at_step (item_writes source.now lines (length source.now)) node.old bank.old node.new bank.new) }
     ensures err { IfErr result ComesInCall }
-    ensures made { MadeSome B.gives B.at_step (item_writes source.now lines) (length source.now) node.old bank.old node.new bank.new }
-    ensures still { IsStillBankOf B.way B.keep bank.old node.new bank.new }
+    ensures made { MadeSome B.gives B.readies B.at_step (item_writes source.now lines) (length source.now) node.old bank.old node.new bank.new }
+    ensures still { IsStillBankOf B.way B.keep B.at_step B.gives B.readies B.told bank.old node.new bank.new }
 {
     let mut consumed = 0;
     for (i, value) in source.iter().enumerate() {
@@ -94,10 +94,10 @@ pub fn produce<R: Wait, G: Gate, B: Bank>(
     requires ring { IsRing (B.Keep.fits (B.keep bank.old)) source.now lines }
     ensures limits { (result ≡ Err WorkRefusal.BadSettings) ↔ (IsRingSize (length source.now) lines → ⊥) }
     ensures untouched { (IsRingSize (length source.now) lines → ⊥) → (node.new ≡ node.old) × (bank.new ≡ bank.old) }
-    ensures ok { OnOk result (Made B.gives B.at_step (item_writes source.now lines (length source.now)) node.old bank.old node.new bank.new) }
+    ensures ok { OnOk result (Made B.gives B.readies B.at_step (item_writes source.now lines (length source.now)) node.old bank.old node.new bank.new) }
     ensures err { IsRingSize (length source.now) lines → IfErr result ComesInCall }
-    ensures made { MadeSome B.gives B.at_step (item_writes source.now lines) (length source.now) node.old bank.old node.new bank.new }
-    ensures still { IsStillBankOf B.way B.keep bank.old node.new bank.new }
+    ensures made { MadeSome B.gives B.readies B.at_step (item_writes source.now lines) (length source.now) node.old bank.old node.new bank.new }
+    ensures still { IsStillBankOf B.way B.keep B.at_step B.gives B.readies B.told bank.old node.new bank.new }
 {
     let mut door = Door::new(gate, stop, node.id().get());
     if !is_ring_size(source.len(), lines) {

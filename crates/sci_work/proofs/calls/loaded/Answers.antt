@@ -5,8 +5,8 @@ use Rattle.sci_ops.specs.declared.goals.Goal.{Goal}
 use Rattle.sci_cache.specs.declared.refusals.NodeRefusal.{NodeRefusal}
 use Rattle.sci_cache.specs.Nodes.{IsAnswerTo}
 use Rattle.sci_cache.specs.declared.requests.Request.{Request}
-use Rattle.sci_work.specs.Made.{none, load}
-use Rattle.sci_work.proofs.Making.{still_bank}
+use Rattle.sci_work.specs.Made.{none, ready, load}
+use Rattle.sci_work.proofs.Making.{still_called}
 use Rattle.sci_work.proofs.Residual.{passed_on}
 use Rattle.sci_work.proofs.Worked.{still_not}
 use Rattle.sci_work.proofs.calls.loaded.Goals as goal
@@ -22,10 +22,10 @@ returns-in_err-enter g c =
     }
 
 pub returns-in-Ok-Seen-clause-made : goal.returns-in-Ok-Seen-clause-made
-returns-in-Ok-Seen-clause-made g c = load c.args.line c.load-answer.result none c.load-answer.ensures.waits
+returns-in-Ok-Seen-clause-made g c = load c.args.line c.load-answer.result (ready none c.load-answer.ensures.readied) c.load-answer.ensures.waits
 
 pub returns-in-Ok-Seen-clause-still : goal.returns-in-Ok-Seen-clause-still
-returns-in-Ok-Seen-clause-still g c = let e = c.load-answer.ensures in still_bank g.B.Bank.gives g.B.Bank.at_step c.args.node.now (Request.Load c.args.line) c.args.bank.now c.load-answer.result c.load-answer.new.bank c.load-answer.new.self e.waits e.same_node e.same_way e.same_fact c.requires.ready
+returns-in-Ok-Seen-clause-still g c = let e = c.load-answer.ensures in still_called c.args.node.now (Request.Load c.args.line) c.args.bank.now c.load-answer.result c.load-answer.new.bank c.load-answer.new.self e c.requires.ready
 
 pub returns-in-Err : goal.returns-in-Err
 returns-in-Err g c =
@@ -33,8 +33,8 @@ returns-in-Err g c =
     record {
       fits = tt;
       err = c.refused.ensures.comes;
-      made = load c.args.line c.load-answer.result none c.load-answer.ensures.waits;
-      still = still_bank g.B.Bank.gives g.B.Bank.at_step c.args.node.now (Request.Load c.args.line) c.args.bank.now c.load-answer.result c.load-answer.new.bank c.load-answer.new.self e.waits e.same_node e.same_way e.same_fact c.requires.ready;
+      made = load c.args.line c.load-answer.result (ready none c.load-answer.ensures.readied) c.load-answer.ensures.waits;
+      still = still_called c.args.node.now (Request.Load c.args.line) c.args.bank.now c.load-answer.result c.load-answer.new.bank c.load-answer.new.self e c.requires.ready;
     }
 
 pub returns-in-Ok-Seen-clause-err : goal.returns-in-Ok-Seen-clause-err

@@ -17,7 +17,7 @@ returns-in_err-words g c =
       fits = IfOk-from_err r.result _ r.ensures.0;
       number = IfOk-from_err r.result _ r.ensures.0;
       err = passed_on r.result _ _ r.ensures.1 c.in_err-words.ensures.err;
-      made = made_all g.B.Bank.gives g.B.Bank.at_step c.loop.invariant.made c.loaded.ensures.made;
+      made = made_all g.B.Bank.gives g.B.Bank.readies g.B.Bank.at_step c.loop.invariant.made c.loaded.ensures.made;
       still = still_then c.loop.invariant.still c.loaded.ensures.still;
     }
 
@@ -27,7 +27,7 @@ returns-then-words-number g c =
       fits = subst (λ k. g.B.Keep.Keeps.fits k c.args.line c.in_ok-words.words) c.loop.invariant.still.same_fact c.in_ok-words.ensures.fits;
       number = c.if-words-number.true;
       err = tt;
-      made = made_all g.B.Bank.gives g.B.Bank.at_step c.loop.invariant.made c.loaded.ensures.made;
+      made = made_all g.B.Bank.gives g.B.Bank.readies g.B.Bank.at_step c.loop.invariant.made c.loaded.ensures.made;
       still = still_then c.loop.invariant.still c.loaded.ensures.still;
     }
 
@@ -39,7 +39,7 @@ returns-in_err-watched g c =
       fits = IfOk-from_err r.result _ r.ensures.0;
       number = IfOk-from_err r.result _ r.ensures.0;
       err = passed_on r.result _ _ r.ensures.1 (subst ComesInCall (sym c.in_err-watched.ensures.err) tt);
-      made = made_all g.B.Bank.gives g.B.Bank.at_step (made_all g.B.Bank.gives g.B.Bank.at_step c.loop.invariant.made c.loaded.ensures.made) (c.watched.ensures.watched.made c.loaded.new.node);
+      made = made_all g.B.Bank.gives g.B.Bank.readies g.B.Bank.at_step (made_all g.B.Bank.gives g.B.Bank.readies g.B.Bank.at_step c.loop.invariant.made c.loaded.ensures.made) (c.watched.ensures.watched.made c.loaded.new.node);
       still = still_then seen (still_watched seen.ready c.watched.ensures.watched);
     }
 
@@ -53,7 +53,7 @@ loop-preserved g c =
       can = tt;
       finite = tt;
       still = still_then seen (still_watched seen.ready c.watched.ensures.watched);
-      made = made_all g.B.Bank.gives g.B.Bank.at_step (made_all g.B.Bank.gives g.B.Bank.at_step c.loop.invariant.made c.loaded.ensures.made) (c.watched.ensures.watched.made c.loaded.new.node);
+      made = made_all g.B.Bank.gives g.B.Bank.readies g.B.Bank.at_step (made_all g.B.Bank.gives g.B.Bank.readies g.B.Bank.at_step c.loop.invariant.made c.loaded.ensures.made) (c.watched.ensures.watched.made c.loaded.new.node);
     }
 
 pub loaded-requires-clause-ready : goal.loaded-requires-clause-ready

@@ -1,7 +1,7 @@
 use Rattle.std.proofs.lemmas.Result.{IfOk-from_err}
 use Rattle.sci_cache.specs.declared.requests.Request.{Request}
-use Rattle.sci_work.specs.Made.{none, write, refused}
-use Rattle.sci_work.proofs.Making.{on_err, still_bank}
+use Rattle.sci_work.specs.Made.{none, ready, write, refused}
+use Rattle.sci_work.proofs.Making.{on_err, still_called}
 use Rattle.sci_work.proofs.Residual.{passed_on}
 use Rattle.sci_work.proofs.Worked.{still_not}
 use Rattle.sci_work.proofs.calls.written.Goals as goal
@@ -21,9 +21,9 @@ returns-in-Ok g c =
     let e = c.write_line-answer.ensures in
     record {
       err = tt;
-      made = write c.args.line c.args.words _ none c.in-Ok.ensures.waits;
+      made = write c.args.line c.args.words _ (ready none c.in-Ok.ensures.readied) c.in-Ok.ensures.waits;
       none = tt;
-      still = still_bank g.B.Bank.gives g.B.Bank.at_step c.args.node.now (Request.WriteLine c.args.line c.args.words) c.args.bank.now c.write_line-answer.result c.write_line-answer.new.bank c.write_line-answer.new.self e.waits e.same_node e.same_way e.same_fact c.requires.ready;
+      still = still_called c.args.node.now (Request.WriteLine c.args.line c.args.words) c.args.bank.now c.write_line-answer.result c.write_line-answer.new.bank c.write_line-answer.new.self e c.requires.ready;
     }
 
 pub returns-in-Err : goal.returns-in-Err
@@ -32,8 +32,8 @@ returns-in-Err g c =
     record {
       err = c.refused.ensures.comes;
       made = tt;
-      none = refused c.args.line c.args.words _ none c.in-Err.ensures.waits;
-      still = still_bank g.B.Bank.gives g.B.Bank.at_step c.args.node.now (Request.WriteLine c.args.line c.args.words) c.args.bank.now c.write_line-answer.result c.write_line-answer.new.bank c.write_line-answer.new.self e.waits e.same_node e.same_way e.same_fact c.requires.ready;
+      none = refused c.args.line c.args.words _ (ready none c.in-Err.ensures.readied) c.in-Err.ensures.waits;
+      still = still_called c.args.node.now (Request.WriteLine c.args.line c.args.words) c.args.bank.now c.write_line-answer.result c.write_line-answer.new.bank c.write_line-answer.new.self e c.requires.ready;
     }
 
 pub write_line-answer-requires : goal.write_line-answer-requires

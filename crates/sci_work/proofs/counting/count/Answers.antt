@@ -1,4 +1,4 @@
-use Rattle.std.proofs.Common.{◌≡◌, ◌∷◌, ◌++◌, ◌∙◌, [], ℕ, List, length, refl, ap, sym, subst, IfErr}
+use Rattle.std.proofs.Common.{◌≡◌, ◌∷◌, ◌++◌, ◌∙◌, [], List, length, refl, ap, sym, subst, IfErr}
 use Rattle.std.proofs.lemmas.List.Elements.{All-cons, All-nil}
 use Rattle.std.proofs.lemmas.Result.{IfOk-from_err}
 use Rattle.std.specs.Prelude.{slice_index}
@@ -13,6 +13,7 @@ use Rattle.sci_work.proofs.counting.count.Goals as goal
 pub returns-then-not-is_count_size : goal.returns-then-not-is_count_size
 returns-then-not-is_count_size g c = record {
   limits = ((λ _ size. let e = c.is_count_size.ensures.1 size in cc), λ _. refl);
+  total = tt;
   ok = tt;
   nodes = tt;
   err = tt;
@@ -24,6 +25,7 @@ returns-in_err-closed g c =
     let comes = c.in_err-closed.ensures.err in
     record {
       limits = ((λ e _. subst (λ z. IfErr z (ComesInStart (Program.Count c.args.adds))) e (passed_on r.result _ _ r.ensures.1 comes)), λ no. absurd (no size));
+      total = IfOk-from_err r.result _ r.ensures.0;
       ok = IfOk-from_err r.result _ r.ensures.0;
       nodes = IfOk-from_err r.result _ r.ensures.0;
       err = passed_on r.result _ _ r.ensures.1 (in_count c.args.adds _ comes);
@@ -32,7 +34,7 @@ returns-in_err-closed g c =
 pub returns-in_default : goal.returns-in_default
 returns-in_default g c =
     let size : IsCountSize c.args.nodes c.args.adds c.args.capacity = c.if-not-is_count_size.ensures.0 refl in
-    record { limits = ((λ e _. cc), λ no. absurd (no size)); ok = tt; nodes = tt; err = tt }
+    record { limits = ((λ e _. cc), λ no. absurd (no size)); total = tt; ok = tt; nodes = tt; err = tt }
 
 pub returns : goal.returns
 returns g c =
@@ -41,6 +43,7 @@ returns g c =
     let one = c.in-Ok.ensures.items ∙ ap (λ (l : List ClosedLine). l ++ closed ∷ []) c.new-lines.ensures.items in
     record {
       limits = ((λ e _. cc), λ no. absurd (no size));
+      total = ap (λ l. slice_index l.words 0) c.value.ensures.value ∙ told.total;
       ok = (closed, one, told.ok, ap (λ l. slice_index l.words 0) c.value.ensures.value);
       nodes = subst (λ (z : List _). HaveNodes c.args.nodes z) (sym one) (All-cons (λ (x : ClosedLine). length x.tags ≡ c.args.nodes) closed [] told.nodes (All-nil _));
       err = tt;

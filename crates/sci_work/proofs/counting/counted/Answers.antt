@@ -6,10 +6,13 @@ use Rattle.sci_fine.specs.Banks.{IsLine}
 use Rattle.sci_work.specs.Hands.{AtEach, IsHandOf}
 use Rattle.sci_work.specs.Starts.{AreParts}
 use Rattle.sci_work.specs.declared.programs.Program.{Program}
+use Rattle.sci_work.proofs.Dealing.{as_many}
+use Rattle.sci_work.proofs.Handed.{all_counted, none_written}
 use Rattle.sci_work.proofs.Opening.{parts_of}
 use Rattle.sci_work.proofs.Refusing.{of_memory}
 use Rattle.sci_work.proofs.Residual.{passed_on}
-use Rattle.sci_work.proofs.Seated.{at_more}
+use Rattle.sci_work.proofs.Seated.{at_more, count_of}
+use Rattle.sci_work.proofs.Totals.{total_of}
 use Rattle.sci_work.proofs.counting.counted.Goals as goal
 
 abbrev any_words : AnyWords → ℕ → List ℕ → Type 0
@@ -27,7 +30,9 @@ run_all-requires-after_bounds g c κs within =
     let len : vec_len hands ≡ c.args.nodes = c.in_ok-hands.ensures.len ∙ c.in_ok-line.ensures.len in
     let is_line = at_more (IsLine c.args.nodes _) [] (line ∷ []) line refl (λ k x e. absurd (some-ne-none x (sym e))) c.in_ok-line.ensures.line in
     subst (λ (z : List _). AreParts any_words z program hands) (sym c.from_ref.ensures.value)
-    (parts_of any_words c.args.nodes _ 1 program (line ∷ []) hands refl (omega arith) (omega arith) is_line len c.requires.1 c.in_ok-hands.ensures.each (λ k low. (omega arith, λ words size fits. tt)))
+    (parts_of any_words c.args.nodes _ 1 program (line ∷ []) hands refl (omega arith) (omega arith) is_line len c.requires.1 c.in_ok-hands.ensures.each
+    (λ k hand at. none_written c.in_ok-line.seats.items c.in_ok-line.ensures.new c.args.adds hands.items c.in_ok-hands.ensures.hold k hand at)
+    (λ k low. (omega arith, λ words size fits. tt)))
 
 pub gathered-requires : goal.gathered-requires
 gathered-requires g c =
@@ -38,9 +43,12 @@ finished-requires g c = c.in_ok-seats.ensures.ok
 
 pub returns : goal.returns
 returns g c =
-    let ended = c.finished in
+    let ended = c.finished in let run = c.in_ok-hands-2.ensures.ok in let hands = c.in_ok-hands-2.hands in let seats = c.in_ok-seats.seats in let held = c.in_ok-seats.ensures.held in
+    let len : vec_len c.in_ok-hands.hands ≡ c.args.nodes = c.in_ok-hands.ensures.len ∙ c.in_ok-line.ensures.len in
     record {
       ok = IfOk-weaker ended.result _ _ (λ closed h. h.exact) ended.ensures.ok;
+      total = IfOk-weaker ended.result _ _ (λ closed h. total_of c.args.adds c.in_ok-line.line seats.items closed c.args.nodes (as_many hands.items seats.items held ∙ (sym (count_of hands) ∙ run.hand_count ∙ len))
+          c.in_ok-line.ensures.line.nodes_are c.in_ok-line.ensures.opening (all_counted c.args.adds hands.items seats.items held run.end) h) ended.ensures.history;
       nodes = IfOk-weaker ended.result _ _ (λ closed h. h.nodes ∙ c.in_ok-line.ensures.line.nodes_are) ended.ensures.ok;
       err = IfErr-weaker ended.result _ _ (of_memory (Program.Count c.args.adds)) ended.ensures.err;
     }
@@ -50,6 +58,7 @@ returns-in_err-line g c =
     let r = c.from_residual in
     record {
       ok = IfOk-from_err r.result _ r.ensures.0;
+      total = IfOk-from_err r.result _ r.ensures.0;
       nodes = IfOk-from_err r.result _ r.ensures.0;
       err = passed_on r.result _ _ r.ensures.1 (of_memory (Program.Count c.args.adds) _ c.in_err-line.ensures.err);
     }
@@ -59,6 +68,7 @@ returns-in_err-hands g c =
     let r = c.from_residual-in_err-hands in
     record {
       ok = IfOk-from_err r.result _ r.ensures.0;
+      total = IfOk-from_err r.result _ r.ensures.0;
       nodes = IfOk-from_err r.result _ r.ensures.0;
       err = passed_on r.result _ _ r.ensures.1 (of_memory (Program.Count c.args.adds) _ c.in_err-hands.ensures.err);
     }
@@ -68,6 +78,7 @@ returns-in_err-hands-2 g c =
     let r = c.from_residual-in_err-hands-2 in
     record {
       ok = IfOk-from_err r.result _ r.ensures.0;
+      total = IfOk-from_err r.result _ r.ensures.0;
       nodes = IfOk-from_err r.result _ r.ensures.0;
       err = passed_on r.result _ _ r.ensures.1 c.in_err-hands-2.ensures.err;
     }
@@ -77,6 +88,7 @@ returns-in_err-seats g c =
     let r = c.from_residual-in_err-seats in
     record {
       ok = IfOk-from_err r.result _ r.ensures.0;
+      total = IfOk-from_err r.result _ r.ensures.0;
       nodes = IfOk-from_err r.result _ r.ensures.0;
       err = passed_on r.result _ _ r.ensures.1 (of_memory (Program.Count c.args.adds) _ c.in_err-seats.ensures.err);
     }

@@ -1,4 +1,4 @@
-use Rattle.std.proofs.Common.{◌≡◌, ◌++◌, ◌∷◌, ◌∙◌, ℕ, ◌+◌, ◌≤◌, List, [], length, vec_capacity, vec_items, vec_len, arith, ap, refl, sym, subst}
+use Rattle.std.proofs.Common.{◌≡◌, ◌++◌, ◌∷◌, ◌∙◌, ℕ, ◌+◌, ◌≤◌, List, [], length, vec_capacity, vec_items, vec_len, arith, refl, sym, subst}
 use Rattle.std.proofs.lemmas.Result.{IfOk-from_err}
 use Rattle.std.specs.Vec.Iter.{into_iter_items}
 use mathlib.Core.Option.{some, some-ne-none}
@@ -20,8 +20,8 @@ loop-one-init g c = record {
       subst (λ (z : ℕ). IsHandOf c.args.lines.now z (vec_items x)) (from_none k (vec_len c.in_ok-all.all) c.in_ok-all.ensures.len) h;
   seats = λ k s e.
       let h = c.requires.seats k s (subst (λ (z : List _). get_elem? z k ≡ some s) c.into_iter-rest.ensures.rest e) in
-      let at : k + 0 ≡ k + vec_len c.in_ok-all.all = ap (λ (z : ℕ). k + z) (sym c.in_ok-all.ensures.len) in
-      subst (λ (z : ℕ). IsIdleSeat z c.args.line.now s) at record { of = h.0; node_is = h.1; idle = h.2 };
+      let at = from_none k (vec_len c.in_ok-all.all) c.in_ok-all.ensures.len in
+      subst (λ (z : ℕ). IsIdleSeat z c.args.line.now s) at h;
   each = λ k x e. absurd (some-ne-none x (sym (subst (λ (z : List _). get_elem? z k ≡ some x) c.in_ok-all.ensures.items e)));
 }
 

@@ -2,7 +2,8 @@ use Rattle.std.proofs.Common.{◌≡◌}
 use Rattle.sci_core.specs.declared.pending.Pending.{Pending}
 use Rattle.sci_fine.specs.Seats.{IsSeatOf}
 use Rattle.sci_fine.proofs.Elements.{each_all}
-use Rattle.sci_work.proofs.Fitting.{closed_of}
+use Rattle.sci_fine.specs.Kept.{HasKeptAll}
+use Rattle.sci_work.proofs.Fitting.{closed_of, history_of}
 use Rattle.sci_work.proofs.lines.finished.Goals as goal
 
 pub finish-requires : goal.finish-requires
@@ -13,3 +14,6 @@ finish-requires g c = record {
 
 pub returns-in-Ok-clause-ok : goal.returns-in-Ok-clause-ok
 returns-in-Ok-clause-ok g c = closed_of g.K.Keeps.fits c.args.line _ c.in-Ok.made.closed c.in-Ok.ensures.ok.end
+
+pub returns-in-Ok-clause-history : goal.returns-in-Ok-clause-history
+returns-in-Ok-clause-history g c = history_of g.K.Keeps.fits c.args.line c.args.seats.items c.in-Ok.made.closed _ c.in-Ok.ensures.ok (each_all (λ s. HasKeptAll s) c.args.seats.items (λ k s e. (c.requires k s e).2))

@@ -5,6 +5,7 @@ use mathlib.Core.Option.{some, some-ne-none}
 use lib.ListN.{get_elem?}
 use Rattle.sci_core.specs.declared.pending.Pending.{Pending}
 use Rattle.sci_fine.proofs.Elements.{each_more}
+use Rattle.sci_fine.specs.Kept.{HasKeptAll}
 use Rattle.sci_fine.specs.Seats.{IsSeatOf}
 use Rattle.sci_work.specs.Hands.{IsHandOf}
 use Rattle.sci_work.proofs.Counts.{from_none, moved_one, none_done}
@@ -49,8 +50,8 @@ loop-one-preserved g c =
       left = λ k x e. subst (λ (z : ℕ). IsHandOf (lines ++ line ∷ []) (k + z) (vec_items x)) (sym more.len) (f.1 k x e);
       hands = at_more (λ k hand. IsHandOf lines k (vec_items hand)) c.loop-one.all.items c.push_reserved-in-loop-one.new.self.items c.pop.new.self more.items i.hands
           (subst (λ (z : ℕ). IsHandOf lines z (vec_items c.pop.new.self)) here s.0);
-      seats = subst (λ (z : List _). (k : ℕ) (x : _) → get_elem? z k ≡ some x → IsSeatOf line x × (x.standing.pending ≡ Pending.Idle)) (sym put.items)
-          (each_more (λ x. IsSeatOf line x × (x.standing.pending ≡ Pending.Idle)) c.loop-one.seats.items c.in-Some-pop.seat i.seats (s.1.of, s.1.idle));
+      seats = subst (λ (z : List _). (k : ℕ) (x : _) → get_elem? z k ≡ some x → IsSeatOf line x × (x.standing.pending ≡ Pending.Idle) × HasKeptAll x) (sym put.items)
+          (each_more (λ x. IsSeatOf line x × (x.standing.pending ≡ Pending.Idle) × HasKeptAll x) c.loop-one.seats.items c.in-Some-pop.seat i.seats (s.1.of, s.1.idle, s.1.kept));
     }
 
 pub push_reserved-requires : goal.push_reserved-requires

@@ -1,21 +1,44 @@
+use Rattle.std.proofs.Common.{◌≡◌, ◌<◌, ℕ, arith, refl, sym, subst}
+use Rattle.std.proofs.lemmas.Result.{IfOk-from_err}
+use Rattle.sci_ops.specs.declared.goals.Goal.{Goal}
+use Rattle.sci_ops.specs.declared.goals.Write.{Write}
+use Rattle.sci_ops.specs.Change.{StoresFitting}
+use Rattle.sci_work.specs.Adding.{HasAdded}
+use Rattle.sci_work.proofs.Adding.{added_more, added_none}
 use Rattle.sci_work.proofs.Residual.{passed_on}
 use Rattle.sci_work.proofs.Worked.{worked_not, worked_then}
 use Rattle.sci_work.proofs.programs.counted.Goals as goal
 
 pub loop-init : goal.loop-init
-loop-init g c = worked_not c.requires.ready
+loop-init g c = record { worked = worked_not c.requires.ready; added = added_none (g.B.Bank.told c.args.bank.now 0).list }
+
+pub added-requires-clause-ready : goal.added-requires-clause-ready
+added-requires-clause-ready g c κs within = c.loop.invariant.worked.ready
+
+pub added-requires-clause-line : goal.added-requires-clause-line
+added-requires-clause-line g c κs within = subst (λ w. 0 < w.lines) (sym c.loop.invariant.worked.same_way) c.requires.line
+
+pub added-requires-clause-fits : goal.added-requires-clause-fits
+added-requires-clause-fits g c κs within = subst (λ k. StoresFitting (g.B.Keep.Keeps.fits k 0) (Goal.Write (Write.Add 0 1))) (sym c.loop.invariant.worked.same_fact) c.requires.fits
 
 pub loop-preserved : goal.loop-preserved
 loop-preserved g c =
-    worked_then c.loop.invariant c.added.ensures.worked
+    record { worked = worked_then c.loop.invariant.worked c.added.ensures.worked; added = added_more c.loop.invariant.added c.in_ok-added.ensures.added refl }
 
 pub returns-in_err-added : goal.returns-in_err-added
 returns-in_err-added g c =
     let r = c.from_residual in
     record {
       err = passed_on r.result _ _ r.ensures.1 c.in_err-added.ensures.err;
-      worked = worked_then c.loop.invariant c.added.ensures.worked;
+      worked = worked_then c.loop.invariant.worked c.added.ensures.worked;
+      added = IfOk-from_err r.result _ r.ensures.0;
     }
 
 pub returns : goal.returns
-returns g c = record { err = tt; worked = c.loop.invariant }
+returns g c =
+    let all : c.loop.counter ≡ c.args.adds = omega (arith, c.loop.auto.counter-end, c.loop-test.false) in
+    record {
+      err = tt;
+      worked = c.loop.invariant.worked;
+      added = subst (λ (n : ℕ). HasAdded n (g.B.Bank.told c.args.bank.now 0).list (g.B.Bank.told c.loop.bank 0).list) all c.loop.invariant.added;
+    }

@@ -1,5 +1,9 @@
+use Rattle.sci_work.specs.Adding.{HasAdded}
 use Rattle.sci_work.specs.Workers.{HasWorked}
 use Rattle.sci_work.proofs.programs.counted.Given as goal
 
 abbrev pub invariant-loop : goal.invariant-loop
-invariant-loop g l = HasWorked g.B.Bank.way g.B.Bank.keep g.B.Bank.at_step g.B.Bank.gives l.fn.bank l.node l.bank
+invariant-loop g l = record {
+  worked : HasWorked g.B.Bank.way g.B.Bank.keep g.B.Bank.at_step g.B.Bank.gives g.B.Bank.readies g.B.Bank.told l.fn.bank l.node l.bank;
+  added : HasAdded l.counter (g.B.Bank.told l.fn.bank 0).list (g.B.Bank.told l.bank 0).list;
+}

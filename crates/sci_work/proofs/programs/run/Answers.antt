@@ -1,6 +1,7 @@
 use Rattle.std.proofs.Common.{IfOk, vec_items, sym, subst}
 use Rattle.std.proofs.lemmas.Result.{IfOk-from_err}
-use Rattle.sci_work.specs.Programs.{Awaits, IsShareOf, Suits}
+use Rattle.sci_work.specs.Programs.{Awaits, HasWritten, IsShareOf, Suits}
+use Rattle.sci_work.proofs.Making.{on_ok}
 use Rattle.sci_work.proofs.Refusing.{part_of_call, part_of_worked}
 use Rattle.sci_work.proofs.Residual.{passed_on}
 use Rattle.sci_work.proofs.programs.run.Goals as goal
@@ -33,7 +34,12 @@ returns-in_err-counted-in-Count g c =
       share = IfOk-from_err r.result _ r.ensures.0;
       err = passed_on r.result _ _ r.ensures.1 (part_of_call c.args.program _ c.in_err-counted-in-Count.ensures.err);
       worked = e.worked;
+      written = IfOk-from_err r.result _ r.ensures.0;
     }
+
+pub returns-in_ok-counted-in-Count-clause-written : goal.returns-in_ok-counted-in-Count-clause-written
+returns-in_ok-counted-in-Count-clause-written g c =
+    subst (λ p. HasWritten p (g.B.Bank.told c.args.bank.now 0).list (g.B.Bank.told c.counted.new.bank 0).list) (sym c.in-Count.is) c.in_ok-counted-in-Count.ensures.added
 
 pub returns-in_ok-counted-in-Count-clause-share : goal.returns-in_ok-counted-in-Count-clause-share
 returns-in_ok-counted-in-Count-clause-share g c = subst (λ p. IsShareOf p c.args.number (vec_items c.new.result)) (sym c.in-Count.is) tt
@@ -51,6 +57,7 @@ returns-in-Ring g c =
       share = subst (λ p. IfOk c.worked.result (λ s. IsShareOf p c.args.number s.items)) is e.share;
       err = part_of_worked c.worked.result c.args.program (subst Awaits is tt) e.err;
       worked = e.worked;
+      written = on_ok c.worked.result (subst (λ p. HasWritten p (g.B.Bank.told c.args.bank.now 0).list (g.B.Bank.told c.worked.new.bank 0).list) is tt);
     }
 
 pub returns-in-Stencil : goal.returns-in-Stencil
@@ -60,4 +67,5 @@ returns-in-Stencil g c =
       share = subst (λ p. IfOk c.worked-in-Stencil.result (λ s. IsShareOf p c.args.number s.items)) is e.share;
       err = part_of_worked c.worked-in-Stencil.result c.args.program (subst Awaits is tt) e.err;
       worked = e.worked;
+      written = on_ok c.worked-in-Stencil.result (subst (λ p. HasWritten p (g.B.Bank.told c.args.bank.now 0).list (g.B.Bank.told c.worked-in-Stencil.new.bank 0).list) is tt);
     }

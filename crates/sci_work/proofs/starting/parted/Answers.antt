@@ -1,11 +1,12 @@
 use Rattle.std.proofs.Common.{◌≡◌, ℕ, ◌+◌, ◌≤◌, ◌∙◌, List, IsOk, IfOk, vec_items, vec_len, vec_capacity, arith, ap, sym, subst}
 use Rattle.std.proofs.lemmas.Result.{IfOk-from_err}
+use Rattle.std.specs.Result.{OnOk}
 use Rattle.std.specs.Vec.Iter.{into_iter_items, into_iter_len}
 use mathlib.Core.Option.{some, some-ne-none}
 use lib.ListN.{get_elem?}
 use Rattle.sci_work.specs.Hands.{IsHandOf}
 use Rattle.sci_work.specs.Programs.{IsShareOf}
-use Rattle.sci_work.specs.Starts.{IsPartDone}
+use Rattle.sci_work.specs.Starts.{Ends, IsPartDone}
 use Rattle.sci_work.proofs.Residual.{passed_on}
 use Rattle.sci_work.proofs.Seated.{at_first, at_more, count_of, gone_over}
 use Rattle.sci_work.proofs.starting.parted.Goals as goal
@@ -24,6 +25,7 @@ loop-one-init g c =
           subst (λ (z : ℕ). IsPartDone c.args.lines.now c.args.program z (vec_items x.hand) x.share) at h;
       ended = λ k x e. c.requires.ended k x (subst (λ (z : List _). get_elem? z k ≡ some x) all.0 e);
       hands = λ k x e. absurd (some-ne-none x (sym (subst (λ (z : List _). get_elem? z k ≡ some x) made.empty.0 e)));
+      end = λ k x e. absurd (some-ne-none x (sym (subst (λ (z : List _). get_elem? z k ≡ some x) made.empty.0 e)));
       shares = λ k x e. absurd (some-ne-none x (sym (subst (λ (z : List _). get_elem? z k ≡ some x) made.empty.1 e)));
     }
 
@@ -48,6 +50,8 @@ loop-one-preserved g c =
       ended = (at_first (λ k one. IsOk one.share) (into_iter_items c.loop-one.one-iterator) (into_iter_items c.next.new.self) c.in-Some.one 0 step.0 i.ended).1;
       hands = at_more (λ k hand. IsHandOf c.args.lines.now k (vec_items hand)) c.loop-one.hands.items c.push_reserved.new.self.items one.hand more.items i.hands
           (subst (λ (z : ℕ). IsHandOf c.args.lines.now z (vec_items one.hand)) here f.0.hand);
+      end = at_more (λ k hand. Ends c.args.program (vec_items hand)) c.loop-one.hands.items c.push_reserved.new.self.items one.hand more.items i.end
+          (subst (λ r. OnOk r (Ends c.args.program (vec_items one.hand))) c.in-Ok.is f.0.ends);
       shares = at_more (λ k share. IsShareOf c.args.program k (vec_items share)) c.loop-one.shares.items c.push_reserved-in-loop-one.new.self.items c.in-Ok.share shared.items i.shares
           (subst (λ (z : ℕ). IsShareOf c.args.program z (vec_items c.in-Ok.share)) there (subst (λ r. IfOk r (λ s. IsShareOf c.args.program (vec_len c.loop-one.hands) s.items)) c.in-Ok.is f.0.share_is));
     }
@@ -61,7 +65,7 @@ push_reserved-requires-in-loop-one g c = let i = c.loop-one.invariant in omega (
 pub returns : goal.returns
 returns g c =
     let i = c.loop-one.invariant in let none = c.in-None.ensures.steps.0 in
-    record { ok = record { hand_count = omega (arith, i.rest, none); hands_are = i.hands; share_count = omega (arith, i.rest, i.same, none); shares_are = i.shares }; err = tt }
+    record { ok = record { hand_count = omega (arith, i.rest, none); hands_are = i.hands; end = i.end; share_count = omega (arith, i.rest, i.same, none); shares_are = i.shares }; err = tt }
 
 pub returns-in_err-hands : goal.returns-in_err-hands
 returns-in_err-hands g c = let r = c.from_residual in record { ok = IfOk-from_err r.result _ r.ensures.0; err = passed_on r.result _ _ r.ensures.1 c.in_err-hands.ensures.err }

@@ -1,8 +1,8 @@
-use Rattle.std.proofs.Common.{◌≡◌, ◌+◌, ◌≤◌, ℕ, IsOk, vec_items, vec_len, vec_capacity}
+use Rattle.std.proofs.Common.{◌≡◌, ◌+◌, ◌≤◌, IsOk, vec_items, vec_len, vec_capacity}
 use Rattle.std.specs.Vec.Iter.{into_iter_items, into_iter_len}
 use Rattle.sci_work.specs.Hands.{AtEach, IsHandOf}
 use Rattle.sci_work.specs.Programs.{IsShareOf}
-use Rattle.sci_work.specs.Starts.{IsPartDone}
+use Rattle.sci_work.specs.Starts.{Ends, IsPartDone}
 use Rattle.sci_work.proofs.starting.parted.Given as goal
 
 abbrev pub invariant-loop-one : goal.invariant-loop-one
@@ -14,5 +14,6 @@ invariant-loop-one g l = record {
   left : AtEach (λ k one. IsPartDone l.lines l.fn.program (k + vec_len l.hands) (vec_items one.hand) one.share) (into_iter_items l.one-iterator);
   ended : AtEach (λ k one. IsOk one.share) (into_iter_items l.one-iterator);
   hands : AtEach (λ k hand. IsHandOf l.lines k (vec_items hand)) (vec_items l.hands);
+  end : AtEach (λ k hand. Ends l.fn.program (vec_items hand)) (vec_items l.hands);
   shares : AtEach (λ k share. IsShareOf l.fn.program k (vec_items share)) (vec_items l.shares);
 }

@@ -1,5 +1,5 @@
-use Rattle.sci_work.specs.Workers.{stays}
+use Rattle.sci_port.specs.KeepsAll.{keeps_none}
 use Rattle.sci_work.proofs.starting.share_of.Goals as goal
 
-pub returns-in-Err-OutOfMemory-clause-led : goal.returns-in-Err-OutOfMemory-clause-led
-returns-in-Err-OutOfMemory-clause-led g c = stays
+pub returns-in-Err-OutOfMemory-clause-kept : goal.returns-in-Err-OutOfMemory-clause-kept
+returns-in-Err-OutOfMemory-clause-kept g c = keeps_none

@@ -19,7 +19,7 @@ returns-in_err-value g c =
       items = IfOk-from_err r.result _ r.ensures.0;
       ok = IfOk-from_err r.result _ r.ensures.0;
       err = passed_on r.result _ _ r.ensures.1 c.in_err-value.ensures.err;
-      made = record { count = c.loop-i.i; within = c.loop-i.auto.i-end; made = made_all g.B.Bank.gives g.B.Bank.at_step c.loop-i.invariant.made c.item.ensures.made };
+      made = record { count = c.loop-i.i; within = c.loop-i.auto.i-end; made = made_all g.B.Bank.gives g.B.Bank.readies g.B.Bank.at_step c.loop-i.invariant.made c.item.ensures.made };
       still = still_then c.loop-i.invariant.still c.item.ensures.still;
     }
 
@@ -29,7 +29,7 @@ returns-then-is_err g c =
       items = tt;
       ok = tt;
       err = tt;
-      made = record { count = c.loop-i.i; within = c.loop-i.auto.i-end; made = made_all g.B.Bank.gives g.B.Bank.at_step c.loop-i.invariant.made c.item.ensures.made };
+      made = record { count = c.loop-i.i; within = c.loop-i.auto.i-end; made = made_all g.B.Bank.gives g.B.Bank.readies g.B.Bank.at_step c.loop-i.invariant.made c.item.ensures.made };
       still = still_then c.loop-i.invariant.still c.item.ensures.still;
     }
 
@@ -43,14 +43,14 @@ returns-in_err-written g c =
       made = record {
         count = c.loop-i.i;
         within = c.loop-i.auto.i-end;
-        made = made_all g.B.Bank.gives g.B.Bank.at_step (made_all g.B.Bank.gives g.B.Bank.at_step c.loop-i.invariant.made c.item.ensures.made) c.in_err-written.ensures.none;
+        made = made_all g.B.Bank.gives g.B.Bank.readies g.B.Bank.at_step (made_all g.B.Bank.gives g.B.Bank.readies g.B.Bank.at_step c.loop-i.invariant.made c.item.ensures.made) c.in_err-written.ensures.none;
       };
       still = still_then (still_then c.loop-i.invariant.still c.item.ensures.still) c.written.ensures.still;
     }
 
 pub loop-i-preserved : goal.loop-i-preserved
 loop-i-preserved g c =
-    let more = made_all g.B.Bank.gives g.B.Bank.at_step (made_all g.B.Bank.gives g.B.Bank.at_step c.loop-i.invariant.made c.item.ensures.made) c.in_ok-written.ensures.made in
+    let more = made_all g.B.Bank.gives g.B.Bank.readies g.B.Bank.at_step (made_all g.B.Bank.gives g.B.Bank.readies g.B.Bank.at_step c.loop-i.invariant.made c.item.ensures.made) c.in_ok-written.ensures.made in
     record {
       items = λ source ring enough.
           let was = c.loop-i.invariant.items source ring enough in
@@ -59,7 +59,7 @@ loop-i-preserved g c =
           let pushed = c.push.ensures.items ∙ ap (λ (b : Bool). if b then was_items ++ c.in_ok-value.value ∷ [] else was_items) c.if-is_err.ensures.negation in
           pushed ∙ ap (λ (xs : List ℕ). xs ++ c.in_ok-value.value ∷ []) was ∙ take_more source c.loop-i.i c.in_ok-value.value (omega arith) value;
       made =
-          subst (λ (ws : List (ℕ × List ℕ)). Made g.B.Bank.gives g.B.Bank.at_step ws c.args.node.now c.args.bank.now c.written.new.node c.written.new.bank)
+          subst (λ (ws : List (ℕ × List ℕ)). Made g.B.Bank.gives g.B.Bank.readies g.B.Bank.at_step ws c.args.node.now c.args.bank.now c.written.new.node c.written.new.bank)
           (count_more c.args.lines c.loop-i.i _ c.count_of.ensures) more;
       still = still_then (still_then c.loop-i.invariant.still c.item.ensures.still) c.written.ensures.still;
     }
@@ -70,7 +70,7 @@ returns g c =
     let all : c.loop-i.i ≡ c.args.n = omega (arith, c.loop-i.auto.i-end, c.loop-i-test.false) in
     record {
       items = λ source ring enough. i.items source ring enough ∙ ap (λ (k : ℕ). take k source) all;
-      ok = subst (λ (k : ℕ). Made g.B.Bank.gives g.B.Bank.at_step (count_writes c.args.lines k) c.args.node.now c.args.bank.now c.loop-i.node c.loop-i.bank) all i.made;
+      ok = subst (λ (k : ℕ). Made g.B.Bank.gives g.B.Bank.readies g.B.Bank.at_step (count_writes c.args.lines k) c.args.node.now c.args.bank.now c.loop-i.node c.loop-i.bank) all i.made;
       err = tt;
       made = record { count = c.loop-i.i; within = c.loop-i.auto.i-end; made = i.made };
       still = i.still;

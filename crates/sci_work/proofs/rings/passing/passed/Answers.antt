@@ -1,4 +1,4 @@
-use Rattle.std.proofs.Common.{◌≡◌, ◌∷◌, [], ℕ, ◌+◌, List, length, ap, sym, ◌∙◌, subst, arith}
+use Rattle.std.proofs.Common.{◌≡◌, ℕ, ◌+◌, List, length, ap, sym, ◌∙◌, subst, arith}
 use Rattle.std.proofs.lemmas.Result.{IfOk-from_err}
 use Rattle.sci_work.specs.Ended.{AreClosed}
 use Rattle.sci_work.specs.Ring.{FitsRing}
@@ -20,7 +20,7 @@ run_all-requires-after_bounds g c κs within =
     let fact = c.new.result in let made = c.in_ok-shared in let lines = c.args.lines in
     let size : length made.shared.items ≡ lines + 1 = omega (arith, made.ensures.count, made.shared.ok) in
     subst (λ (z : List _). AreParts fits_of z (Program.Ring c.args.source lines) made.hands) (sym c.deref.ensures.value)
-    (parts_of fits_of 2 fact (lines + 1) (Program.Ring c.args.source lines) made.shared.items made.hands size (omega arith) (let few = c.requires.2 in omega (arith, few)) made.ensures.lines made.ensures.len (omega arith) made.ensures.hands
+    (parts_of fits_of 2 fact (lines + 1) (Program.Ring c.args.source lines) made.shared.items made.hands size (omega arith) (let few = c.requires.2 in omega (arith, few)) made.ensures.lines made.ensures.len (omega arith) made.ensures.hands (λ k hand at. tt)
     (λ k low. (is_ring fact.source.now c.args.source.now fact.lines lines (ap (λ z. z.now) c.new.ensures.source) c.new.ensures.lines, c.requires, omega arith)))
 
 pub last_share-items-requires : goal.last_share-items-requires

@@ -17,7 +17,7 @@ returns-in_err-consumed g c =
     record {
       ok = IfOk-from_err r.result _ r.ensures.0;
       err = passed_on r.result _ _ r.ensures.1 c.in_err-consumed.ensures.err;
-      made = record { count = c.loop-i.i; within = c.loop-i.auto.i-end; made = made_all g.B.Bank.gives g.B.Bank.at_step c.loop-i.invariant.made c.free.ensures.made };
+      made = record { count = c.loop-i.i; within = c.loop-i.auto.i-end; made = made_all g.B.Bank.gives g.B.Bank.readies g.B.Bank.at_step c.loop-i.invariant.made c.free.ensures.made };
       still = still_then c.loop-i.invariant.still c.free.ensures.still;
     }
 
@@ -30,17 +30,17 @@ returns-in_err-written g c =
       made = record {
         count = c.loop-i.i;
         within = c.loop-i.auto.i-end;
-        made = made_all g.B.Bank.gives g.B.Bank.at_step (made_all g.B.Bank.gives g.B.Bank.at_step c.loop-i.invariant.made c.free.ensures.made) c.in_err-written.ensures.none;
+        made = made_all g.B.Bank.gives g.B.Bank.readies g.B.Bank.at_step (made_all g.B.Bank.gives g.B.Bank.readies g.B.Bank.at_step c.loop-i.invariant.made c.free.ensures.made) c.in_err-written.ensures.none;
       };
       still = still_then (still_then c.loop-i.invariant.still c.free.ensures.still) c.written.ensures.still;
     }
 
 pub loop-i-preserved : goal.loop-i-preserved
 loop-i-preserved g c =
-    let more = made_all g.B.Bank.gives g.B.Bank.at_step (made_all g.B.Bank.gives g.B.Bank.at_step c.loop-i.invariant.made c.free.ensures.made) c.in_ok-written.ensures.made in
+    let more = made_all g.B.Bank.gives g.B.Bank.readies g.B.Bank.at_step (made_all g.B.Bank.gives g.B.Bank.readies g.B.Bank.at_step c.loop-i.invariant.made c.free.ensures.made) c.in_ok-written.ensures.made in
     record {
       made =
-          subst (λ (ws : List (ℕ × List ℕ)). Made g.B.Bank.gives g.B.Bank.at_step ws c.args.node.now c.args.bank.now c.written.new.node c.written.new.bank)
+          subst (λ (ws : List (ℕ × List ℕ)). Made g.B.Bank.gives g.B.Bank.readies g.B.Bank.at_step ws c.args.node.now c.args.bank.now c.written.new.node c.written.new.bank)
           (item_more c.args.source.now c.args.lines c.loop-i.i _ _ c.line_of-line.ensures.place c.words_of.ensures) more;
       still = still_then (still_then c.loop-i.invariant.still c.free.ensures.still) c.written.ensures.still;
     }
@@ -50,7 +50,7 @@ returns g c =
     let i = c.loop-i.invariant in
     let all : c.loop-i.i ≡ length c.args.source.now = omega (arith, c.loop-i.auto.i-end, c.loop-i-test.false) in
     record {
-      ok = subst (λ (k : ℕ). Made g.B.Bank.gives g.B.Bank.at_step (item_writes c.args.source.now c.args.lines k) c.args.node.now c.args.bank.now c.loop-i.node c.loop-i.bank) all i.made;
+      ok = subst (λ (k : ℕ). Made g.B.Bank.gives g.B.Bank.readies g.B.Bank.at_step (item_writes c.args.source.now c.args.lines k) c.args.node.now c.args.bank.now c.loop-i.node c.loop-i.bank) all i.made;
       err = tt;
       made = record { count = c.loop-i.i; within = c.loop-i.auto.i-end; made = i.made };
       still = i.still;

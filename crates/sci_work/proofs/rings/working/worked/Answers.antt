@@ -3,15 +3,13 @@ use Rattle.std.proofs.lemmas.List.{take_all}
 use Rattle.std.proofs.lemmas.Result.{IfOk-from_err, IfOk-weaker}
 use Rattle.sci_work.proofs.Refusing.{of_call}
 use Rattle.sci_work.proofs.Residual.{passed_on}
-use Rattle.sci_work.proofs.Resting.{worked_made}
+use Rattle.sci_work.proofs.Worked.{worked_still}
 use Rattle.sci_work.proofs.rings.working.worked.Goals as goal
 
 pub returns-in_err-produced : goal.returns-in_err-produced
 returns-in_err-produced g c =
     let r = c.from_residual in
-    let rested =
-    worked_made g.B.Bank.gives g.B.Bank.at_step g.B.Bank.nodes_on (λ u line. g.B.Keep.Keeps.fits (g.B.Bank.keep u) line) (λ u. (g.B.Bank.way u).node) (λ u line call v h. g.met.B.Bank.owes u line call v h) (λ u line call v h. g.met.B.Bank.others u line call v h)
-    c.requires.ready c.produced.ensures.still c.produced.ensures.made.made in
+    let rested = worked_still c.requires.ready c.produced.ensures.still in
     record {
       share = IfOk-from_err r.result _ r.ensures.0;
       err = passed_on r.result _ _ r.ensures.1 (of_call _ c.in_err-produced.ensures.err);
@@ -20,9 +18,7 @@ returns-in_err-produced g c =
 
 pub returns-then-number-eq0 : goal.returns-then-number-eq0
 returns-then-number-eq0 g c =
-    let rested =
-    worked_made g.B.Bank.gives g.B.Bank.at_step g.B.Bank.nodes_on (λ u line. g.B.Keep.Keeps.fits (g.B.Bank.keep u) line) (λ u. (g.B.Bank.way u).node) (λ u line call v h. g.met.B.Bank.owes u line call v h) (λ u line call v h. g.met.B.Bank.others u line call v h)
-    c.requires.ready c.produced.ensures.still c.produced.ensures.made.made in
+    let rested = worked_still c.requires.ready c.produced.ensures.still in
     record {
       share = λ one. absurd (omega (arith, one, c.if-number-eq0.true));
       err = tt;
@@ -32,9 +28,7 @@ returns-then-number-eq0 g c =
 pub returns : goal.returns
 returns g c =
     let e = c.consumed.ensures in
-    let rested =
-    worked_made g.B.Bank.gives g.B.Bank.at_step g.B.Bank.nodes_on (λ u line. g.B.Keep.Keeps.fits (g.B.Bank.keep u) line) (λ u. (g.B.Bank.way u).node) (λ u line call v h. g.met.B.Bank.owes u line call v h) (λ u line call v h. g.met.B.Bank.others u line call v h)
-    c.requires.ready e.still e.made.made in
+    let rested = worked_still c.requires.ready e.still in
     let source = c.args.source.now in
     record {
       share = IfOk-weaker c.consumed.result _ _ (λ v read _. read source c.requires.ring (omega arith) ∙ take_all (length source) source (omega arith)) e.items;

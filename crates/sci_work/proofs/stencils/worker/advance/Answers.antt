@@ -5,8 +5,7 @@ use Rattle.sci_work.specs.Stencil.{FitsStencil}
 use Rattle.sci_work.proofs.Exits.{passed_on}
 use Rattle.sci_work.proofs.Refusing.{of_call}
 use Rattle.sci_work.proofs.Showing.{advanced_holds, fitting, work_again}
-use Rattle.sci_work.proofs.Resting.{worked_written}
-use Rattle.sci_work.proofs.Worked.{may_call, worked_then}
+use Rattle.sci_work.proofs.Worked.{may_call, worked_then, worked_still}
 use Rattle.sci_work.proofs.stencils.worker.advance.Goals as goal
 
 pub returns-in_err-own : goal.returns-in_err-own
@@ -67,8 +66,7 @@ line_at-line-requires g c = let low = c.requires.tile in let few = c.requires.wo
 pub returns : goal.returns
 returns g c =
     let own = c.awaited.ensures in let left = c.cell_before.ensures in let right = c.cell_behind.ensures in let last = c.written.ensures in
-    let b = worked_written g.B.Bank.gives g.B.Bank.at_step g.B.Bank.nodes_on (λ u line. g.B.Keep.Keeps.fits (g.B.Bank.keep u) line) (λ u. (g.B.Bank.way u).node) (λ u line call v h. g.met.B.Bank.owes u line call v h) (λ u line call v h. g.met.B.Bank.others u line call v h)
-    c.written.result _ right.worked.ready last.still last.made last.none in
+    let b = worked_still right.worked.ready last.still in
     record {
       err = IfErr-weaker c.written.result ComesInCall ComesInWork of_call last.err;
       worked = worked_then (worked_then (worked_then own.worked left.worked) right.worked) b;

@@ -5,8 +5,7 @@ use Rattle.sci_work.specs.Stencil.{FitsStencil}
 use Rattle.sci_work.proofs.Exits.{passed_on}
 use Rattle.sci_work.proofs.Refusing.{of_call}
 use Rattle.sci_work.proofs.Showing.{shown}
-use Rattle.sci_work.proofs.Resting.{worked_made}
-use Rattle.sci_work.proofs.Worked.{may_call}
+use Rattle.sci_work.proofs.Worked.{may_call, worked_still}
 use Rattle.sci_work.proofs.stencils.worker.awaited.Goals as goal
 
 pub reached-requires-clause-ready : goal.reached-requires-clause-ready
@@ -21,8 +20,7 @@ reached-requires-clause-line g c κs within = let low = c.requires.tile in let l
 pub returns-in_err-words : goal.returns-in_err-words
 returns-in_err-words g c =
     let e = c.reached.ensures in let r = c.from_residual in
-    let b = worked_made g.B.Bank.gives g.B.Bank.at_step g.B.Bank.nodes_on (λ u line. g.B.Keep.Keeps.fits (g.B.Bank.keep u) line) (λ u. (g.B.Bank.way u).node) (λ u line call v h. g.met.B.Bank.owes u line call v h) (λ u line call v h. g.met.B.Bank.others u line call v h)
-    c.requires.ready e.still e.made in
+    let b = worked_still c.requires.ready e.still in
     record {
       number = IfOk-from_err r.result _ r.ensures.0;
       cells = IfOk-from_err r.result _ r.ensures.0;
@@ -34,8 +32,7 @@ pub returns-then-words-number : goal.returns-then-words-number
 returns-then-words-number g c =
     let e = c.reached.ensures in let work = c.requires.work in
     let cells = c.args.work.cells.now in let phases = c.args.work.phases in let line = c.line_at-line.result in let words = c.in_ok-words.words in
-    let b = worked_made g.B.Bank.gives g.B.Bank.at_step g.B.Bank.nodes_on (λ u line. g.B.Keep.Keeps.fits (g.B.Bank.keep u) line) (λ u. (g.B.Bank.way u).node) (λ u line call v h. g.met.B.Bank.owes u line call v h) (λ u line call v h. g.met.B.Bank.others u line call v h)
-    c.requires.ready e.still e.made in
+    let b = worked_still c.requires.ready e.still in
     let there = subst (λ (l : ℕ). FitsStencil cells phases l words) c.line_at-line.ensures (work.gives line words c.in_ok-words.ensures.fits) in
     record {
       number = c.if-words-number.true;
@@ -47,6 +44,5 @@ returns-then-words-number g c =
 pub returns : goal.returns
 returns g c =
     let e = c.reached.ensures in
-    let b = worked_made g.B.Bank.gives g.B.Bank.at_step g.B.Bank.nodes_on (λ u line. g.B.Keep.Keeps.fits (g.B.Bank.keep u) line) (λ u. (g.B.Bank.way u).node) (λ u line call v h. g.met.B.Bank.owes u line call v h) (λ u line call v h. g.met.B.Bank.others u line call v h)
-    c.requires.ready e.still e.made in
+    let b = worked_still c.requires.ready e.still in
     record { number = tt; cells = tt; err = tt; worked = b }

@@ -3,8 +3,7 @@ use Rattle.sci_work.specs.Made.{ComesInWork}
 use Rattle.sci_work.proofs.Exits.{passed_on}
 use Rattle.sci_work.proofs.Refusing.{of_call}
 use Rattle.sci_work.proofs.Showing.{opens}
-use Rattle.sci_work.proofs.Resting.{worked_made}
-use Rattle.sci_work.proofs.Worked.{may_call, worked_not, worked_then}
+use Rattle.sci_work.proofs.Worked.{may_call, worked_not, worked_then, worked_still}
 use Rattle.sci_work.proofs.stencils.worker.open_all.Goals as goal
 
 pub loop-tile-init : goal.loop-tile-init
@@ -21,15 +20,13 @@ written-requires-clause-fits g c κs within =
 pub returns-in_err-written : goal.returns-in_err-written
 returns-in_err-written g c =
     let was = c.loop-tile.invariant in let e = c.written.ensures in let r = c.from_residual in
-    let b = worked_made g.B.Bank.gives g.B.Bank.at_step g.B.Bank.nodes_on (λ u line. g.B.Keep.Keeps.fits (g.B.Bank.keep u) line) (λ u. (g.B.Bank.way u).node) (λ u line call v h. g.met.B.Bank.owes u line call v h) (λ u line call v h. g.met.B.Bank.others u line call v h)
-    was.ready e.still c.in_err-written.ensures.none in
+    let b = worked_still was.ready e.still in
     record { err = passed_on r.result _ ComesInWork r.ensures.1 (of_call _ c.in_err-written.ensures.err); worked = worked_then was b }
 
 pub loop-tile-preserved : goal.loop-tile-preserved
 loop-tile-preserved g c =
     let was = c.loop-tile.invariant in let e = c.written.ensures in
-    let b = worked_made g.B.Bank.gives g.B.Bank.at_step g.B.Bank.nodes_on (λ u line. g.B.Keep.Keeps.fits (g.B.Bank.keep u) line) (λ u. (g.B.Bank.way u).node) (λ u line call v h. g.met.B.Bank.owes u line call v h) (λ u line call v h. g.met.B.Bank.others u line call v h)
-    was.ready e.still c.in_ok-written.ensures.made in
+    let b = worked_still was.ready e.still in
     worked_then was b
 
 pub returns : goal.returns
