@@ -1,8 +1,6 @@
 -- What a line holds once it is closed is its value, and fits what is known of it.
-use Rattle.std.proofs.Common.{◌≡◌, ◌≢◌, ◌⊎◌, ⊎_elim, ℕ, ◌<◌, true, Option, Some, None, List, [], ◌∷◌, length, get_or, refl, sym, ap, subst, ◌∙◌, arith}
+use Rattle.std.proofs.Common.{◌≡◌, ◌≢◌, ⊎_elim, ℕ, ◌<◌, true, Option, Some, None, List, [], ◌∷◌, get_or, refl, sym, ap, subst, ◌∙◌}
 use Rattle.std.specs.Prelude.{All}
-use mathlib.Core.Option.{some}
-use lib.ListN.{get_elem?}
 use Rattle.sci_words.specs.declared.memory.MemState.{MemState}
 use Rattle.sci_words.specs.declared.tags.Kind.{Kind}
 use Rattle.sci_words.specs.declared.tags.Tag.{Tag}

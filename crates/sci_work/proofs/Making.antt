@@ -1,5 +1,5 @@
 -- What a worker has done, put together.
-use Rattle.std.proofs.Common.{◌≡◌, ◌≢◌, ℕ, Option, Some, None, Result, Ok, Err, List, [], ◌∷◌, ◌++◌, refl, sym, ap, subst, ◌∙◌}
+use Rattle.std.proofs.Common.{◌≡◌, ℕ, Option, None, Result, Ok, Err, List, ◌++◌, sym, ap, subst, ◌∙◌}
 use Rattle.std.specs.Result.{OnErr, OnOk}
 use Rattle.sci_core.specs.declared.pending.Pending.{Pending}
 use Rattle.sci_port.specs.declared.calls.Call.{Call}

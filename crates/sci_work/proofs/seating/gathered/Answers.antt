@@ -1,4 +1,4 @@
-use Rattle.std.proofs.Common.{rules, ◌≡◌, ◌∷◌, ◌++◌, ℕ, ◌+◌, List, [], length, vec_items, vec_len, arith, sym, subst, ◌∙◌, ap}
+use Rattle.std.proofs.Common.{◌≡◌, ◌∷◌, ◌++◌, ℕ, ◌+◌, List, [], vec_items, vec_len, arith, sym, subst, ◌∙◌, ap}
 use Rattle.std.specs.Vec.Iter.{into_iter_items}
 use mathlib.Core.Option.{some, some-ne-none}
 use lib.ListN.{get_elem?}
@@ -6,7 +6,7 @@ use Rattle.sci_fine.proofs.Elements.{each_more, no_length}
 use Rattle.sci_core.specs.declared.pending.Pending.{Pending}
 use Rattle.sci_fine.specs.Kept.{HasKeptAll}
 use Rattle.sci_fine.specs.Seats.{IsSeatOf}
-use Rattle.sci_work.specs.Hands.{IsHandOf, IsIdleSeat}
+use Rattle.sci_work.specs.Hands.{IsHandOf}
 use Rattle.sci_work.proofs.Dealing.{each_alone, held, held_all, held_more}
 use Rattle.sci_work.proofs.Seated.{at_first, hand_one}
 use Rattle.sci_work.proofs.seating.gathered.Goals as goal
