@@ -182,7 +182,7 @@ def differs(script, room):
 
 
 def shortened(room):
-    """The commands with an input each, and what is wrong with their answers in little memory."""
+    """The commands with an input each, and what is wrong with their answers in little memory, or of many in that of few."""
 
     def serve(command, given):
         status, (said, error) = run([command], [given, "", ""], room)
@@ -190,7 +190,8 @@ def shortened(room):
         return status, "no page" if text is None else text, error
 
     low = shortages.least(serve)
-    return [([it[0]], it[1], shortages.faults(serve, low, *it)) for it in shortages.SERVED]
+    served = [([it[0]], it[1], shortages.faults(serve, low, *it)) for it in shortages.SERVED]
+    return [*served, (["talk"], shortages.ROUND, shortages.keeps(serve, shortages.FEW, shortages.MANY))]
 
 
 def mixed(room):

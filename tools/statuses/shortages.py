@@ -1,4 +1,4 @@
-"""Runs that get less memory than they need, and runs with room for few threads' stacks."""
+"""Runs that get less memory than they need, runs with room for few threads' stacks, and talks that get no more than they need."""
 
 from dumps import ITS_LISTS, LARGE_DUMP
 from kinds import LIMIT, Crowded, Little, refused
@@ -81,3 +81,39 @@ def faults(serve, low, command, given, text, prints):
     if any(status != 0 and said for status, said, _ in found) != prints:
         wrong.append(f"before a refusal {'nothing' if prints else 'something'} was printed")
     return wrong
+
+
+# What is said again and again of two nodes and a line that come back to where they stood, and what is answered the time after so many.
+ROUND = "load 0 0 0\ndone 0\nstore 1 0 1 5\ndone 1\nlist 0\ntag 0 0\nresidents 1\nlist 9\nlode\n# none\n"
+
+
+def talk(rounds):
+    """A talk of so many rounds, and its answers."""
+    said = ["memory 2 1\n"] + [ROUND] * rounds
+    answers = ["ok\n"]
+    for stamp in range(rounds):
+        answers.append(
+            f"ok\nnode 0 read 0 stamp {stamp}\nok\nok\nnode 1 wrote stamp {stamp + 1}\nok\nline 0 GONE 1: 1 ONLY_DIRTY\nok\n"
+            "tag 0 0 INVALID forw - back -\nok\nnode 1 residents 0\nok\nrefused 17\nrefused 16\nok\n"
+        )
+    return "".join(said), "".join(answers)
+
+
+FEW, MANY = talk(10), talk(50_000)
+# The C library's heap grows by steps of 132 KiB: many commands may need one step more.
+SLACK = 262_144
+
+
+def keeps(serve, few, many):
+    """What is wrong where a talk of many commands is given the memory that one of few needs, and SLACK."""
+    low, high = 1_000_000, AMPLE
+    while high - low > STEP:
+        memory = (low + high) // 2
+        is_enough = serve("talk", Little(few[0], memory)) == (0, few[1], "")
+        low, high = (low, memory) if is_enough else (memory, high)
+    if high == AMPLE:
+        return ["a talk of few commands needs more than ample memory"]
+    status, said, error = serve("talk", Little(many[0], high + SLACK))
+    if (status, said, error) == (0, many[1], ""):
+        return []
+    return [f"in the memory of few commands many end with {status}, {error!r}, behind {len(said)} bytes: {said[-80:]!r}"]

@@ -63,8 +63,26 @@ SHORT = [
 ]
 
 
+def talker(kept):
+    """A program that keeps so many bytes for each command of a talk."""
+    answers = dict([shortages.FEW, shortages.MANY])
+
+    def serve(command, given):
+        is_enough = given.memory >= LEAST + kept * given.count("\n")
+        return 0, answers[str(given)] if is_enough else "refused 7\n", ""
+
+    return serve
+
+
+# What is kept for each command, and whether that is nothing.
+KEPT = [(0, True), (8, False), (5_000_000, False)]
+
+
 def short():
-    """The programs of SHORT that are taken for what they are not."""
+    """The programs of SHORT and KEPT that are taken for what they are not."""
+    for kept, is_nothing in KEPT:
+        wrong = shortages.keeps(talker(kept), shortages.FEW, shortages.MANY)
+        yield (["talk"], f"{kept} bytes a command", [] if is_nothing == (not wrong) else [f"it was told {wrong}"])
     for how, is_right in SHORT:
         wrong = shortages.faults(program(**how), LOW, "script", "", WHOLE, True)
         yield (["little memory"], str(how), [] if is_right == (not wrong) else [f"it was told {wrong}"])
