@@ -1,10 +1,10 @@
--- A log's lines, fed one after another to a follower that stands as the run's lines do, are without a fault.
-use Rattle.std.proofs.Common.{◌≡◌, ◌≢◌, ◌∙◌, ◌⊎◌, ℕ, suc, ◌+◌, ◌-◌, ◌<◌, ◌≤◌, Bool, true, false, true≢false, eqb, cond, List, [], ◌∷◌, ◌++◌, length, take, drop, codes, bytes_eq, flat_map, Option, Some, None, Result, Ok, Err, Decides, All, refl, sym, ap, subst, arith, inl, inr, ⊎_elim, append-nil, append_assoc, take-append-drop, length-append, eqb-true, eq-eqb}
-use Rattle.std.specs.Prelude.{if◌then◌else◌}
+-- A log's lines, fed one after another to a follower that stands as the run's lines do, are without a fault, and are taken to the end.
+use Rattle.std.proofs.Common.{◌≡◌, ◌≢◌, ◌∙◌, ◌⊎◌, ℕ, suc, ◌+◌, ◌-◌, ◌<◌, ◌≤◌, Bool, true, false, true≢false, eqb, cond, List, [], ◌∷◌, ◌++◌, length, take, drop, codes, bytes_eq, flat_map, Option, Some, None, Result, Ok, Err, Decides, All, refl, sym, ap, subst, arith, inl, inr, ⊎_elim, append-nil, append_assoc, take-append-drop, length-append, eqb-true, eq-eqb, ltb-true}
+use Rattle.std.specs.Prelude.{if◌then◌else◌, nat_lt, ◌&&◌}
 use Rattle.std.specs.Io.BufRead.{take_through, drop_through, ends_with_byte}
 use Rattle.std.specs.Str.Lines.{strip_carriage_return}
 use Rattle.std.proofs.BufReadLemmas.{drop_through-append, take_through-append}
-use Rattle.std.proofs.lemmas.Bool.{cases_Bool}
+use Rattle.std.proofs.lemmas.Bool.{cases_Bool, and_parts}
 use Rattle.std.proofs.lemmas.Slice.Eq.{bytes_eq-Decides}
 use Rattle.sci_core.specs.declared.lines.Line.{Line}
 use Rattle.sci_core.specs.State.{State, opened}
@@ -16,6 +16,7 @@ use Rattle.sci_dump.specs.ReadBack.{IsContent}
 use Rattle.sci_script.specs.declared.commands.Opening.{Opening}
 use Rattle.sci_script.specs.declared.commands.Size.{Size}
 use Rattle.sci_script.specs.Openings.{content_of, zeros}
+use Rattle.sci_script.specs.Size.{IsSize}
 use Rattle.sci_script.specs.Unused.{AreOpened, no_line}
 use Rattle.sci_script.specs.Words.{is_skipped}
 use Rattle.sci_follow.specs.declared.entries.Deviation.{Deviation}
@@ -26,12 +27,13 @@ use Rattle.sci_follow.specs.declared.told.Noted.{Noted}
 use Rattle.sci_follow.specs.LineText.{acting_at, memory_at, noted_at, opening_at}
 use Rattle.sci_follow.specs.Logs.{Begins, Continues, Ends, Feeds, FeedsBy, Notes, Opens, Reads}
 use Rattle.sci_follow.specs.Steps.{AreUnused, Reopens, lines_of, unused, whole_at}
-use Rattle.sci_follow.specs.Streams.{Cuts, FaultsWith, FeedsTo, Reaches, StopsWith, without_end}
-use Rattle.sci_follow.specs.Told.{IsNotedIn, TakesTold}
+use Rattle.sci_follow.specs.Streams.{Cuts, FaultsWith, FeedsTo, FollowsAll, Reaches, StopsWith, without_end}
+use Rattle.sci_follow.specs.Told.{IsNotedIn, TakesTold, is_told_in}
 use Rattle.sci_trace.specs.Entries.{opening_line}
 use Rattle.sci_serve.specs.FollowedTurns.{AreReadAs}
 use Rattle.sci_serve.specs.ReadBack.{IsPlain, IsReadAs}
 use Rattle.sci_serve.proofs.Going.{AreNoted, Leads}
+use Rattle.sci_serve.proofs.Kept.{AreKept, begins_with, reopens_on, takes_on}
 use Rattle.sci_serve.proofs.OwnLines.{first_through, rest_through, whole_line}
 
 -- ---- what a line that was read begins with
@@ -116,6 +118,40 @@ line_first line text n log Q plain (faults, on) later (first ∷ lines) end rest
     later (n + 1) mid now lines end rest e (subst (λ (t : List ℕ). Cuts lines t rest) (rest_through line text plain) cuts) feeds
     (subst (λ (k : ℕ). IsFault rest k end e) at fault)
 
+-- the text is taken to its end
+abbrev pub IsFed : List ℕ → ℕ → Log → Type 0
+IsFed text n log = (lines : List (List ℕ)) × (end : Log) × Cuts lines text [] × FeedsTo n lines log end × Ends (n + length lines) end (Ok tt)
+
+-- its lines are kept
+abbrev pub IsKept : Log → Type 0
+IsKept Log.New = Unit {0}
+IsKept (Log.Opening f) = AreKept f
+IsKept (Log.Running f) = AreKept f
+
+-- a line is taken
+abbrev pub IsTaken : List ℕ → Log → Type 0
+IsTaken line log = (n : ℕ) → (mid : Log) × Feeds n line log (Ok mid) × IsKept mid
+
+line_fed : (line text : List ℕ) (n : ℕ) (log : Log) (Q : Log → Type 0) → IsPlain line → Passes line log Q → IsTaken line log → ((k : ℕ) (mid : Log) → Q mid → IsKept mid → IsFed text k mid) → IsFed ((line ++ codes "\n") ++ text) n log
+line_fed line text n log Q plain passes taken later =
+    let (mid, fed, kept) = taken n in
+    let (lines, end, cuts, feeds, ends) = later (n + 1) mid (passes.1 n mid fed) kept in
+    let at : n + 1 + length lines ≡ n + length ((line ++ codes "\n") ∷ lines) = omega arith in (
+      (line ++ codes "\n") ∷ lines,
+      end,
+      (
+        omega (arith, length-append (line ++ codes "\n") text, length-append line (codes "\n")),
+        sym (first_through line text plain),
+        subst (λ (t : List ℕ). Cuts lines t []) (sym (rest_through line text plain)) cuts,
+      ),
+      (mid, subst (λ (l : List ℕ). Feeds n l log (Ok mid)) (sym (whole_line line plain)) fed, feeds),
+      subst (λ (k : ℕ). Ends k end (Ok tt)) at ends,
+    )
+
+pub follows_so : (text : List ℕ) → IsFed text 1 Log.New → FollowsAll text
+follows_so text (lines, log, cuts, feeds, ends) =
+    let at : 1 + length lines ≡ length lines + 1 = omega arith in (lines, log, record { cuts = cuts; feeds = feeds }, subst (λ (k : ℕ). Ends k log (Ok tt)) at ends)
+
 -- ---- a follower
 
 -- it has lines of this size, which are so
@@ -138,17 +174,25 @@ nothing_left size Q n log h (line ∷ lines) end rest e (some, is, cuts) feeds f
 read_so : (n : ℕ) (line : List ℕ) (log : Log) (r : Result Log LogFault) → is_skipped line ≡ false → Feeds n line log r → Reads n line log r
 read_so n line log r says h = subst (λ (b : Bool). FeedsBy b n line log r) says h
 
+nothing_fed : (size : Size) (Q : (ℕ → State) → Type 0) (n : ℕ) (log : Log) → Holds size Q log → IsFed [] n log
+nothing_fed size Q n Log.New h = absurd h
+nothing_fed size Q n (Log.Opening f) h = ([], Log.Opening f, refl, refl, refl)
+nothing_fed size Q n (Log.Running f) h = ([], Log.Running f, refl, refl, refl)
+
+fed_so : (n : ℕ) (line : List ℕ) (log : Log) (r : Result Log LogFault) → is_skipped line ≡ false → Reads n line log r → Feeds n line log r
+fed_so n line log r says h = subst (λ (b : Bool). FeedsBy b n line log r) (sym says) h
+
 -- a line that tells what is answered so
 module _ (size : Size) (r : Noted) (more : List Noted) (Q : (ℕ → State) → Type 0) (f : Follower) (same : f.size ≡ size) (inside : IsNotedIn size r) (leads : Leads size.nodes (lines_of f) (r ∷ more) Q) where
   notes_fault : (n : ℕ) (e : LogFault) → Notes n f (Some r) (Err e) → IsMemory e
   notes_fault n LogFault.OutOfMemory h = refl
-  notes_fault n (LogFault.Departs k why) (at, there, after, takes) = absurd (leads.0 why after (subst (λ (z : Size). TakesTold z.nodes (lines_of f) r (Err why) after) same takes))
+  notes_fault n (LogFault.Departs k why) (at, there, after, takes) = absurd (leads.1 why after (subst (λ (z : Size). TakesTold z.nodes (lines_of f) r (Err why) after) same takes))
   notes_fault n (LogFault.BadNumber k) (at, out) = absurd (out (subst (λ (z : Size). IsNotedIn z r) (sym same) inside))
   notes_fault n (LogFault.BadLine k) h = absurd h
   notes_fault n LogFault.CannotRead h = absurd h
 
   notes_on : (n : ℕ) (mid : Log) → Notes n f (Some r) (Ok mid) → Holds size (λ lines. Leads size.nodes lines more Q) mid
-  notes_on n (Log.Running g) (there, kept, takes) = (kept ∙ same, leads.1 (lines_of g) (subst (λ (z : Size). TakesTold z.nodes (lines_of f) r (Ok tt) (lines_of g)) same takes))
+  notes_on n (Log.Running g) (there, kept, takes) = (kept ∙ same, leads.2 (lines_of g) (subst (λ (z : Size). TakesTold z.nodes (lines_of f) r (Ok tt) (lines_of g)) same takes))
   notes_on n (Log.Opening g) h = absurd h
   notes_on n Log.New h = absurd h
 
@@ -164,7 +208,43 @@ told_passes size line r more Q (Log.Running f) reads inside (same, leads) =
     subst (λ (o : Option Noted). Notes n f o x) reads (read_so n line (Log.Running f) x (noted_says line r reads) h) in
     ((λ n e h. notes_fault size r more Q f same inside leads n e (noted n (Err e) h)), (λ n mid h. notes_on size r more Q f same inside leads n mid (noted n (Ok mid) h)))
 
+-- and it is taken
+notes_so : (size : Size) (r : Noted) (more : List Noted) (Q : (ℕ → State) → Type 0) (f : Follower) (n : ℕ) → IsNotedIn size r → f.size ≡ size → Leads size.nodes (lines_of f) (r ∷ more) Q → AreKept f
+    → (g : Follower) × Notes n f (Some r) (Ok (Log.Running g)) × AreKept g
+notes_so size r more Q f n inside same leads kept =
+    let (after, takes) = leads.0 in
+    let here : IsNotedIn f.size r = subst (λ (z : Size). IsNotedIn z r) (sym same) inside in
+    let (node, others) = and_parts (nat_lt r.node f.size.nodes) (nat_lt r.line f.size.lines && is_told_in f.size.nodes r.told) here in
+    let (line, told) = and_parts (nat_lt r.line f.size.lines) (is_told_in f.size.nodes r.told) others in
+    let (g, size_same, now, to) = takes_on f r after kept (ltb-true r.node f.size.nodes node) (ltb-true r.line f.size.lines line) (subst (λ (z : Size). TakesTold z.nodes (lines_of f) r (Ok tt) after) (sym same) takes) in
+    (g, (here, size_same, to), now)
+
+told_taken : (size : Size) (line : List ℕ) (r : Noted) (more : List Noted) (Q : (ℕ → State) → Type 0) (log : Log) → noted_at line ≡ Some r → IsNotedIn size r → Holds size (λ lines. Leads size.nodes lines (r ∷ more) Q) log
+    → IsKept log → IsTaken line log
+told_taken size line r more Q Log.New reads inside h kept = absurd h
+told_taken size line r more Q (Log.Opening f) reads inside (same, leads) kept = λ n.
+    let (g, notes, now) = notes_so size r more Q f n inside same leads kept in (
+      Log.Running g,
+      fed_so n line (Log.Opening f) (Ok (Log.Running g)) (noted_says line r reads)
+          (subst (λ (o : Option (ℕ × Line)). Continues n f o (noted_at line) (Ok (Log.Running g))) (sym (noted_opens line r reads)) (subst (λ (o : Option Noted). Notes n f o (Ok (Log.Running g))) (sym reads) notes)),
+      now,
+    )
+told_taken size line r more Q (Log.Running f) reads inside (same, leads) kept = λ n.
+    let (g, notes, now) = notes_so size r more Q f n inside same leads kept in (
+      Log.Running g,
+      fed_so n line (Log.Running f) (Ok (Log.Running g)) (noted_says line r reads) (subst (λ (o : Option Noted). Notes n f o (Ok (Log.Running g))) (sym reads) notes),
+      now,
+    )
+
 -- a text that tells of a run
+pub told_fed : (size : Size) (told : List Noted) (text : List ℕ) (Q : (ℕ → State) → Type 0) (n : ℕ) (log : Log) → AreReadAs text told → AreNoted size told → Holds size (λ lines. Leads size.nodes lines told Q) log → IsKept log
+    → IsFed text n log
+told_fed size [] text Q n log is noted h kept = subst (λ (t : List ℕ). IsFed t n log) (sym is) (nothing_fed size Q n log h)
+told_fed size (r ∷ more) text Q n log (line, rest, is, (said, ended, plain, reads), others) (inside, noted) h kept =
+    subst (λ (t : List ℕ). IsFed t n log) (sym (is ∙ ap (λ (l : List ℕ). l ++ rest) ended))
+    (line_fed said rest n log (Holds size (λ lines. Leads size.nodes lines more Q)) plain (told_passes size said r more Q log reads inside h) (told_taken size said r more Q log reads inside h kept)
+    (λ k mid next now. told_fed size more rest Q k mid others noted next now))
+
 pub told_fine : (size : Size) (told : List Noted) (text : List ℕ) (Q : (ℕ → State) → Type 0) (n : ℕ) (log : Log) → AreReadAs text told → AreNoted size told → Holds size (λ lines. Leads size.nodes lines told Q) log → NoFault text n log
 told_fine size [] text Q n log is noted h = subst (λ (t : List ℕ). NoFault t n log) (sym is) (nothing_left size Q n log h)
 told_fine size (r ∷ more) text Q n log (line, rest, is, (said, ended, plain, reads), others) (inside, noted) h =
@@ -225,6 +305,18 @@ opening_passes size content o line (Log.Opening f) there reads (same, unused_so)
     subst (λ (r : Option (ℕ × Line)). Continues n f r (noted_at line) x) reads (read_so n line (Log.Opening f) x (opening_says line (o.line, o.content) reads) h) in
     ((λ n e h. opens_fault size content o there f same unused_so n e (opens n (Err e) h)), (λ n mid h. opens_on size content o there f same unused_so n mid (opens n (Ok mid) h)))
 
+opening_taken : (size : Size) (content : ℕ → Line) (o : Opening) (line : List ℕ) (log : Log) → o.line < size.lines → opening_at line ≡ Some (o.line, o.content) → IsOpening size content log → IsKept log → IsTaken line log
+opening_taken size content o line Log.New there reads h kept = absurd h
+opening_taken size content o line (Log.Running f) there reads h kept = absurd h
+opening_taken size content o line (Log.Opening f) there reads (same, unused_so) kept = λ n.
+    let here : o.line < f.size.lines = subst (λ (z : Size). o.line < z.lines) (sym same) there in
+    let (g, size_same, now, reopens) = reopens_on f o.line o.content kept here in (
+      Log.Opening g,
+      fed_so n line (Log.Opening f) (Ok (Log.Opening g)) (opening_says line (o.line, o.content) reads)
+          (subst (λ (r : Option (ℕ × Line)). Continues n f r (noted_at line) (Ok (Log.Opening g))) (sym reads) (here, size_same, reopens)),
+      now,
+    )
+
 -- openings in range, each read as it was written
 abbrev pub AreOpenings : Size → List Opening → Type 0
 AreOpenings size [] = Unit {0}
@@ -244,6 +336,18 @@ openings_fine size (o ∷ openings) content text n log (there, (said, ended, pla
     subst (λ (t : List ℕ). NoFault t n log) (ap (λ (l : List ℕ). l ++ rest) (sym ended) ∙ sym (append_assoc (opening_line o) (flat_map opening_line openings) text))
     (line_first said rest n log (IsOpening size (with_opening content o)) plain (opening_passes size content o said log there reads h)
     (λ k mid next. openings_fine size openings (with_opening content o) text k mid are next later))
+
+pub openings_fed : (size : Size) (openings : List Opening) (content : ℕ → Line) (text : List ℕ) (n : ℕ) (log : Log) → AreOpenings size openings → IsOpening size content log → IsKept log
+    → ((k : ℕ) (end : Log) → Holds size (Unused size (λ line. content_of line (content line) openings)) end → IsKept end → IsFed text k end) → IsFed (flat_map opening_line openings ++ text) n log
+unfolding content_of
+openings_fed size [] content text n (Log.Opening f) are h kept later = later n (Log.Opening f) h kept
+openings_fed size [] content text n Log.New are h kept later = absurd h
+openings_fed size [] content text n (Log.Running f) are h kept later = absurd h
+openings_fed size (o ∷ openings) content text n log (there, (said, ended, plain, reads), are) h kept later =
+    let rest = flat_map opening_line openings ++ text in
+    subst (λ (t : List ℕ). IsFed t n log) (ap (λ (l : List ℕ). l ++ rest) (sym ended) ∙ sym (append_assoc (opening_line o) (flat_map opening_line openings) text))
+    (line_fed said rest n log (IsOpening size (with_opening content o)) plain (opening_passes size content o said log there reads h) (opening_taken size content o said log there reads h kept)
+    (λ k mid next now. openings_fed size openings (with_opening content o) text k mid are next now later))
 
 -- ---- the first line
 
@@ -275,6 +379,22 @@ module _ (size : Size) where
       let rest = flat_map opening_line openings ++ text in
       subst (λ (t : List ℕ). NoFault t 1 Log.New) (ap (λ (l : List ℕ). l ++ rest) (sym ended) ∙ sym (append_assoc line (flat_map opening_line openings) text))
       (line_first said rest 1 Log.New (IsOpening size (λ line. zeros)) plain (memory_passes said reads) (λ k mid next. openings_fine size openings (λ line. zeros) text k mid are next later))
+
+  memory_taken : IsSize size → (line : List ℕ) → memory_at line ≡ Some size → IsTaken line Log.New
+  memory_taken is line reads = λ n.
+      let (f, same, unused_so, kept) = begins_with size is in (
+        Log.Opening f,
+        fed_so n line Log.New (Ok (Log.Opening f)) (memory_says line size reads) (subst (λ (r : Option Size). Begins n r (Ok (Log.Opening f))) (sym reads) (same, unused_so)),
+        kept,
+      )
+
+  pub head_fed : IsSize size → (line : List ℕ) (openings : List Opening) (text : List ℕ) → IsReadAs memory_at line size → AreOpenings size openings
+      → ((k : ℕ) (log : Log) → Holds size (Unused size (λ line. content_of line zeros openings)) log → IsKept log → IsFed text k log) → IsFed ((line ++ flat_map opening_line openings) ++ text) 1 Log.New
+  head_fed is line openings text (said, ended, plain, reads) are later =
+      let rest = flat_map opening_line openings ++ text in
+      subst (λ (t : List ℕ). IsFed t 1 Log.New) (ap (λ (l : List ℕ). l ++ rest) (sym ended) ∙ sym (append_assoc line (flat_map opening_line openings) text))
+      (line_fed said rest 1 Log.New (IsOpening size (λ line. zeros)) plain (memory_passes said reads) (memory_taken is said reads)
+      (λ k mid next kept. openings_fed size openings (λ line. zeros) text k mid are next kept later))
 
 -- a text without a fault is followed, where it is read and memory lasts
 fault_is : (text : List ℕ) (e : LogFault) → NoFault text 1 Log.New → FaultsWith e text → IsMemory e

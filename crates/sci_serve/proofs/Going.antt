@@ -108,11 +108,12 @@ At size s lines = (line : ℕ) → line < size.lines → lines line ≡ s.lines 
 -- what is told is answered so, one after another, and as nothing else, and this holds of the lines then
 abbrev pub Leads : ℕ → (ℕ → State) → List Noted → ((ℕ → State) → Type 0) → Type 0
 Leads n lines [] Q = Q lines
-Leads n lines (noted ∷ more) Q = ((why : Deviation) (after : ℕ → State) → TakesTold n lines noted (Err why) after → ⊥) × ((after : ℕ → State) → TakesTold n lines noted (Ok tt) after → Leads n after more Q)
+Leads n lines (noted ∷ more) Q = ((after : ℕ → State) × TakesTold n lines noted (Ok tt) after) × ((why : Deviation) (after : ℕ → State) → TakesTold n lines noted (Err why) after → ⊥)
+    × ((after : ℕ → State) → TakesTold n lines noted (Ok tt) after → Leads n after more Q)
 
 pub leads_on : (n : ℕ) (told more : List Noted) (P Q : (ℕ → State) → Type 0) → ((lines : ℕ → State) → P lines → Leads n lines more Q) → (lines : ℕ → State) → Leads n lines told P → Leads n lines (told ++ more) Q
 leads_on n [] more P Q on lines h = on lines h
-leads_on n (noted ∷ told) more P Q on lines h = (h.0, (λ after takes. leads_on n told more P Q on after (h.1 after takes)))
+leads_on n (noted ∷ told) more P Q on lines h = (h.0, h.1, (λ after takes. leads_on n told more P Q on after (h.2 after takes)))
 
 -- the line comes to t, and the others stay
 turn_leads : (n line : ℕ) (start : ℕ → State) (t : State) (told : List Noted) (lines : ℕ → State) → ((other : ℕ) → other ≢ line → lines other ≡ start other) → AreFollowed n lines told line t
@@ -120,7 +121,8 @@ turn_leads : (n line : ℕ) (start : ℕ → State) (t : State) (told : List Not
 turn_leads n line start t [] lines others h = (h, others)
 turn_leads n line start t (noted ∷ told) lines others h = (
   h.0,
-  (λ after takes. let (stay, more) = h.1 after takes in turn_leads n line start t told after (λ other apart. stay other apart ∙ others other apart) more),
+  h.1,
+  (λ after takes. let (stay, more) = h.2 after takes in turn_leads n line start t told after (λ other apart. stay other apart ∙ others other apart) more),
 )
 
 abbrev pub AreNoted : Size → List Noted → Type 0

@@ -22,6 +22,7 @@ pub mod Taking
 pub mod TurnsFollowed
 pub mod Along
 pub mod Going
+pub mod Kept
 pub mod Fed
 pub mod ReadRanges
 pub mod LogFollows

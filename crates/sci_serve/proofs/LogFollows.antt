@@ -1,5 +1,5 @@
 -- The log of a run is followed to its end.
-use Rattle.std.proofs.Common.{◌≡◌, ◌∙◌, ◌⊎◌, ℕ, ◌+◌, ◌<◌, ◌≤◌, ◌^◌, ◌%◌, ◌&&◌, Bool, true, false, List, [], ◌∷◌, ◌++◌, length, flat_map, All, None, refl, sym, ap, subst, arith, length-set, set, eqb, ltb-true}
+use Rattle.std.proofs.Common.{◌≡◌, ◌∙◌, ℕ, ◌+◌, ◌<◌, ◌≤◌, ◌^◌, ◌%◌, ◌&&◌, Bool, true, false, List, [], ◌∷◌, ◌++◌, length, flat_map, All, None, refl, sym, ap, subst, arith, length-set, set, eqb, ltb-true}
 use Rattle.std.specs.Prelude.{if◌then◌else◌, slice_index}
 use Rattle.std.specs.List.{list_all}
 use Rattle.std.proofs.lemmas.Bool.{and_parts}
@@ -23,17 +23,15 @@ use Rattle.sci_script.specs.Request.{no_words}
 use Rattle.sci_script.specs.ScriptText.{Opens}
 use Rattle.sci_script.specs.Shared.{Shared}
 use Rattle.sci_script.specs.Size.{AreIn, IsIn, IsSize, is_in}
-use Rattle.sci_follow.specs.declared.logs.LogFault.{LogFault}
 use Rattle.sci_follow.specs.declared.logs.Log.{Log}
-use Rattle.sci_follow.specs.Streams.{StopsWith}
 use Rattle.sci_trace.specs.Entries.{log_head, opening_line}
 use Rattle.sci_trace.specs.Logging.{LogLeaves, LogStops, logs}
 use Rattle.sci_trace.specs.Telling.{Telling, telling, telling_is_open}
-use Rattle.sci_serve.specs.FollowedTurns.{IsOfLine, fit}
+use Rattle.sci_serve.specs.FollowedTurns.{IsOfLine, IsSurelyFollowed, fit}
 use Rattle.sci_serve.specs.declared.scripts.Form.{Form}
 use Rattle.sci_serve.specs.Serve.{Serves, StopsRunning}
 use Rattle.sci_serve.proofs.Along.{AllAsk, Asks, leaves, prints_all}
-use Rattle.sci_serve.proofs.Fed.{AreOpenings, Holds, NoFault, Unused, head_fine, stops_only, told_fine}
+use Rattle.sci_serve.proofs.Fed.{AreOpenings, Holds, IsFed, NoFault, Unused, follows_so, head_fed, head_fine, stops_only, told_fed, told_fine}
 use Rattle.sci_serve.proofs.Going.{At, Goes, Leads, Sound, SoundNode, asks, call_goes, goes_none, goes_on}
 use Rattle.sci_serve.proofs.NotedBack.{opening_back, size_back}
 use Rattle.sci_serve.proofs.ReadRanges.{AreOpenable, StoreSmall, StoresSmall, script_read}
@@ -105,24 +103,27 @@ holds_then size P Q (Log.Opening g) f h = (h.0, f _ h.1)
 holds_then size P Q (Log.Running g) f h = (h.0, f _ h.1)
 
 -- what was logged from there on is followed
-run_follows : (size : Size) (capacity : ℕ) (openings : List Opening) (s t : Shared) (log : List ℕ) (e : LogFault) → IsSize size → AreOpenable size openings → Opens size capacity openings s
-    → Goes size (telling s (log_head size openings)) (telling t log) → StopsWith e log → (e ≡ LogFault.CannotRead) ⊎ (e ≡ LogFault.OutOfMemory)
-run_follows size capacity openings s t log e is are opens goes stops =
-    let (whole, run) = goes refl in
+run_follows : (size : Size) (capacity : ℕ) (openings : List Opening) (s t : Shared) (log : List ℕ) → IsSize size → AreOpenable size openings → Opens size capacity openings s
+    → Goes size (telling s (log_head size openings)) (telling t log) → IsSurelyFollowed log
+run_follows size capacity openings s t log is are opens goes =
+    let (uncut, run) = goes refl in
     let (sound, (added, told, notes, read, noted, leads)) = run (opened_sound size capacity openings s are opens) in
     let (line, front, memory) = size_back size openings is in
+    let stands : (end : Log) → Holds size (Unused size (λ l. content_of l zeros openings)) end → Holds size (λ lines. Leads size.nodes lines told (At size t)) end =
+    λ end holds. holds_then size (Unused size (λ l. content_of l zeros openings)) (λ lines. Leads size.nodes lines told (At size t)) end (λ lines unused. leads lines (λ l low. unused l low ∙ sym (opens.lines l low))) holds in
+    let whole : (line ++ flat_map opening_line openings) ++ added ≡ log = ap (λ (x : List ℕ). x ++ added) (sym front) ∙ sym notes in
     let fine : NoFault ((line ++ flat_map opening_line openings) ++ added) 1 Log.New =
-    head_fine size line openings added memory (openings_read size openings is.few_lines are)
-    (λ k end holds. told_fine size told added (At size t) k end read noted
-    (holds_then size (Unused size (λ l. content_of l zeros openings)) (λ lines. Leads size.nodes lines told (At size t)) end (λ lines unused. leads lines (λ l low. unused l low ∙ sym (opens.lines l low))) holds)) in
-    stops_only log e (subst (λ (x : List ℕ). NoFault x 1 Log.New) (ap (λ (x : List ℕ). x ++ added) (sym front) ∙ sym notes) fine) stops
+    head_fine size line openings added memory (openings_read size openings is.few_lines are) (λ k end holds. told_fine size told added (At size t) k end read noted (stands end holds)) in
+    let fed : IsFed ((line ++ flat_map opening_line openings) ++ added) 1 Log.New =
+    head_fed size is line openings added memory (openings_read size openings is.few_lines are) (λ k end holds kept. told_fed size told added (At size t) k end read noted (stands end holds) kept) in
+    (follows_so log (subst (λ (x : List ℕ). IsFed x 1 Log.New) whole fed), (λ e stops. stops_only log e (subst (λ (x : List ℕ). NoFault x 1 Log.New) whole fine) stops))
 
-pub served_log_follows : (input text : List ℕ) (e : LogFault) → Serves Form.Log input text → StopsWith e text → (e ≡ LogFault.CannotRead) ⊎ (e ≡ LogFault.OutOfMemory)
-served_log_follows input text e (long, size, capacity, openings, steps, is, (s, t, opens, (printed, prints))) stops =
+pub served_log_follows : (input text : List ℕ) → Serves Form.Log input text → IsSurelyFollowed text
+served_log_follows input text (long, size, capacity, openings, steps, is, (s, t, opens, (printed, prints))) =
     let (sized, are, inside, small) = script_read input (size, capacity, openings, steps) is in
     let goes : Goes size (telling s (log_head size openings)) (telling t text) =
     prints_all telling_is_open logs size (asks size) (Goes size) (goes_none size) (goes_on size) (call_goes size sized) no_words (telling s (log_head size openings)) steps printed (telling t text) inside (all_ask size steps inside small) prints in
-    run_follows size capacity openings s t text e sized are opens goes stops
+    run_follows size capacity openings s t text sized are opens goes
 
 stopped_so : (size : Size) (openings : List Opening) (steps : List Step) (s : Shared) (refusal : ScriptRefusal) (written : List ℕ) (t : Shared) → IsOfLine refusal → LogLeaves size openings steps s refusal written t → LogStops size openings steps s refusal written t
 stopped_so size openings steps s OutOfMemory written t of_line h = absurd of_line
@@ -131,11 +132,11 @@ stopped_so size openings steps s (BadCommand n) written t of_line h = h
 stopped_so size openings steps s (BadNumber n) written t of_line h = h
 stopped_so size openings steps s (NotDone n) written t of_line h = h
 
-pub stopped_log_follows : (input written : List ℕ) (refusal : ScriptRefusal) (e : LogFault) → IsOfLine refusal → StopsRunning Form.Log refusal input written → StopsWith e written → (e ≡ LogFault.CannotRead) ⊎ (e ≡ LogFault.OutOfMemory)
-stopped_log_follows input written refusal e of_line (long, size, capacity, openings, steps, is, (s, t, opens, left)) stops =
+pub stopped_log_follows : (input written : List ℕ) (refusal : ScriptRefusal) → IsOfLine refusal → StopsRunning Form.Log refusal input written → IsSurelyFollowed written
+stopped_log_follows input written refusal of_line (long, size, capacity, openings, steps, is, (s, t, opens, left)) =
     let (sized, are, inside, small) = script_read input (size, capacity, openings, steps) is in
     let (printed, stopped) = stopped_so size openings steps s refusal written t of_line left in
     let goes : Goes size (telling s (log_head size openings)) (telling t written) =
     leaves telling_is_open logs size (asks size) (Goes size) (goes_none size) (goes_on size) (call_goes size sized) size.nodes (telling s (log_head size openings)) steps refusal printed (telling t written) of_line inside
     (all_ask size steps inside small) stopped in
-    run_follows size capacity openings s t written e sized are opens goes stops
+    run_follows size capacity openings s t written sized are opens goes

@@ -1,7 +1,8 @@
 -- What passes in a turn, told as a log tells it, is what lines that stand so answer, and nothing else.
-use Rattle.std.proofs.Common.{◌≡◌, ◌≢◌, ◌∙◌, ◌⊎◌, ℕ, suc, ◌+◌, ◌<◌, ◌≤◌, ◌^◌, ◌||◌, Bool, true, false, true≢false, eq-eqb, lt-ltb, List, Option, Some, None, Result, Ok, Err, refl, sym, ap, subst, arith, eqb, inl, inr, ⊎_elim, codes}
+use Rattle.std.proofs.Common.{◌≡◌, ◌≢◌, ◌∙◌, ◌⊎◌, ℕ, suc, ◌+◌, ◌<◌, ◌≤◌, ◌^◌, ◌||◌, Bool, true, false, true≢false, cond, eq-eqb, eqb-true, lt-ltb, List, Option, Some, None, Result, Ok, Err, refl, sym, ap, subst, arith, eqb, inl, inr, ⊎_elim, codes}
 use Rattle.std.specs.Prelude.{if◌then◌else◌, ◌==◌}
 use Rattle.std.specs.Str.{bytes_eq}
+use Rattle.std.proofs.lemmas.Bool.{cases_Bool}
 use Rattle.sci_words.specs.declared.tags.Kind.{Kind}
 use Rattle.sci_words.specs.declared.tags.Tag.{Tag}
 use Rattle.sci_words.specs.declared.memory.Mem.{Mem}
@@ -18,7 +19,7 @@ use Rattle.sci_core.specs.declared.outcomes.NotInTurn.{NotInTurn}
 use Rattle.sci_core.specs.declared.rows.Change.{Change}
 use Rattle.sci_core.specs.Answers.{Answers, Misses, Makes, IsDone, found_code, is_allowed, row_at}
 use Rattle.sci_core.specs.Ranges.{ChangesBelow}
-use Rattle.sci_core.specs.State.{State}
+use Rattle.sci_core.specs.State.{State, update}
 use Rattle.sci_core.specs.Step.{Finds, is_look, look_of, looked}
 use Rattle.sci_core.specs.Table.{has_row, row_of}
 use Rattle.sci_core.specs.WellFormed.{FindsWord, IsTag, IsMem}
@@ -266,8 +267,14 @@ as_claimed n s me e Outcome.Busy t h = absurd h
 
 -- lines that stand so take what is told, lead to this state, and nothing else is answered
 abbrev pub Sole : ℕ → (ℕ → State) → Noted → State → Type 0
-Sole n lines r u = ((why : Deviation) (after : ℕ → State) → TakesTold n lines r (Err why) after → ⊥)
+Sole n lines r u = ((after : ℕ → State) × TakesTold n lines r (Ok tt) after) × ((why : Deviation) (after : ℕ → State) → TakesTold n lines r (Err why) after → ⊥)
     × ((after : ℕ → State) → TakesTold n lines r (Ok tt) after → (after r.line ≡ u) × ((l : ℕ) → l ≢ r.line → after l ≡ lines l))
+
+update_other : (lines : ℕ → State) (i j : ℕ) (u : State) → j ≢ i → update lines i u j ≡ lines j
+update_other lines i j u apart = elim (cases_Bool (eqb j i)) [
+  | inl same ↦ absurd (apart (eqb-true j i same))
+  | inr other ↦ ap (λ (b : Bool). cond b u (lines j)) other
+]
 
 judged_as : (claim : Claim) (o : Outcome) (why : Deviation) → IsAs claim o → Judges claim (Ok o) (Err why) → ⊥
 judged_as claim o why is h = h.0 is
@@ -285,8 +292,21 @@ module _ (n : ℕ) (lines : ℕ → State) (r : Noted) (event : Event) (o : Outc
   leads (Err refusal) t h = absurd (refused refusal t h)
   leads (Ok p) t h = sym (answers_once n (lines r.line) r.node event o p u t answers h).1
 
+  goes_on : meant (lines r.line) r.node r.told ≡ Ok event → IsAs r.claim o → (after : ℕ → State) × TakesTold n lines r (Ok tt) after
+  goes_on is claimed = (
+    update lines r.line u,
+    subst (λ (x : Result Event Deviation). TakesAs n lines r x (Ok tt) (update lines r.line u)) (sym is)
+        record {
+          answer = Ok o;
+          step = subst (λ (x : State). Answers n (lines r.line) r.node event (Ok o) x) (sym (update_same lines r.line u)) answers;
+          others = λ l other. update_other lines r.line l u other;
+          judged = claimed;
+        },
+  )
+
   pub sole : meant (lines r.line) r.node r.told ≡ Ok event → IsAs r.claim o → Sole n lines r u
   sole is claimed = (
+    goes_on is claimed,
     (λ why after h. let k : Takes n lines (entry_of r event) (Err why) after = subst (λ (x : Result Event Deviation). TakesAs n lines r x (Err why) after) is h in
         fails claimed k.answer (after r.line) k.step why k.judged),
     (λ after h. let k : Takes n lines (entry_of r event) (Ok tt) after = subst (λ (x : Result Event Deviation). TakesAs n lines r x (Ok tt) after) is h in

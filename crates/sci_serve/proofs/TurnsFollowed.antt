@@ -114,7 +114,8 @@ module _ (n me line : ℕ) (s : State) (ruled : IsRuled n fit s) (below : me < n
   -- one event more, of which this one state comes
   more_followed : (lines : ℕ → State) (r : Noted) (more : List Noted) (u t : State) → r.line ≡ line → Sole n lines r u
       → ((after : ℕ → State) → after line ≡ u → AreFollowed n after more line t) → AreFollowed n lines (r ∷ more) line t
-  more_followed lines r more u t at (none, some) on = (
+  more_followed lines r more u t at (goes, none, some) on = (
+    goes,
     none,
     (λ after h. let k = some after h in (
       (λ other apart. k.1 other (λ e. apart (e ∙ at))),

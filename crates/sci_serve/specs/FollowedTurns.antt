@@ -1,9 +1,11 @@
 -- A turn, told as a log tells it, and followed. This project's profile.
-use Rattle.std.specs.Prelude.{◌≡◌, ◌≢◌, ℕ, true, List, [], ◌∷◌, ◌++◌, Option, Some, None, Result, Ok, Err, replicate}
+use Rattle.std.specs.Prelude.{◌≡◌, ◌≢◌, ◌⊎◌, ℕ, true, List, [], ◌∷◌, ◌++◌, Option, Some, None, Result, Ok, Err, replicate}
 use Rattle.sci_core.specs.State.{State}
 use Rattle.sci_follow.specs.declared.entries.Deviation.{Deviation}
 use Rattle.sci_follow.specs.declared.told.Noted.{Noted}
 use Rattle.sci_follow.specs.LineText.{noted_at}
+use Rattle.sci_follow.specs.declared.logs.LogFault.{LogFault}
+use Rattle.sci_follow.specs.Streams.{FollowsAll, StopsWith}
 use Rattle.sci_follow.specs.Told.{TakesTold, is_told_in}
 use Rattle.sci_script.specs.declared.refusals.ScriptRefusal.{ScriptRefusal}
 use Rattle.sci_script.specs.declared.refusals.ScriptRefusal.TheVariants.{OutOfMemory, BadCommand, BadNumber, NotDone, WriteFailed}
@@ -17,6 +19,10 @@ IsOfLine (BadCommand n) = Unit {0}
 IsOfLine (BadNumber n) = Unit {0}
 IsOfLine (NotDone n) = Unit {0}
 IsOfLine WriteFailed = ⊥
+
+-- the text is a run of the table, and nothing but memory or a read keeps it from being followed
+abbrev pub IsSurelyFollowed : List ℕ → Type 0
+IsSurelyFollowed text = FollowsAll text × ((fault : LogFault) → StopsWith fault text → (fault ≡ LogFault.CannotRead) ⊎ (fault ≡ LogFault.OutOfMemory))
 
 -- eight words of 64 bits
 abbrev pub fit : List ℕ → Type 0
@@ -46,5 +52,6 @@ AreToldOf n node line (noted ∷ more) = (noted.node ≡ node) × (noted.line �
 -- is touched
 abbrev pub AreFollowed : ℕ → (ℕ → State) → List Noted → ℕ → State → Type 0
 AreFollowed n lines [] line t = lines line ≡ t
-AreFollowed n lines (noted ∷ more) line t = ((why : Deviation) (after : ℕ → State) → TakesTold n lines noted (Err why) after → ⊥)
+AreFollowed n lines (noted ∷ more) line t = ((after : ℕ → State) × TakesTold n lines noted (Ok tt) after)
+    × ((why : Deviation) (after : ℕ → State) → TakesTold n lines noted (Err why) after → ⊥)
     × ((after : ℕ → State) → TakesTold n lines noted (Ok tt) after → ((other : ℕ) → other ≢ line → after other ≡ lines other) × AreFollowed n after more line t)

@@ -1,5 +1,5 @@
 //! Laws of what is written of a script.
-ghost use Rattle.std.specs.Prelude.{◌≡◌, ◌⊎◌, ◌<◌, ◌≤◌, ◌++◌, ℕ, false, List, Ok, Some};
+ghost use Rattle.std.specs.Prelude.{◌≡◌, ◌<◌, ◌≤◌, ◌++◌, ℕ, false, List, Ok, Some};
 ghost use Rattle.std.specs.List.{flat_map};
 ghost use Rattle.std.specs.Str.Lines.{lines};
 ghost use Rattle.sci_core.specs.declared.events.Event.{Event};
@@ -10,9 +10,6 @@ ghost use Rattle.sci_follow.specs.LineText.{memory_at, noted_at, opening_at};
 ghost use Rattle.sci_ops.specs.declared.answers.Turn.{Turn};
 ghost use Rattle.sci_ops.specs.Change.{StoresFitting};
 ghost use Rattle.sci_ops.specs.Operation.{Operation};
-ghost use Rattle.sci_follow.specs.declared.logs.LogFault.{LogFault};
-ghost use Rattle.sci_follow.specs.declared.logs.LogFault.TheVariants.{CannotRead, OutOfMemory};
-ghost use Rattle.sci_follow.specs.Streams.{StopsWith};
 ghost use Rattle.sci_script.specs.declared.refusals.ScriptRefusal.{ScriptRefusal};
 ghost use Rattle.sci_script.specs.Size.{IsSize};
 ghost use Rattle.sci_script.specs.Passed.{PassesOn};
@@ -20,7 +17,7 @@ ghost use Rattle.sci_script.specs.Turns.{TurnsOn};
 ghost use Rattle.sci_script.specs.declared.watching.Ending.{Ending};
 ghost use Rattle.sci_script.specs.declared.watching.Passed.{Passed};
 ghost use Rattle.sci_serve.specs.ReadBack.{IsBehind, IsReadAs, MayEnd, claim_of, look_of, noted_of, told_of};
-ghost use Rattle.sci_serve.specs.FollowedTurns.{IsOfLine, AreFollowed, AreReadAs, AreToldOf, fit, turn_told};
+ghost use Rattle.sci_serve.specs.FollowedTurns.{IsOfLine, IsSurelyFollowed, AreFollowed, AreReadAs, AreToldOf, fit, turn_told};
 ghost use Rattle.sci_trace.specs.Entries.{entries_of, exchange_line, log_head, look_line, opening_line};
 ghost use Rattle.sci_trace.specs.Telling.{nothing};
 ghost use Rattle.sci_script.specs.declared.commands.Size.{Size};
@@ -63,10 +60,9 @@ pub fn turns_are_followed()
         × ((lines : ℕ → State) → lines line ≡ s → AreFollowed n lines (turn_told me passed) line t) }
 {}
 
-/// The log of every script follows: in what `trace --log` writes of a script that ends, or of one that is refused at one of its lines,
-/// `follow` finds no fault, unless it can't be read or memory runs out.
+/// The log of every script follows: what `trace --log` writes of a script that ends, or of one that is refused at one of its lines,
+/// is a run of the table from its opening, and `follow` finds no fault in it, unless it can't be read or memory runs out.
 pub fn logs_follow()
-    ensures ended { (input text : List ℕ) (fault : LogFault) → Serves forms.Log input text → StopsWith fault text → (fault ≡ CannotRead) ⊎ (fault ≡ OutOfMemory) }
-    ensures refused { (input written : List ℕ) (refusal : ScriptRefusal) (fault : LogFault) → IsOfLine refusal → StopsRunning forms.Log refusal input written
-        → StopsWith fault written → (fault ≡ CannotRead) ⊎ (fault ≡ OutOfMemory) }
+    ensures ended { (input text : List ℕ) → Serves forms.Log input text → IsSurelyFollowed text }
+    ensures refused { (input written : List ℕ) (refusal : ScriptRefusal) → IsOfLine refusal → StopsRunning forms.Log refusal input written → IsSurelyFollowed written }
 {}
