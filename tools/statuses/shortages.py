@@ -100,10 +100,12 @@ def talk(rounds):
 
 
 FEW, MANY = talk(10), talk(50_000)
+# The C library's heap grows by steps of 132 KiB: many commands may need one step more.
+SLACK = 262_144
 
 
 def keeps(serve, few, many):
-    """What is wrong where a talk of many commands is given the memory that one of few needs, and hardly more."""
+    """What is wrong where a talk of many commands is given the memory that one of few needs, and SLACK."""
     low, high = 1_000_000, AMPLE
     while high - low > STEP:
         memory = (low + high) // 2
@@ -111,7 +113,7 @@ def keeps(serve, few, many):
         low, high = (low, memory) if is_enough else (memory, high)
     if high == AMPLE:
         return ["a talk of few commands needs more than ample memory"]
-    status, said, error = serve("talk", Little(many[0], high + STEP))
+    status, said, error = serve("talk", Little(many[0], high + SLACK))
     if (status, said, error) == (0, many[1], ""):
         return []
     return [f"in the memory of few commands many end with {status}, {error!r}, behind {len(said)} bytes: {said[-80:]!r}"]
