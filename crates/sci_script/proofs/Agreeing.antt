@@ -17,13 +17,13 @@ use Rattle.sci_script.specs.declared.places.Place.{Place}
 use Rattle.sci_script.specs.declared.places.Stand.{Stand}
 use Rattle.sci_script.specs.declared.places.Stand.TheVariants as stands
 use Rattle.sci_script.specs.declared.reasons.Reason.{Reason}
-use Rattle.sci_script.specs.declared.reasons.Reason.TheVariants.{Unknown, Early, Late, Words, Number}
+use Rattle.sci_script.specs.declared.reasons.Reason.TheVariants.{Unknown, Early, Late, Words, Number, Digits}
 use Rattle.sci_script.specs.declared.refusals.ScriptRefusal.{ScriptRefusal}
 use Rattle.sci_script.specs.declared.refusals.ScriptRefusal.TheVariants.{OutOfMemory, BadCommand, BadNumber, NotDone, WriteFailed}
 use Rattle.sci_script.specs.Causes.{refused_for}
-use Rattle.sci_script.specs.Faults.{verb_of, arguments_of, range_of, is_within, number_reason, verb_reason, named_reason, words_reason}
+use Rattle.sci_script.specs.Faults.{verb_of, arguments_of, range_of, range_reason, is_within, number_reason, verb_reason, named_reason, words_reason}
 use Rattle.sci_script.specs.Format.{◌>>=◌, within, number_at, node_at, line_at, value_at, values_at, size_at, opening_at, place_at, change_at, load_at, store_at, add_at, evict_at, turn_at, done_at, rest_at, end_at, list_at, tag_at, residents_at, other_at, command_at, bound_at, bound_of, opening_of}
-use Rattle.sci_script.specs.Words.{number_of}
+use Rattle.sci_script.specs.Words.{is_long, number_of}
 use Rattle.sci_script.proofs.Saying.{decide}
 
 -- what was read of line n, or the reason of its refusal
@@ -45,13 +45,21 @@ within_then : {B : Type 0} (n : ℕ) (range : ℕ × ℕ) (value : Option ℕ) (
 within_then n range None f rest bad h e = (bad, refl, e)
 within_then n range (Some v) f rest bad h e = within_by n (nat_le range.0 v && nat_le v range.1) v f rest bad (h v) e
 
+-- a word that is none is refused 17
+either_refused : (n k : ℕ) (range : ℕ × ℕ) (b : Bool) → BadNumber n ≡ refused_for n (if b then Digits k else Number k range.0 range.1)
+either_refused n k range true = refl
+either_refused n k range false = refl
+
+range_refused : (n k : ℕ) (range : ℕ × ℕ) (word : List ℕ) → BadNumber n ≡ refused_for n (range_reason k range word)
+range_refused n k range word = either_refused n k range (is_long word)
+
 -- a word that is a number in its range, and the words behind it
 number_then : {B : Type 0} (n k : ℕ) (size : Size) (a : Argument) (wanted : List Argument) (word : List ℕ) (words : List (List ℕ)) (f : ℕ → Result B ScriptRefusal)
     → ((v : ℕ) → Agrees n (f v) (number_reason (k + 1) size wanted words))
     → Agrees n (number_at n (range_of size a).0 (range_of size a).1 word >>= f) (number_reason k size (a ∷ wanted) (word ∷ words))
 unfolding number_reason
 number_then n k size a wanted word words f h =
-    within_then n (range_of size a) (number_of word) f (number_reason (k + 1) size wanted words) (Number k (range_of size a).0 (range_of size a).1) h refl
+    within_then n (range_of size a) (number_of word) f (number_reason (k + 1) size wanted words) (range_reason k (range_of size a) word) h (range_refused n k (range_of size a) word)
 
 -- behind the last word nothing is wrong
 number_end : {X : Type 0} (n k : ℕ) (size : Size) (words : List (List ℕ)) (x : X) → Agrees n (Ok x) (number_reason k size [] words)
@@ -163,7 +171,7 @@ alone n k range (Some v) bad e = alone_by n (nat_le range.0 v && nat_le v range.
 
 bound_one : (n : ℕ) (size : Size) (x : List ℕ) → Agrees n (number_at n 1 1024 x) (number_reason 2 size (arg.Capacity ∷ []) (x ∷ []))
 unfolding number_reason
-bound_one n size x = alone n 2 (1, 1024) (number_of x) (Number 2 1 1024) refl
+bound_one n size x = alone n 2 (1, 1024) (number_of x) (range_reason 2 (1, 1024) x) (range_refused n 2 (1, 1024) x)
 
 pub bound_agrees : (n : ℕ) (size : Size) (args : List (List ℕ)) → Agrees n (bound_at n args) (args_reason size (arg.Capacity ∷ []) args)
 unfolding bound_at

@@ -2,8 +2,6 @@
 use Rattle.std.proofs.Common.{◌≡◌, ◌∙◌, ℕ, zero, suc, ◌<◌, ◌&&◌, nat_lt, Bool, true, false, true≢false, List, Option, Some, None, Result, Ok, Err, is_some, if◌then◌else◌, refl, sym, ap, subst, arith}
 use Rattle.std.proofs.lemmas.Bool.Decides.{nat_tests}
 use Rattle.sci_core.proofs.Answered.{update_same}
-use Rattle.sci_core.specs.Stage.{stage_of}
-use Rattle.sci_core.specs.declared.stages.Stage.{Stage}
 use Rattle.sci_ops.specs.declared.answers.Turn.{Turn}
 use Rattle.sci_ops.specs.declared.answers.Turn.TheVariants as turns
 use Rattle.sci_cache.specs.declared.calls.OpenCall.{OpenCall}
@@ -19,7 +17,7 @@ use Rattle.sci_script.specs.declared.refusals.ScriptRefusal.{ScriptRefusal}
 use Rattle.sci_script.specs.declared.refusals.ScriptRefusal.TheVariants.{OutOfMemory, BadCommand, BadNumber, NotDone, WriteFailed}
 use Rattle.sci_script.specs.Causes.{refused_for, IsRefusedFor, IsReasonOf, HasReason}
 use Rattle.sci_script.specs.Event.{Turned, IsNoEnd}
-use Rattle.sci_script.specs.Reasons.{IsWhy, IsUnendedBy, alone_reason, wait_reason, unbegun_reason}
+use Rattle.sci_script.specs.Reasons.{IsWhy, IsUnendedBy, wait_reason, unbegun_reason}
 use Rattle.sci_script.specs.Run.{Unended, StopsAt}
 use Rattle.sci_script.specs.ScriptText.{Opens}
 use Rattle.sci_script.specs.Shared.{Shared, TakesTurnOf, shared_is_open, shared_does}
@@ -51,32 +49,13 @@ unended_open zero node s t opened h = ap (λ (x : Shared). shared_is_open x node
 unended_open (suc n) node s t opened (mid, o, before, goes, turned) = open_on mid t node (mid.nodes node).call o turned goes
 
 -- each way in which a call doesn't end is one of refusal 18
-alone_refused : (line node : ℕ) (stage : Stage) → NotDone line ≡ refused_for line (alone_reason node stage)
-alone_refused line node Stage.Idle = refl
-alone_refused line node (Stage.Holding w) = refl
-alone_refused line node (Stage.Queueing f) = refl
-alone_refused line node (Stage.Fetching f d) = refl
-alone_refused line node (Stage.InQueue f d c) = refl
-alone_refused line node (Stage.Copying f w) = refl
-alone_refused line node (Stage.Ready f d) = refl
-alone_refused line node (Stage.Converting f t) = refl
-alone_refused line node (Stage.Purging seen) = refl
-alone_refused line node (Stage.Advancing x w) = refl
-alone_refused line node (Stage.Clearing x w) = refl
-alone_refused line node (Stage.Leaving d seen) = refl
-alone_refused line node (Stage.Promoted d x) = refl
-alone_refused line node Stage.WritingBack = refl
-alone_refused line node (Stage.Parted f) = refl
-alone_refused line node (Stage.Rolling t seen) = refl
-alone_refused line node (Stage.Unlinked f b) = refl
-
-wait_refused : (line : ℕ) (s : Shared) (node on : ℕ) (whom : Option ℕ) → NotDone line ≡ refused_for line (wait_reason s node on whom)
-wait_refused line s node on None = alone_refused line node (stage_of ((s.lines on).steps node))
-wait_refused line s node on (Some whom) = refl
+wait_refused : (line node : ℕ) (whom : Option ℕ) → NotDone line ≡ refused_for line (wait_reason node whom)
+wait_refused line node None = refl
+wait_refused line node (Some whom) = refl
 
 unended_refused : (line : ℕ) (t : Shared) (node : ℕ) (call : Option OpenCall) (why : Option Reason) → is_some call ≡ true → IsUnendedBy t node call why → IsRefusedFor (NotDone line) why
 unended_refused line t node None why opened h = absurd (cc)
-unended_refused line t node (Some c) why opened (whom, awaited, is) = (line, wait_reason t node (line_by c.victim c.line) whom, is, wait_refused line t node (line_by c.victim c.line) whom)
+unended_refused line t node (Some c) why opened (whom, awaited, is) = (line, wait_reason node whom, is, wait_refused line node whom)
 
 closed_refused : (line : ℕ) (t : Shared) (node : ℕ) (call : Option OpenCall) (why : Option Reason) → is_some call ≡ false → IsUnendedBy t node call why → IsRefusedFor (BadCommand line) why
 closed_refused line t node None why closed h = (line, NoCall node, h, refl)

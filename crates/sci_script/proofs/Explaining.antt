@@ -7,12 +7,12 @@ use Rattle.sci_script.specs.declared.places.Place.{Place}
 use Rattle.sci_script.specs.declared.refusals.ScriptRefusal.{ScriptRefusal}
 use Rattle.sci_script.specs.declared.refusals.ScriptRefusal.TheVariants.{OutOfMemory, BadCommand, BadNumber, NotDone, WriteFailed}
 use Rattle.sci_script.specs.declared.reasons.Reason.{Reason}
-use Rattle.sci_script.specs.declared.reasons.Reason.TheVariants.{BadByte, Early, Number}
+use Rattle.sci_script.specs.declared.reasons.Reason.TheVariants.{BadByte, Early}
 use Rattle.std.specs.List.{list_all}
 use Rattle.sci_script.specs.Words.{is_plain, words_of, number_of}
 use Rattle.sci_script.specs.Format.{Fails, words_at}
 use Rattle.sci_script.proofs.Reading.{drop_map_more}
-use Rattle.sci_script.specs.Faults.{range_of, is_within, number_reason, words_reason, line_reason, is_first, place_behind, text_reason}
+use Rattle.sci_script.specs.Faults.{range_of, range_reason, is_within, number_reason, words_reason, line_reason, is_first, place_behind, text_reason}
 
 -- a word in its range is gone past
 pub number_goes_on : (k : ℕ) (size : Size) (argument : Argument) (wanted : List Argument) (word : List ℕ) (words : List (List ℕ)) → is_within (range_of size argument) (number_of word) ≡ true
@@ -21,7 +21,7 @@ unfolding number_reason
 number_goes_on k size argument wanted word words within = rw within refl
 
 pub number_stops : (k : ℕ) (size : Size) (argument : Argument) (wanted : List Argument) (word : List ℕ) (words : List (List ℕ)) → is_within (range_of size argument) (number_of word) ≡ false
-    → number_reason k size (argument ∷ wanted) (word ∷ words) ≡ Some (Number k (range_of size argument).0 (range_of size argument).1)
+    → number_reason k size (argument ∷ wanted) (word ∷ words) ≡ Some (range_reason k (range_of size argument) word)
 unfolding number_reason
 number_stops k size argument wanted word words out = rw out refl
 
@@ -41,7 +41,7 @@ number_turn f xs wanted size i a d total here there within so_far =
 
 pub number_fault : {X : Type 0} (f : X → List ℕ) (xs : List X) (wanted : List Argument) (size : Size) (i : ℕ) (a : Argument) (d : X) (total : Option Reason) → i < length wanted → i < length xs
     → is_within (range_of size (get_or wanted i a)) (number_of (f (get_or xs i d))) ≡ false
-    → number_reason (i + 2) size (drop i wanted) (drop i (map f xs)) ≡ total → Some (Number (i + 2) (range_of size (get_or wanted i a)).0 (range_of size (get_or wanted i a)).1) ≡ total
+    → number_reason (i + 2) size (drop i wanted) (drop i (map f xs)) ≡ total → Some (range_reason (i + 2) (range_of size (get_or wanted i a)) (f (get_or xs i d))) ≡ total
 number_fault f xs wanted size i a d total here there out so_far =
     let one : number_reason (i + 2) size (get_or wanted i a ∷ drop (i + 1) wanted) (f (get_or xs i d) ∷ drop (i + 1) (map f xs)) ≡ total = rw (drop_more wanted i a here, drop_map_more f xs i d there) at so_far in
     sym (number_stops (i + 2) size (get_or wanted i a) (drop (i + 1) wanted) (f (get_or xs i d)) (drop (i + 1) (map f xs)) out) ∙ one

@@ -37,3 +37,5 @@ pub mod CausedWords
 pub mod Spoken
 pub mod Printing
 pub mod Awaiting
+pub mod Once
+pub mod Named

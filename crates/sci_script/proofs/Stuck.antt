@@ -56,7 +56,7 @@ again_turns goal None me p t = look_turns goal me p t
 again_turns goal (Some answer) me p t = refl
 
 -- an exchange that is done is no wait
-no_wait : (end : End) (line : Option Line) → Turn.Waiting ≡ ended end line → ⊥
+pub no_wait : (end : End) (line : Option Line) → Turn.Waiting ≡ ended end line → ⊥
 no_wait End.Seen (Some line) e = let q : Turn.Waiting ≡ Turn.Done (Answer.Seen line.words line.stamp) = e in cc
 no_wait End.Seen None e = let q : Turn.Waiting ≡ Turn.Moved = e in cc
 no_wait (End.Wrote before stamp) line e = let q : Turn.Waiting ≡ Turn.Done (Answer.Wrote before stamp) = e in cc
@@ -113,7 +113,7 @@ turns_again n me op s t h =
     (stays n me plan s t h) in
     subst (λ (x : Plan). Made n me t x Turn.Waiting t) (sym same) (again n me plan s t h)
 
-shown_waits : (victim : Option ℕ) (turn : Turn) → Turn.Waiting ≡ shown_by victim turn → turn ≡ Turn.Waiting
+pub shown_waits : (victim : Option ℕ) (turn : Turn) → Turn.Waiting ≡ shown_by victim turn → turn ≡ Turn.Waiting
 shown_waits None turn e = sym e
 shown_waits (Some victim) Turn.Moved e = sym e
 shown_waits (Some victim) Turn.Waiting e = refl
@@ -140,6 +140,10 @@ node_kept n c is =
 update_kept : {A : Type 0} (f : ℕ → A) (i : ℕ) (x : A) (j : ℕ) → f i ≡ x → f j ≡ update f i x j
 update_kept f i x j e = grind (arith, nat_tests)
 
+pub node_stays : (s t : Shared) (node : ℕ) (c : OpenCall) → (s.nodes node).call ≡ Some c → TakesTurn s node c Turn.Waiting t → t.nodes node ≡ s.nodes node
+node_stays s t node c is h =
+    h.after node ∙ update_same s.nodes node (node_after (s.nodes node) c h.turn) ∙ ap (λ (turn : Turn). node_after (s.nodes node) c turn) (shown_waits c.victim h.turn h.shows) ∙ node_kept (s.nodes node) c is
+
 waits_on : (s t : Shared) (node : ℕ) (call : Option OpenCall) → (s.nodes node).call ≡ call → TakesTurnOf s node call Turn.Waiting t → TakesTurnOf t node (t.nodes node).call Turn.Waiting t
 waits_on s t node None is h = absurd h
 waits_on s t node (Some c) is h =
@@ -147,7 +151,7 @@ waits_on s t node (Some c) is h =
     let line : ℕ = line_by c.victim c.line in
     let op : Operation = op_by c.victim c.op in
     let waited : h.turn ≡ Turn.Waiting = shown_waits c.victim h.turn h.shows in
-    let same : t.nodes node ≡ n = h.after node ∙ update_same s.nodes node (node_after n c h.turn) ∙ ap (λ (turn : Turn). node_after n c turn) waited ∙ node_kept n c is in
+    let same : t.nodes node ≡ n = node_stays s t node c is h in
     let still : (t.nodes node).call ≡ Some c = ap (λ (m : NodeState). m.call) same ∙ is in
     let made : TurnsOn s.width node op (s.lines line) Turn.Waiting (t.lines line) = subst (λ (turn : Turn). TurnsOn s.width node op (s.lines line) turn (t.lines line)) waited h.made in
     let taken : TakesTurn t node c Turn.Waiting t = record {

@@ -134,14 +134,14 @@ second_true true b h = h
 second_true false b h = absurd (cc)
 
 -- the commands in front of a place are of what there is, and so is the one there
-front_in : (size : Size) (k : ℕ) (steps : List Step) → AreIn size steps → AreIn size (take k steps)
+pub front_in : (size : Size) (k : ℕ) (steps : List Step) → AreIn size steps → AreIn size (take k steps)
 front_in size zero steps h = refl
 front_in size (suc k) [] h = refl
 front_in size (suc k) (step ∷ steps) h =
     both_true (is_in size step.command) (list_all (λ x. is_in size x.command) (take k steps)) (first_true (is_in size step.command) (list_all (λ x. is_in size x.command) steps) h)
     (front_in size k steps (second_true (is_in size step.command) (list_all (λ x. is_in size x.command) steps) h))
 
-step_in : (size : Size) (steps : List Step) (i : ℕ) (x : Step) → AreIn size steps → slice_get steps i ≡ Some x → IsIn size x.command
+pub step_in : (size : Size) (steps : List Step) (i : ℕ) (x : Step) → AreIn size steps → slice_get steps i ≡ Some x → IsIn size x.command
 step_in size [] i x h e = absurd (cc)
 step_in size (step ∷ steps) zero x h e =
     let q : step ≡ x = cc in

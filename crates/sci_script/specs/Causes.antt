@@ -3,7 +3,7 @@ use Rattle.std.specs.Prelude.{◌≡◌, ℕ, Option, Some, None, Result, Ok, Er
 use Rattle.sci_script.specs.declared.commands.Command.{Command}
 use Rattle.sci_script.specs.declared.commands.Command.TheVariants.{Begin, Turn, Done}
 use Rattle.sci_script.specs.declared.reasons.Reason.{Reason}
-use Rattle.sci_script.specs.declared.reasons.Reason.TheVariants.{BadByte, TooLong, Unknown, Early, Late, Words, Number, CallOpen, NoCall, WaitsFor, Held, Unended}
+use Rattle.sci_script.specs.declared.reasons.Reason.TheVariants.{BadByte, TooLong, Unknown, Early, Late, Words, Number, Digits, CallOpen, NoCall, WaitsFor, Unended}
 use Rattle.sci_script.specs.declared.refusals.ScriptRefusal.{ScriptRefusal}
 use Rattle.sci_script.specs.declared.refusals.ScriptRefusal.TheVariants.{BadCommand, BadNumber, NotDone}
 
@@ -16,10 +16,10 @@ refused_for line Early = BadCommand line
 refused_for line Late = BadCommand line
 refused_for line (Words wanted found) = BadCommand line
 refused_for line (Number word low high) = BadNumber line
+refused_for line (Digits word) = BadNumber line
 refused_for line (CallOpen node) = BadCommand line
 refused_for line (NoCall node) = BadCommand line
 refused_for line (WaitsFor node whom) = NotDone line
-refused_for line (Held node) = NotDone line
 refused_for line (Unended node) = NotDone line
 
 -- a refusal has a reason, which is one of it

@@ -13,10 +13,10 @@ use Rattle.sci_script.specs.declared.places.Stand.TheVariants as stands
 use Rattle.sci_script.specs.declared.faults.Verb.{Verb}
 use Rattle.sci_script.specs.declared.faults.Verb.TheVariants as verbs
 use Rattle.sci_script.specs.declared.reasons.Reason.{Reason}
-use Rattle.sci_script.specs.declared.reasons.Reason.TheVariants.{BadByte, Unknown, Early, Late, Words, Number}
+use Rattle.sci_script.specs.declared.reasons.Reason.TheVariants.{BadByte, Unknown, Early, Late, Words, Number, Digits}
 use Rattle.sci_script.specs.declared.refusals.ScriptRefusal.{ScriptRefusal}
 use Rattle.sci_script.specs.Format.{size_at}
-use Rattle.sci_script.specs.Words.{is_plain, words_of, number_of}
+use Rattle.sci_script.specs.Words.{is_long, is_plain, words_of, number_of}
 
 -- the commands by their names
 unfoldable pub verb_of : List ℕ → Option Verb
@@ -87,13 +87,17 @@ is_in_time verbs.Capacity stand = is_second stand
 is_in_time verbs.Open stand = is_in_front stand
 is_in_time verb stand = not (is_first stand)
 
+-- why word k is no number in this range
+abbrev pub range_reason : ℕ → ℕ × ℕ → List ℕ → Reason
+range_reason k range word = if is_long word then Digits k else Number k range.0 range.1
+
 -- the first of these words, the first of which is word k, that is no number in its range
 unfoldable pub number_reason : ℕ → Size → List Argument → List (List ℕ) → Option Reason
 number_reason k size [] words = None
 number_reason k size (argument ∷ wanted) [] = None
 number_reason k size (argument ∷ wanted) (word ∷ words) =
     if is_within (range_of size argument) (number_of word) then number_reason (k + 1) size wanted words
-    else Some (Number k (range_of size argument).0 (range_of size argument).1)
+    else Some (range_reason k (range_of size argument) word)
 
 -- why a command isn't taken at its place
 unfoldable pub verb_reason : Place → Verb → List (List ℕ) → Option Reason

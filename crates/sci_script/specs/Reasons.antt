@@ -1,7 +1,6 @@
 -- Why a command of a script is refused over its desk, as that stands behind the refusal. This project's profile.
-use Rattle.std.specs.Prelude.{◌≡◌, ℕ, Bool, true, false, List, [], Option, Some, None, Result, Ok, Err, slice_get, if◌then◌else◌}
-use Rattle.sci_core.specs.Stage.{stage_of}
-use Rattle.sci_core.specs.declared.stages.Stage.{Stage}
+use Rattle.std.specs.Prelude.{◌≡◌, ◌⊎◌, ℕ, Bool, true, false, List, [], Option, Some, None, Result, Ok, Err, slice_get, if◌then◌else◌}
+use Rattle.sci_ops.specs.declared.answers.Turn.TheVariants.{Moved}
 use Rattle.sci_cache.specs.Nodes.{line_by}
 use Rattle.sci_cache.specs.declared.calls.OpenCall.{OpenCall}
 use Rattle.sci_script.specs.declared.commands.Size.{Size}
@@ -13,31 +12,36 @@ use Rattle.sci_script.specs.declared.places.Place.{Place}
 use Rattle.sci_script.specs.declared.places.Stand.{Stand}
 use Rattle.sci_script.specs.declared.places.Stand.TheVariants as stands
 use Rattle.sci_script.specs.declared.reasons.Reason.{Reason}
-use Rattle.sci_script.specs.declared.reasons.Reason.TheVariants.{CallOpen, NoCall, WaitsFor, Held, Unended}
+use Rattle.sci_script.specs.declared.reasons.Reason.TheVariants.{CallOpen, NoCall, WaitsFor, Unended}
 use Rattle.sci_script.specs.declared.refusals.ScriptRefusal.{ScriptRefusal}
 use Rattle.sci_script.specs.declared.refusals.ScriptRefusal.TheVariants as refusals
 use Rattle.sci_script.specs.Faults.{first_place, line_reason, text_reason}
-use Rattle.sci_script.specs.Run.{Leaves}
+use Rattle.sci_script.specs.Event.{Turned}
+use Rattle.sci_script.specs.Run.{Leaves, Repeats}
 use Rattle.sci_script.specs.ScriptText.{Opens, IsTextOf}
 use Rattle.sci_script.specs.Shared.{Shared, shared_is_open, shared_does}
 use Rattle.sci_script.specs.Talks.{Standing, Silent, Gathering, Going, command_of}
 use Rattle.sci_script.specs.Waiting.{IsAwaited}
 use Rattle.sci_script.specs.Words.{is_skipped, words_of}
 
--- a node that waits for nobody is Idle, or could go on
-abbrev pub alone_reason : ℕ → Stage → Reason
-alone_reason node Stage.Idle = Held node
-alone_reason node stage = Unended node
-
-abbrev pub wait_reason : Shared → ℕ → ℕ → Option ℕ → Reason
-wait_reason s node line None = alone_reason node (stage_of ((s.lines line).steps node))
-wait_reason s node line (Some whom) = WaitsFor node whom
+-- a node that waits for nobody could go on
+abbrev pub wait_reason : ℕ → Option ℕ → Reason
+wait_reason node None = Unended node
+wait_reason node (Some whom) = WaitsFor node whom
 
 -- why the node's call doesn't end: whom it waits for on the line at work
 abbrev pub IsUnendedBy : Shared → ℕ → Option OpenCall → Option Reason → Type 0
 IsUnendedBy s node None why = why ≡ Some (NoCall node)
 IsUnendedBy s node (Some call) why = (whom : Option ℕ) × IsAwaited s (line_by call.victim call.line) node whom
-    × (why ≡ Some (wait_reason s node (line_by call.victim call.line) whom))
+    × (why ≡ Some (wait_reason node whom))
+
+-- a call that wasn't taken from s to its end, at t, waits for somebody; or each of its 100,000 turns made an exchange
+abbrev pub IsUndone : ℕ → Shared → Shared → Option Reason → Type 0
+IsUndone node s t why = ((whom : ℕ) × (why ≡ Some (WaitsFor node whom))) ⊎ Repeats shared_does (Turned node Moved) 100000 s t
+
+abbrev pub IsUndoneOf : Command → Shared → Shared → Option Reason → Type 0
+IsUndoneOf (Done node) s t why = IsUndone node s t why
+IsUndoneOf command s t why = Unit {0}
 
 -- why a command that was refused is
 abbrev pub IsWhy : Shared → Command → Option Reason → Type 0

@@ -57,6 +57,11 @@ WaitsTowards n s goal i y = Waits n s i y ⊎ (StartsOr true s goal i × (keeps_
 abbrev pub IsAwaitedOn : ℕ → State → Goal → ℕ → Option ℕ → Type 0
 IsAwaitedOn n s goal i whom = MatchOption whom (IsMover n s i ⊎ StartsOr false s goal i) (λ y. (y < n) × (s.steps y ≢ Pending.Idle) × WaitsTowards n s goal i y)
 
+-- the goal of the operation at work of a node's call: its victim's eviction first
+abbrev pub goal_at_work : Option OpenCall → Option Goal
+goal_at_work None = None
+goal_at_work (Some call) = Some (op_by call.victim call.op).goal
+
 -- the goal of a node on this line, where its call is at work there
 abbrev pub goal_on : ℕ → Option OpenCall → Option Goal
 goal_on line None = None

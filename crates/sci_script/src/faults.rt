@@ -6,12 +6,12 @@ ghost use Rattle.sci_script.specs.Size.{IsSize};
 ghost use Rattle.sci_script.specs.Causes.{IsReasonOf};
 ghost use Rattle.sci_script.specs.Format.{entries_from, script_of, size_at};
 ghost use Rattle.sci_script.specs.Words.{number_of, words_of};
-ghost use Rattle.sci_script.specs.Faults.{verb_of, arguments_of, range_of, is_within, is_first, is_second, is_in_front, is_in_time, number_reason, verb_reason, words_reason, line_reason, said_or, stand_behind, place_behind, text_reason, first_place};
+ghost use Rattle.sci_script.specs.Faults.{verb_of, arguments_of, range_of, is_within, is_first, is_second, is_in_front, is_in_time, range_reason, number_reason, verb_reason, words_reason, line_reason, said_or, stand_behind, place_behind, text_reason, first_place};
 
 use crate::commands::Size;
 use crate::line_commands::size;
 use crate::line_words::split_line;
-use crate::numbers::number;
+use crate::numbers::{is_long, number};
 use crate::places::{Place, Stand};
 use crate::reader::first_entry;
 use crate::reasons::Reason;
@@ -218,6 +218,21 @@ fn stand_behind(verb: Verb) -> Stand
     }
 }
 
+/// Why the word with this number is no number in its range.
+fn range_reason(number: usize, range: (u64, u64), word: &[u8]) -> Reason
+    ensures { result ≡ range_reason number range word.now }
+{
+    if is_long(word) {
+        Reason::Digits(number)
+    } else {
+        Reason::Number {
+            word: number,
+            low: range.0,
+            high: range.1,
+        }
+    }
+}
+
 /// The first word that is no number in its range.
 fn why_number(size: Size, wanted: &[Argument], args: &[&[u8]]) -> Option<Reason>
     requires size { IsSize size }
@@ -228,11 +243,7 @@ fn why_number(size: Size, wanted: &[Argument], args: &[&[u8]]) -> Option<Reason>
     for i in 0..args.len() {
         let range = range(size, wanted[i]);
         if !is_within(range, number(args[i])) {
-            return Some(Reason::Number {
-                word: i + 2,
-                low: range.0,
-                high: range.1,
-            });
+            return Some(range_reason(i + 2, range, args[i]));
         }
     }
     None

@@ -1,23 +1,28 @@
 //! Laws of scripts.
-ghost use Rattle.std.specs.Prelude.{◌≡◌, ℕ, List, Ok, Option, Some, take, slice_get};
+ghost use Rattle.std.specs.Prelude.{◌≡◌, ◌<◌, ℕ, List, Ok, Option, Some, take, slice_get};
 ghost use Rattle.std.specs.Str.Lines.{lines};
 ghost use Rattle.sci_script.specs.declared.commands.Command.{Command};
 ghost use Rattle.sci_script.specs.declared.commands.Size.{Size};
 ghost use Rattle.sci_script.specs.declared.commands.Opening.{Opening};
 ghost use Rattle.sci_script.specs.declared.commands.Step.{Step};
 ghost use Rattle.sci_script.specs.declared.reasons.Reason.{Reason};
+ghost use Rattle.sci_ops.specs.declared.answers.Turn.TheVariants.{Waiting};
 ghost use Rattle.sci_script.specs.declared.refusals.ScriptRefusal.{ScriptRefusal};
+ghost use Rattle.sci_script.specs.declared.watching.Passed.{Passed};
 ghost use Rattle.sci_script.specs.declared.refusals.ScriptRefusal.TheVariants.{OutOfMemory, NotDone};
 ghost use Rattle.sci_script.specs.Causes.{HasReason, IsReasonOf};
 ghost use Rattle.sci_script.specs.Faults.{words_reason};
 ghost use Rattle.sci_script.specs.Format.{script_of};
-ghost use Rattle.sci_script.specs.Reasons.{IsWhy, place_of, unbegun_reason};
+ghost use Rattle.sci_script.specs.Reasons.{IsUndoneOf, IsWhy, place_of, unbegun_reason};
+ghost use Rattle.sci_script.specs.Event.{Turned};
+ghost use Rattle.sci_script.specs.Passed.{shared_passes};
 ghost use Rattle.sci_script.specs.Request.{no_words};
 ghost use Rattle.sci_script.specs.Run.{IsNoRest, PrintsAll, StopsAt};
 ghost use Rattle.sci_script.specs.ScriptText.{IsTextOf, Opens};
 ghost use Rattle.sci_script.specs.Shared.{Shared, shared_is_open, shared_does};
 ghost use Rattle.sci_script.specs.Size.{AreIn, IsIn, IsSize};
 ghost use Rattle.sci_script.specs.Talks.{FailsFirst, Hears, Says, Silent, Standing, Stops, command_of};
+ghost use Rattle.sci_script.specs.Waiting.{IsAwaited};
 
 /// A script's text is what its lines print, said one by one (`Talk::say`), part by part, each of them accepted. It computes nothing: its
 /// contract is the law, of every text that is a script and of all that it may print.
@@ -40,6 +45,19 @@ pub fn rest_and_end_are_done()
     ensures read { (input : List ℕ) (script : Size × ℕ × List Opening × List Step) → script_of input ≡ Ok script → IsSize script.0 × AreIn script.0 script.3 }
     ensures talk { (before words : List (List ℕ)) (command : Command) (n : ℕ) (s t : Standing) → Hears Silent before s → command_of s words ≡ Ok (Some command)
         → Stops s command (NotDone n) t → IsNoRest command }
+{}
+
+/// A turn that waits names a node that it waits for. Behind commands that are run one after another over a desk just opened, where a
+/// turn of a node's call waits, `WholeDesk::waits_for` names a node on the line on which it looked (`Passed::line`). So a `done` that is
+/// refused 18 has the reason that its node waits for another (`WholeDesk::why`), unless each of its 100,000 turns made an exchange. It
+/// computes nothing: its contract is the law.
+pub fn waits_name_a_node()
+    ensures turn { (size : Size) (capacity : ℕ) (openings : List Opening) (steps : List Step) (k : ℕ) (text : List ℕ) (s mid t : Shared) (node : ℕ) (before after : Passed) (whom : Option ℕ) → AreIn size steps
+        → Opens size capacity openings s → PrintsAll shared_is_open shared_does no_words s (take k steps) text mid → node < size.nodes → shared_does mid (Turned node Waiting) t
+        → shared_passes mid node t before after → IsAwaited t after.line node whom → (y : ℕ) × (whom ≡ Some y) }
+    ensures done { (size : Size) (capacity : ℕ) (openings : List Opening) (steps : List Step) (step : Step) (k n : ℕ) (text : List ℕ) (s mid t : Shared) (why : Option Reason) → AreIn size steps
+        → Opens size capacity openings s → PrintsAll shared_is_open shared_does no_words s (take k steps) text mid → slice_get steps k ≡ Some step
+        → StopsAt shared_is_open shared_does size.nodes mid step (NotDone n) t → IsWhy t step.command why → IsUndoneOf step.command mid t why }
 {}
 
 /// Why a command was refused, by the desk as it stands behind that (`WholeDesk::why`), is a reason of just this refusal. Each refusal

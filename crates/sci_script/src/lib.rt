@@ -28,7 +28,7 @@ mod writing;
 pub use banks::{BankDesk, NoDesk};
 pub use commands::{Command, Opening, Script, Size, Step};
 pub use desk::{Desk, Toward};
-pub use laws::{refusals_have_reasons, rest_and_end_are_done, script_is_said};
+pub use laws::{refusals_have_reasons, rest_and_end_are_done, script_is_said, waits_name_a_node};
 pub use line_words::is_skipped;
 pub use reader::{line_end, read_script, without_return};
 pub use reasons::Reason;

@@ -4,7 +4,7 @@ ghost use Rattle.std.specs.Prelude.{◌≡◌, ◌<◌, ◌≤◌, ◌^◌, true
 ghost use Rattle.std.specs.Char.{is_ascii_digit};
 ghost use Rattle.std.specs.List.{list_all};
 ghost use Rattle.std.specs.Str.Parse.{digits_value};
-ghost use Rattle.sci_script.specs.Words.{number_of};
+ghost use Rattle.sci_script.specs.Words.{is_long, number_of};
 ghost use Rattle.sci_script.specs.Format.{Gives, number_at};
 
 use crate::refusals::ScriptRefusal;
@@ -13,6 +13,13 @@ fn is_digits(word: &[u8]) -> bool
     ensures { result ≡ list_all is_ascii_digit word.now }
 {
     word.iter().all(|b| b.is_ascii_digit())
+}
+
+/// Digits alone, and more than a number may have.
+pub fn is_long(word: &[u8]) -> bool
+    ensures { result ≡ is_long word.now }
+{
+    is_digits(word) && word.len() > 20
 }
 
 fn value(word: &[u8]) -> u128

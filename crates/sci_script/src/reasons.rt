@@ -27,6 +27,9 @@ pub enum Reason {
     /// Of refusal 17: the word with this number, counted from 1, is no number from `low` to `high`.
     #[error("word {word}: a number from {low} to {high} wanted")]
     Number { word: usize, low: u64, high: u64 },
+    /// Of refusal 17: the word with this number, counted from 1, has more than 20 digits.
+    #[error("word {0}: at most 20 digits wanted")]
+    Digits(usize),
     /// Of refusal 16: the node's last call is open.
     #[error("node {} has a call open", .0.get())]
     CallOpen(NodeId),
@@ -36,9 +39,6 @@ pub enum Reason {
     /// Of refusal 18: the first node waits for the second, which has to go on first.
     #[error("node {} waits for node {}", .0.get(), .1.get())]
     WaitsFor(NodeId, NodeId),
-    /// Of refusal 18: the node is Idle, and its next turn waits, too, for no node that the words name.
-    #[error("node {} is Idle, and waits", .0.get())]
-    Held(NodeId),
     /// Of refusal 18: the node's call hasn't ended.
     #[error("node {} has not ended its call", .0.get())]
     Unended(NodeId),

@@ -4,7 +4,7 @@ ghost use Rattle.sci_core.specs.declared.pending.Pending.TheVariants.{Idle};
 ghost use Rattle.sci_core.specs.Found.{names};
 ghost use Rattle.sci_core.specs.Stage.{stage_of};
 ghost use Rattle.sci_core.specs.Whole.{nodes_of, state_of};
-ghost use Rattle.sci_script.specs.Waiting.{goal_on, is_kept_out, keeps_waiting, IsAwaited, IsAwaitedOn};
+ghost use Rattle.sci_script.specs.Waiting.{goal_at_work, goal_on, is_kept_out, keeps_waiting, IsAwaited, IsAwaitedOn};
 ghost use Rattle.sci_script.specs.Wholes.{shared_of};
 
 use crate::wholes::WholeDesk;
@@ -113,6 +113,24 @@ fn goal_on(line: LineNo, call: Option<OpenCall>) -> Option<Goal>
 }
 
 impl WholeDesk {
+    /// The goal of the operation at work of the node's open call: its victim's eviction first.
+    #[inline(always)]
+    pub fn goal_at_work(&self, node: NodeId) -> Option<Goal>
+        requires { node < self.now.size.nodes }
+        ensures { result ≡ goal_at_work ((shared_of self.now).nodes node).call }
+    {
+        match self.open_call(node) {
+            Some(
+                OpenCall {
+                    victim: Some(_),
+                    ..
+                },
+            ) => Some(Goal::Evict),
+            Some(call) => Some(call.op.goal()),
+            None => None,
+        }
+    }
+
     /// Whom the node's open call waits for on the line, as `waits_for` says it; nobody where it isn't at work there.
     pub fn waits_for(&self, line: LineNo, node: NodeId) -> Option<NodeId>
         requires line { line < self.now.size.lines }

@@ -22,7 +22,6 @@ use crate::reasons::Reason;
 use crate::refusals::ScriptRefusal;
 use crate::talk::{Front, Going, HERE, Said, Stage as TalkStage, Talk, saying};
 use crate::wholes::WholeDesk;
-use sci_core::Stage;
 use sci_words::{LineNo, NodeId};
 use std::alloc::{AllocError, Global};
 use std::io;
@@ -32,14 +31,11 @@ impl WholeDesk {
     fn why_waiting(&self, line: LineNo, node: NodeId) -> Reason
         requires line { line < self.now.size.lines }
         requires node { node < self.now.size.nodes }
-        ensures { (whom : Option ℕ) × IsAwaited (shared_of self.now) line node whom × (result ≡ wait_reason (shared_of self.now) node line whom) }
+        ensures { (whom : Option ℕ) × IsAwaited (shared_of self.now) line node whom × (result ≡ wait_reason node whom) }
     {
         match self.waits_for(line, node) {
             Some(whom) => Reason::WaitsFor(node, whom),
-            None => match self.bank.whole(line).stage(node) {
-                Stage::Idle => Reason::Held(node),
-                _ => Reason::Unended(node),
-            },
+            None => Reason::Unended(node),
         }
     }
 

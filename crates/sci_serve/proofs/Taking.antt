@@ -32,7 +32,7 @@ use Rattle.sci_script.specs.declared.watching.Passed.{Passed}
 use Rattle.sci_script.specs.Passed.{Passes, passed_by, ending_of}
 use Rattle.sci_script.specs.Turns.{Made}
 use Rattle.sci_port.specs.declared.calls.Call.TheVariants.{Own, MemWas, TagWas, Stepped}
-use Rattle.sci_races.proofs.Once.{answers_once}
+use Rattle.sci_script.proofs.Once.{answers_once}
 use Rattle.sci_follow.specs.declared.entries.Claim.{Claim}
 use Rattle.sci_follow.specs.declared.entries.Deviation.{Deviation}
 use Rattle.sci_follow.specs.declared.told.Asks.{Asks}

@@ -25,7 +25,7 @@ use Rattle.sci_ops.specs.Change.{StoresFitting}
 use Rattle.sci_ops.specs.Operation.{Operation}
 use Rattle.sci_ops.specs.Table.{turn_of}
 use Rattle.sci_port.specs.declared.calls.Call.TheVariants.{Own}
-use Rattle.sci_races.proofs.Once.{done_makes}
+use Rattle.sci_script.proofs.Once.{done_makes}
 use Rattle.sci_script.specs.declared.watching.Ending.{Ending}
 use Rattle.sci_script.specs.declared.watching.Load.{Load}
 use Rattle.sci_script.specs.declared.watching.Passed.{Passed}

@@ -60,36 +60,36 @@ fn talk(rt: &HostRuntime, why: bool) -> Result<(), SimFault> {
     }
 }
 
-/// The status of a search, which says on standard error where there are too many states.
-fn searched(rt: &HostRuntime, served: Result<(), RaceFault>) -> Result<ExitCode, SimFault> {
+/// The status of a search of so many states at most, which says on standard error where there are more, and in words where that is wanted.
+fn searched(
+    rt: &HostRuntime,
+    served: Result<(), RaceFault>,
+    most: usize,
+    why: bool,
+) -> Result<ExitCode, SimFault> {
     match served {
         Ok(()) => Ok(ExitCode::SUCCESS),
         Err(RaceFault::Fault(fault)) => Err(fault),
         Err(many @ RaceFault::TooManyStates) => {
             let _ = eprintln!(rt; "scisim: {many}");
+            if why {
+                let _ = eprintln!(rt; "turns lead to more than {most} states");
+            }
             Ok(ExitCode::from(1))
         }
     }
 }
 
 /// Lists the outcomes of the calls that a script leaves open.
-fn outcomes<R: Read>(rt: &HostRuntime, most: u32, reader: &mut R) -> Result<ExitCode, SimFault> {
+fn outcomes<R: Read>(rt: &HostRuntime, most: usize, reader: &mut R) -> Result<(), RaceFault> {
     let visits = Visits::new(rt, "outcomes");
-    let most = most as usize;
-    searched(
-        rt,
-        serve_outcomes(rt.alloc(), &visits, most, reader, &mut io::writer(rt)),
-    )
+    serve_outcomes(rt.alloc(), &visits, most, reader, &mut io::writer(rt))
 }
 
 /// Writes a page of their states.
-fn play<R: Read>(rt: &HostRuntime, most: u32, reader: &mut R) -> Result<ExitCode, SimFault> {
+fn play<R: Read>(rt: &HostRuntime, most: usize, reader: &mut R) -> Result<(), RaceFault> {
     let visits = Visits::new(rt, "play");
-    let most = most as usize;
-    searched(
-        rt,
-        serve_play(rt.alloc(), &visits, most, reader, &mut io::writer(rt)),
-    )
+    serve_play(rt.alloc(), &visits, most, reader, &mut io::writer(rt))
 }
 
 /// What a command of this name, that searches all states, comes to.
@@ -99,12 +99,14 @@ fn race<R: Read>(
     options: &ArgMatches<'_>,
     reader: &mut R,
 ) -> Result<ExitCode, SimFault> {
-    let most = options.get_one("most").unwrap_or(0);
-    if name == "play" {
+    let most: u32 = options.get_one("most").unwrap_or(0);
+    let most = most as usize;
+    let served = if name == "play" {
         play(rt, most, reader)
     } else {
         outcomes(rt, most, reader)
-    }
+    };
+    searched(rt, served, most, options.get_flag("why"))
 }
 
 /// Whether a command of this name searches all states.

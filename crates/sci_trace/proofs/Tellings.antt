@@ -6,7 +6,7 @@ use Rattle.sci_words.specs.declared.tags.Tag.{Tag}
 use Rattle.sci_core.specs.declared.stages.Stage.{Stage}
 use Rattle.sci_core.specs.Stage.{stage_of}
 use Rattle.sci_ops.specs.declared.answers.Turn.{Turn}
-use Rattle.sci_cache.specs.declared.requests.Request.{Request}
+use Rattle.sci_ops.specs.declared.goals.Goal.{Goal}
 use Rattle.sci_script.specs.declared.commands.Step.{Step}
 use Rattle.sci_script.specs.declared.commands.Command.{Command}
 use Rattle.sci_script.specs.declared.refusals.ScriptRefusal.{ScriptRefusal}
@@ -16,6 +16,7 @@ use Rattle.sci_script.specs.Event.{Event, Began, Turned, Rested, SawMem, SawTag,
 use Rattle.sci_script.specs.Request.{words_after}
 use Rattle.sci_script.specs.Run.{Repeats, Prints, StopsAt}
 use Rattle.sci_script.specs.Shared.{Shared, shared_does}
+use Rattle.sci_script.specs.Waiting.{goal_at_work}
 use Rattle.sci_script.proofs.Runs.{repeats_none, repeats_more, words_behind}
 use Rattle.sci_trace.specs.Lists.{walked}
 use Rattle.sci_trace.specs.Notes.{Told, line_of_turn}
@@ -33,27 +34,28 @@ told_does s (SawTag line node tag) t h = h.0
 told_does s (SawResidents node lines) t h = h.0
 
 -- a line that was added tells of this
-pub told_line : (node : ℕ) (asked : Option Request) (passed : Passed) (stage : Stage) (wait : Option Wait) (mem : Mem) (entries : List (ℕ × Tag)) (before after : List ℕ) (cut still : Bool) (W : Option Wait → Type 0) (step : Stage) (word : Mem) (tags : ℕ → Tag) (width : ℕ)
+pub told_line : (node : ℕ) (goal : Option Goal) (passed : Passed) (stage : Stage) (wait : Option Wait) (mem : Mem) (entries : List (ℕ × Tag)) (before after : List ℕ) (cut still : Bool) (W : Option Wait → Type 0) (step : Stage) (word : Mem) (tags : ℕ → Tag) (width : ℕ)
     → W wait → stage ≡ step → mem ≡ word → entries ≡ walked tags width mem.forw
-    → (still ≡ true) ⊎ ((still ≡ cut) × (after ≡ before ++ note_line node asked passed stage wait mem entries))
-    → (still ≡ true) ⊎ ((still ≡ cut) × (told : Told) × (told.node ≡ node) × (told.passed ≡ passed) × W told.wait × (told.stage ≡ step) × (told.mem ≡ word) × (told.entries ≡ walked tags width told.mem.forw) × (after ≡ before ++ line_of_turn told))
-told_line node asked passed stage wait mem entries before after cut still W step word tags width waits stands is along (inl h) = inl h
-told_line node asked passed stage wait mem entries before after cut still W step word tags width waits stands is along (inr (kept, added)) =
-    let told : Told = record { node = node; asked = asked; passed = passed; wait = wait; stage = stage; mem = mem; entries = entries } in
-    inr (kept, told, refl, refl, waits, stands, is, along, added)
+    → (still ≡ true) ⊎ ((still ≡ cut) × (after ≡ before ++ note_line node goal passed stage wait mem entries))
+    → (still ≡ true) ⊎ ((still ≡ cut) × (told : Told) × (told.node ≡ node) × (told.goal ≡ goal) × (told.passed ≡ passed) × W told.wait × (told.stage ≡ step) × (told.mem ≡ word) × (told.entries ≡ walked tags width told.mem.forw) × (after ≡ before ++ line_of_turn told))
+told_line node goal passed stage wait mem entries before after cut still W step word tags width waits stands is along (inl h) = inl h
+told_line node goal passed stage wait mem entries before after cut still W step word tags width waits stands is along (inr (kept, added)) =
+    let told : Told = record { node = node; goal = goal; passed = passed; wait = wait; stage = stage; mem = mem; entries = entries } in
+    inr (kept, told, refl, refl, refl, waits, stands, is, along, added)
 
 -- a turn's line is added: the desk stands as the turn left it, and the line tells what passed
-pub adds_told : (P : Shared → Passed → Type 0) (s mid t : Shared) (node : ℕ) (turn : Turn) (times : ℕ) (q : Passed) (before after : List ℕ) (cut still : Bool) → t ≡ mid → P mid q
-    → (still ≡ true) ⊎ ((still ≡ cut) × (told : Told) × (told.node ≡ node) × (told.passed ≡ q) × IsWait turn mid q.line node times told.wait × (told.stage ≡ stage_of ((mid.lines q.line).steps node)) × (told.mem ≡ (mid.lines q.line).memory) × (told.entries ≡ walked (mid.lines q.line).tags mid.width told.mem.forw) × (after ≡ before ++ line_of_turn told))
+pub adds_told : (P : Shared → Passed → Type 0) (s mid t : Shared) (node : ℕ) (goal : Option Goal) (turn : Turn) (times : ℕ) (q : Passed) (before after : List ℕ) (cut still : Bool) → t ≡ mid → P mid q → goal ≡ goal_at_work (s.nodes node).call
+    → (still ≡ true) ⊎ ((still ≡ cut) × (told : Told) × (told.node ≡ node) × (told.goal ≡ goal) × (told.passed ≡ q) × IsWait turn mid q.line node times told.wait × (told.stage ≡ stage_of ((mid.lines q.line).steps node)) × (told.mem ≡ (mid.lines q.line).memory) × (told.entries ≡ walked (mid.lines q.line).tags mid.width told.mem.forw) × (after ≡ before ++ line_of_turn told))
     → AddsTold (P t) (record { shared = s; notes = before; is_cut = cut }) node turn times (record { shared = t; notes = after; is_cut = still })
-adds_told P s mid t node turn times q before after cut still same passes (inl h) = inl h
-adds_told P s mid t node turn times q before after cut still same passes (inr (kept, told, of, passed, waits, step, mem, along, added)) =
+adds_told P s mid t node goal turn times q before after cut still same passes works (inl h) = inl h
+adds_told P s mid t node goal turn times q before after cut still same passes works (inr (kept, told, of, aims, passed, waits, step, mem, along, added)) =
     subst (λ (x : Shared). AddsTold (P x) (record { shared = s; notes = before; is_cut = cut }) node turn times (record { shared = x; notes = after; is_cut = still })) (sym same)
     (inr (
       kept,
       told,
       (
         of,
+        aims ∙ works,
         subst (λ (p : Passed). P mid p) (sym passed) passes,
         subst (λ (p : Passed). IsWait turn mid p.line node times told.wait) (sym passed) waits,
         subst (λ (p : Passed). told.stage ≡ stage_of ((mid.lines p.line).steps node)) (sym passed) step,

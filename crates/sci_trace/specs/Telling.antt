@@ -11,7 +11,7 @@ use Rattle.sci_script.specs.Passed.{passes_to_rest, shared_passes}
 use Rattle.sci_script.specs.Request.{words_after}
 use Rattle.sci_script.specs.Run.{Prints, Repeats}
 use Rattle.sci_script.specs.Shared.{Shared, shared_is_open, shared_does}
-use Rattle.sci_script.specs.Waiting.{IsAwaited}
+use Rattle.sci_script.specs.Waiting.{goal_at_work, IsAwaited}
 use Rattle.sci_script.specs.Wholes.{shared_of}
 use Rattle.sci_trace.specs.Lists.{walked}
 use Rattle.sci_trace.specs.NoteText.{note_bytes}
@@ -44,16 +44,16 @@ abbrev pub is_wait : Turn → Bool
 is_wait Turn.Waiting = true
 is_wait _ = false
 
--- this is told of a turn of the node that left the lines and nodes so: whose it was, what passed in it, its wait, and the node's
+-- this is told of a turn of the node from s to t: whose it was, the operation that was at work, what passed, its wait, and the node's
 -- pending step, memory's word and the list's entries after it
-abbrev pub IsTold : (Passed → Type 0) → ℕ → Turn → ℕ → Shared → Told → Type 0
-IsTold passes node turn times t told = (told.node ≡ node) × passes told.passed × IsWait turn t told.passed.line node times told.wait
+abbrev pub IsTold : (Passed → Type 0) → Shared → ℕ → Turn → ℕ → Shared → Told → Type 0
+IsTold passes s node turn times t told = (told.node ≡ node) × (told.goal ≡ goal_at_work (s.nodes node).call) × passes told.passed × IsWait turn t told.passed.line node times told.wait
     × (told.stage ≡ stage_of ((t.lines told.passed.line).steps node)) × (told.mem ≡ (t.lines told.passed.line).memory)
     × (told.entries ≡ walked (t.lines told.passed.line).tags t.width told.mem.forw)
 
 -- the turn's line is added, unless memory is refused for it
 abbrev pub AddsTold : (Passed → Type 0) → Telling → ℕ → Turn → ℕ → Telling → Type 0
-AddsTold passes s node turn times t = (t.is_cut ≡ true) ⊎ ((t.is_cut ≡ s.is_cut) × (told : Told) × IsTold passes node turn times t.shared told × (t.notes ≡ s.notes ++ line_of_turn told))
+AddsTold passes s node turn times t = (t.is_cut ≡ true) ⊎ ((t.is_cut ≡ s.is_cut) × (told : Told) × IsTold passes s.shared node turn times t.shared told × (t.notes ≡ s.notes ++ line_of_turn told))
 
 -- that of a turn of the node's call
 abbrev pub AddsLine : Telling → ℕ → Turn → ℕ → Telling → Type 0

@@ -4,8 +4,8 @@ use Rattle.std.specs.Fmt.{decimal}
 use Rattle.sci_words.specs.declared.memory.Mem.{Mem}
 use Rattle.sci_words.specs.declared.tags.Tag.{Tag}
 use Rattle.sci_core.specs.declared.stages.Stage.{Stage}
-use Rattle.sci_cache.specs.declared.requests.Request.{Request}
-use Rattle.sci_cache.specs.Requests.{line_of}
+use Rattle.sci_ops.specs.declared.goals.Goal.{Goal}
+use Rattle.sci_ops.specs.declared.goals.Write.{Write}
 use Rattle.sci_script.specs.declared.watching.Load.{Load}
 use Rattle.sci_script.specs.declared.watching.Passed.{Passed}
 use Rattle.sci_trace.specs.declared.texts.Wait.{Wait}
@@ -14,18 +14,14 @@ use Rattle.sci_trace.specs.Events.{event_text}
 use Rattle.sci_trace.specs.Steps.{step_text}
 use Rattle.sci_trace.specs.Lists.{list_text}
 
--- an operation that was asked for
-abbrev pub request_name : Request → List ℕ
-request_name (Request.Load line) = codes "load: "
-request_name (Request.Store line word value) = codes "store: "
-request_name (Request.Add line word delta) = codes "add: "
-request_name (Request.WriteLine line words) = codes "write line: "
-request_name (Request.Evict line) = codes "evict: "
-
--- the operation at work on a line: the one that was asked for, or, on another line, the victim's eviction
-abbrev pub operation_name : Option Request → ℕ → List ℕ
-operation_name None line = codes "evict: "
-operation_name (Some request) line = if line_of request == line then request_name request else codes "evict: "
+-- the operation at work, by its goal; a node without a call takes turns towards rest alone
+abbrev pub operation_name : Option Goal → List ℕ
+operation_name (Some Goal.Load) = codes "load: "
+operation_name (Some (Goal.Write (Write.Store word value))) = codes "store: "
+operation_name (Some (Goal.Write (Write.Add word delta))) = codes "add: "
+operation_name (Some (Goal.Write (Write.Line words))) = codes "write line: "
+operation_name (Some Goal.Evict) = codes "evict: "
+operation_name None = codes "rest: "
 
 -- a wait behind a load of the memory word: in Queueing for the lent line, elsewhere for the place of the head
 abbrev pub mem_wait : Stage → Mem → List ℕ
@@ -56,8 +52,8 @@ act_text node passed stage wait = elim passed.step [
 ]
 
 -- `# node N line L OPERATION: `
-abbrev pub place_text : ℕ → Option Request → ℕ → List ℕ
-place_text node asked line = codes "# node " ++ decimal node ++ codes " line " ++ decimal line ++ codes " " ++ operation_name asked line
+abbrev pub place_text : ℕ → Option Goal → ℕ → List ℕ
+place_text node goal line = codes "# node " ++ decimal node ++ codes " line " ++ decimal line ++ codes " " ++ operation_name goal
 
 -- `; for node N`, where the turn waited for a node
 abbrev pub whom_text : Option ℕ → List ℕ
@@ -69,6 +65,6 @@ for_text None = []
 for_text (Some wait) = whom_text wait.whom
 
 -- `# node N line L OPERATION: WHAT; STEP; LIST`, and whom a turn waited for
-abbrev pub note_line : ℕ → Option Request → Passed → Stage → Option Wait → Mem → List (ℕ × Tag) → List ℕ
-note_line node asked passed stage wait mem entries =
-    place_text node asked passed.line ++ act_text node passed stage wait ++ step_text stage ++ list_text mem entries ++ for_text wait ++ codes "\n"
+abbrev pub note_line : ℕ → Option Goal → Passed → Stage → Option Wait → Mem → List (ℕ × Tag) → List ℕ
+note_line node goal passed stage wait mem entries =
+    place_text node goal passed.line ++ act_text node passed stage wait ++ step_text stage ++ list_text mem entries ++ for_text wait ++ codes "\n"

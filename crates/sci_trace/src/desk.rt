@@ -1,6 +1,6 @@
 //! A desk that says of each turn what it did.
 
-ghost use Rattle.std.specs.Prelude.{◌≡◌, ◌<◌, ◌≤◌, ◌⊎◌, ◌++◌, true, IfOk, vec_len};
+ghost use Rattle.std.specs.Prelude.{◌≡◌, ◌<◌, ◌≤◌, ◌⊎◌, ◌++◌, true, IfOk};
 ghost use Rattle.sci_trace.specs.NoteText.{note_bytes};
 ghost use Rattle.sci_core.specs.Stage.{stage_of};
 ghost use Rattle.sci_script.specs.Event.{Turned, IsNoEnd};
@@ -12,20 +12,18 @@ ghost use Rattle.sci_trace.specs.Notes.{Told, line_of_turn};
 use crate::notes::Notes;
 use crate::texts::Wait;
 use sci_cache::Request;
-use sci_ops::Turn;
+use sci_ops::{Goal, Turn};
 use sci_script::{Desk, Passed, Script, Size, Toward, WholeDesk};
 use sci_words::{LineNo, Mem, NodeId, Tag};
 use std::alloc::{AllocError, Global};
 
-/// A desk of whole lines, what each node was asked for last, and the lines of the turns that were taken since they were dropped last.
+/// A desk of whole lines, and the lines of the turns that were taken since they were dropped last.
 #[derive(Drop)]
 pub struct TraceDesk {
     pub(crate) size: Size,
     desk: WholeDesk,
-    asked: Vec<Option<Request>>,
     pub(crate) notes: Notes,
     ghost same: { desk.size ≡ size },
-    ghost each: { vec_len asked ≡ size.nodes },
 }
 
 impl TraceDesk {
@@ -42,12 +40,10 @@ impl TraceDesk {
             nodes: script.nodes(),
             lines: script.lines(),
         };
-        let asked = vec![in alloc; None; usize::from(size.nodes)]?;
         let desk = WholeDesk::open(alloc, script)?;
         Ok(TraceDesk {
             size,
             desk,
-            asked,
             notes: Notes::new(alloc),
         })
     }
@@ -70,11 +66,11 @@ impl TraceDesk {
 
     /// Adds the line of a turn that was just taken. One that waits stands for so many.
     #[inline(always)]
-    fn tell(&mut self, node: NodeId, passed: &Passed, turn: &Turn, times: u32)
+    fn tell(&mut self, node: NodeId, goal: &Option<Goal>, passed: &Passed, turn: &Turn, times: u32)
         requires node { node < self.old.size.nodes }
         requires line { passed.now.line < self.old.size.lines }
         ensures same { shared_of self.new.desk ≡ shared_of self.old.desk }
-        ensures told { (self.new.notes.is_cut ≡ true) ⊎ ((self.new.notes.is_cut ≡ self.old.notes.is_cut) × (told : Told) × (told.node ≡ node) × (told.passed ≡ passed.now) × IsWait turn.now (shared_of self.old.desk) passed.now.line node times told.wait
+        ensures told { (self.new.notes.is_cut ≡ true) ⊎ ((self.new.notes.is_cut ≡ self.old.notes.is_cut) × (told : Told) × (told.node ≡ node) × (told.goal ≡ goal.now) × (told.passed ≡ passed.now) × IsWait turn.now (shared_of self.old.desk) passed.now.line node times told.wait
             × (told.stage ≡ stage_of (((shared_of self.old.desk).lines passed.now.line).steps node)) × (told.mem ≡ ((shared_of self.old.desk).lines passed.now.line).memory)
             × (told.entries ≡ walked ((shared_of self.old.desk).lines passed.now.line).tags (shared_of self.old.desk).width told.mem.forw)
             × (note_bytes self.new.notes.text ≡ note_bytes self.old.notes.text ++ line_of_turn told)) }
@@ -86,11 +82,10 @@ impl TraceDesk {
             unreachable!()
         };
         let stage = self.desk.stage(line, node);
-        let asked = &self.asked[usize::from(node.get())];
         let nodes = self.size.nodes;
         let desk = &mut self.desk;
         self.notes
-            .tell(desk, node, asked, passed, &stage, &wait, mem, nodes);
+            .tell(desk, node, goal, passed, &stage, &wait, mem, nodes);
     }
 
     /// One turn of the node's open call, as `turn`. Where it waits, its line stands for so many turns.
@@ -103,9 +98,10 @@ impl TraceDesk {
         ensures open { IsNoEnd result → telling_is_open (telling_of self.new) node ≡ true }
         ensures size { self.new.size ≡ self.old.size }
     {
+        let goal = self.desk.goal_at_work(node);
         let mut passed = Passed::NOTHING;
         let turn = self.desk.watched_turn(node, &mut passed);
-        self.tell(node, &passed, &turn, times);
+        self.tell(node, &goal, &passed, &turn, times);
         turn
     }
 }
@@ -127,9 +123,7 @@ impl Desk for TraceDesk {
     }
 
     fn begin(&mut self, node: NodeId, request: Request) -> Result<(), AllocError> {
-        self.desk.begin(node, request)?;
-        self.asked[usize::from(node.get())] = Some(request);
-        Ok(())
+        self.desk.begin(node, request)
     }
 
     fn turn(&mut self, node: NodeId) -> Turn {
@@ -147,7 +141,9 @@ impl Desk for TraceDesk {
         let Toward::Turned(node) = toward else {
             return toward;
         };
-        self.tell(node, &passed, &Turn::Moved, 1);
+        // no call ends or begins in a turn towards rest
+        let goal = self.desk.goal_at_work(node);
+        self.tell(node, &goal, &passed, &Turn::Moved, 1);
         toward
     }
 

@@ -9,8 +9,8 @@ ghost use Rattle.sci_trace.specs.Texts.{note_line};
 
 use crate::note_text::NoteText;
 use crate::texts::{Wait, push_note};
-use sci_cache::Request;
 use sci_core::Stage;
+use sci_ops::Goal;
 use sci_script::{Passed, WholeDesk};
 use sci_words::{Mem, NodeId};
 use std::alloc::Global;
@@ -70,7 +70,7 @@ impl Notes {
         &mut self,
         desk: &mut WholeDesk,
         node: NodeId,
-        asked: &Option<Request>,
+        goal: &Option<Goal>,
         passed: &Passed,
         stage: &Stage,
         wait: &Option<Wait>,
@@ -81,12 +81,12 @@ impl Notes {
         requires head { IfSome mem.forw (λ n. n < desk.old.size.nodes) }
         requires nodes { nodes ≡ desk.old.size.nodes }
         ensures told { (self.new.is_cut ≡ true) ⊎ ((self.new.is_cut ≡ self.old.is_cut) × (note_bytes self.new.text ≡ note_bytes self.old.text
-            ++ note_line node asked.now passed.now stage.now wait.now mem (walked ((shared_of desk.old).lines passed.now.line).tags nodes mem.forw))) }
+            ++ note_line node goal.now passed.now stage.now wait.now mem (walked ((shared_of desk.old).lines passed.now.line).tags nodes mem.forw))) }
         ensures same { shared_of desk.new ≡ shared_of desk.old }
         ensures size { desk.new.size ≡ desk.old.size }
     {
         let text = &mut self.text;
-        match push_note(text, desk, node, asked, passed, stage, wait, mem, nodes) {
+        match push_note(text, desk, node, goal, passed, stage, wait, mem, nodes) {
             Ok(()) => {}
             Err(_) => {
                 // the front of a line is no line

@@ -1,6 +1,6 @@
 //! Runs a script with a line for each turn.
 
-ghost use Rattle.std.specs.Prelude.{◌≡◌, ◌<◌, ◌≤◌, ◌++◌, ℕ, List, [], false, All, OnOk, IfErr, string_bytes};
+ghost use Rattle.std.specs.Prelude.{◌≡◌, ◌<◌, ◌≤◌, ◌++◌, ℕ, List, [], length, false, All, OnOk, IfErr, string_bytes};
 ghost use Rattle.std.specs.Io.KnownBytes.{Appends};
 ghost use Rattle.sci_core.specs.declared.whole.TheConstants.{MOST_NODES};
 ghost use Rattle.sci_script.specs.declared.commands.Command.TheVariants.{Done};
@@ -69,6 +69,7 @@ fn put_long_notes<W: Write>(
     ensures err { IfErr result (λ e. (written : List ℕ) × NotesLeft coding e (note_bytes desk.old.notes.text) written
         × Appends (W.contents out.old) (W.contents out.new) written) }
     ensures cut { OnOk result (desk.new.notes.is_cut ≡ desk.old.notes.is_cut) }
+    ensures few { OnOk result (length desk.new.notes.text.front.items ≤ 65536) }
     ensures desk { desk.new.desk ≡ desk.old.desk }
     ensures size { desk.new.size ≡ desk.old.size }
 {

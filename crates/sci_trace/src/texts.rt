@@ -5,7 +5,7 @@ ghost use Rattle.sci_trace.specs.NoteText.{note_bytes};
 ghost use Rattle.sci_trace.specs.Short.{short_bytes};
 ghost use Rattle.sci_script.specs.Wholes.{shared_of};
 ghost use Rattle.sci_trace.specs.Lists.{walked};
-ghost use Rattle.sci_trace.specs.Texts.{request_name, operation_name, mem_wait, wait_text, times_text, look_text, act_text, place_text, for_text, note_line};
+ghost use Rattle.sci_trace.specs.Texts.{operation_name, mem_wait, wait_text, times_text, look_text, act_text, place_text, for_text, note_line};
 
 use crate::events::push_event;
 use crate::lists::push_list;
@@ -14,8 +14,8 @@ use crate::numbers::{push_between, push_named};
 use crate::short::Short;
 use crate::steps::push_step;
 use crate::words::{push_link, push_node, push_tag};
-use sci_cache::Request;
 use sci_core::Stage;
+use sci_ops::{Goal, Write};
 use sci_script::{Load, Passed, WholeDesk};
 use sci_words::{LineNo, Mem, NodeId, Tag};
 use std::alloc::AllocError;
@@ -29,26 +29,17 @@ pub struct Wait {
     pub whom: Option<NodeId>,
 }
 
-/// An operation that was asked for.
-fn request_name(request: &Request) -> Short
-    ensures { short_bytes result ≡ request_name request.now }
+/// The operation at work, by its goal. A node without a call takes turns towards rest alone.
+fn operation_name(goal: &Option<Goal>) -> Short
+    ensures { short_bytes result ≡ operation_name goal.now }
 {
-    match request {
-        Request::Load { .. } => Short::new(b"load:           ", 6),
-        Request::Store { .. } => Short::new(b"store:          ", 7),
-        Request::Add { .. } => Short::new(b"add:            ", 5),
-        Request::WriteLine { .. } => Short::new(b"write line:     ", 12),
-        Request::Evict { .. } => Short::new(b"evict:          ", 7),
-    }
-}
-
-/// The operation at work on a line: the one that was asked for, or, on another line, the victim's eviction.
-fn operation_name(asked: &Option<Request>, line: LineNo) -> Short
-    ensures { short_bytes result ≡ operation_name asked.now line }
-{
-    match asked {
-        Some(request) if request.line() == line => request_name(request),
-        _ => Short::new(b"evict:          ", 7),
+    match goal {
+        Some(Goal::Load) => Short::new(b"load:           ", 6),
+        Some(Goal::Write(Write::Store { .. })) => Short::new(b"store:          ", 7),
+        Some(Goal::Write(Write::Add { .. })) => Short::new(b"add:            ", 5),
+        Some(Goal::Write(Write::Line(_))) => Short::new(b"write line:     ", 12),
+        Some(Goal::Evict) => Short::new(b"evict:          ", 7),
+        None => Short::new(b"rest:           ", 6),
     }
 }
 
@@ -143,16 +134,16 @@ pub fn push_act(
 fn push_place(
     text: &mut NoteText,
     node: NodeId,
-    asked: &Option<Request>,
+    goal: &Option<Goal>,
     line: LineNo,
 ) -> Result<(), AllocError>
-    ensures { OnOk result (note_bytes text.new ≡ note_bytes text.old ++ place_text node asked.now line) }
+    ensures { OnOk result (note_bytes text.new ≡ note_bytes text.old ++ place_text node goal.now line) }
 {
     push_node(text, b"# node ", node, b" line ")?;
-    push_named(text, b"", u64::from(line), operation_name(asked, line))
+    push_named(text, b"", u64::from(line), operation_name(goal))
 }
 
-/// One turn of a node, which was asked for this: `# node N line L OPERATION: WHAT; STEP; LIST` and a line feed. WHAT is the event
+/// One turn of a node towards this goal: `# node N line L OPERATION: WHAT; STEP; LIST` and a line feed. WHAT is the event
 /// and how its exchange ended, `waits: ` and what it waits for, or `only looked`; STEP is the pending step after the turn; LIST is this
 /// memory word and the entries as they stand, with what is lent and held. A turn that waits for a node ends in `; for node N`.
 #[inline(always)]
@@ -160,7 +151,7 @@ pub(crate) fn push_note(
     text: &mut NoteText,
     desk: &mut WholeDesk,
     node: NodeId,
-    asked: &Option<Request>,
+    goal: &Option<Goal>,
     passed: &Passed,
     stage: &Stage,
     wait: &Option<Wait>,
@@ -170,12 +161,12 @@ pub(crate) fn push_note(
     requires line { passed.now.line < desk.old.size.lines }
     requires head { IfSome mem.forw (λ n. n < desk.old.size.nodes) }
     requires nodes { nodes ≡ desk.old.size.nodes }
-    ensures pushed { OnOk result (note_bytes text.new ≡ note_bytes text.old ++ note_line node asked.now passed.now stage.now wait.now mem (walked ((shared_of desk.old).lines passed.now.line).tags nodes mem.forw)) }
+    ensures pushed { OnOk result (note_bytes text.new ≡ note_bytes text.old ++ note_line node goal.now passed.now stage.now wait.now mem (walked ((shared_of desk.old).lines passed.now.line).tags nodes mem.forw)) }
     ensures same { shared_of desk.new ≡ shared_of desk.old }
     ensures size { desk.new.size ≡ desk.old.size }
 {
     let line = passed.line;
-    push_place(text, node, asked, line)?;
+    push_place(text, node, goal, line)?;
     push_act(text, node, passed, stage, wait)?;
     push_step(text, stage)?;
     push_list(text, desk, line, mem, nodes)?;

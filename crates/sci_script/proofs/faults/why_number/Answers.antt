@@ -6,7 +6,7 @@ use Rattle.sci_script.proofs.faults.why_number.Goals as goal
 pub returns-then-not-is_within : goal.returns-then-not-is_within
 returns-then-not-is_within c =
     let seen = rw (c.range-range.ensures, c.number.ensures) at c.is_within.ensures in
-    rw c.range-range.ensures
+    rw (c.range_reason.ensures, c.range-range.ensures)
     (number_fault (λ w. w.now) c.args.args.now c.args.wanted.now c.args.size c.loop-i.i _ _ (number_reason 2 c.args.size c.args.wanted.now (map (λ w. w.now) c.args.args.now)) (omega arith) (omega arith)
     (sym seen ∙ c.if-not-is_within.true) c.loop-i.invariant)
 

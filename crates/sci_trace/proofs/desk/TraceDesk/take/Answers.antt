@@ -17,8 +17,8 @@ pub returns-clause-told : goal.returns-clause-told
 returns-clause-told c =
     let before = c.args.self.now.notes in
     let after = c.tell.new.self.notes in
-    adds_told (λ x p. shared_passes (shared_of c.args.self.now.desk) c.args.node x nothing p) (shared_of c.args.self.now.desk) (shared_of c.watched_turn-turn.new.self) (shared_of c.tell.new.self.desk) c.args.node c.watched_turn-turn.result c.args.times c.watched_turn-turn.new.passed (note_bytes before.text) (note_bytes after.text) before.is_cut after.is_cut
-    c.tell.ensures.same c.watched_turn-turn.ensures.passed c.tell.ensures.told
+    adds_told (λ x p. shared_passes (shared_of c.args.self.now.desk) c.args.node x nothing p) (shared_of c.args.self.now.desk) (shared_of c.watched_turn-turn.new.self) (shared_of c.tell.new.self.desk) c.args.node c.goal_at_work-goal.result c.watched_turn-turn.result c.args.times c.watched_turn-turn.new.passed (note_bytes before.text) (note_bytes after.text) before.is_cut after.is_cut
+    c.tell.ensures.same c.watched_turn-turn.ensures.passed c.goal_at_work-goal.ensures c.tell.ensures.told
 
 pub returns-clause-open : goal.returns-clause-open
 returns-clause-open c = λ no_end. subst (λ (s : Shared). shared_is_open s c.args.node ≡ true) (sym c.tell.ensures.same) (c.watched_turn-turn.ensures.open no_end)

@@ -19,5 +19,5 @@ returns-clause-told c =
     let along =
     ap (λ (x : Shared). walked (x.lines line).tags c.args.self.now.size.nodes mem.forw) (c.stage-stage.ensures.same ∙ c.in-Some.ensures.saw.1)
     ∙ ap (λ (z : Size). walked (old.lines line).tags z.nodes mem.forw) (sym c.args.self.now.same) in
-    told_line c.args.node _ c.args.passed.now c.stage-stage.result c.wait_of-wait.result c.in-Some.mem _ _ _ _ _ (λ (wait : Option Wait). IsWait c.args.turn.now old line c.args.node c.args.times wait) _ _ (old.lines line).tags old.width
+    told_line c.args.node c.args.goal.now c.args.passed.now c.stage-stage.result c.wait_of-wait.result c.in-Some.mem _ _ _ _ _ (λ (wait : Option Wait). IsWait c.args.turn.now old line c.args.node c.args.times wait) _ _ (old.lines line).tags old.width
     c.wait_of-wait.ensures stands (same_Some c.in-Some.mem _ c.in-Some.ensures.saw.0) along c.tell.ensures.told

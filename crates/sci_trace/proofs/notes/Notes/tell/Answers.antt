@@ -14,7 +14,7 @@ invariant_of-self c =
           (notes_more (note_bytes c.args.self.now.text)
           (record {
             node = c.args.node;
-            asked = c.args.asked.now;
+            goal = c.args.goal.now;
             passed = c.args.passed.now;
             wait = c.args.wait.now;
             stage = c.args.stage.now;
