@@ -1,4 +1,4 @@
-use Rattle.std.proofs.Common.{[], ◌∷◌, ◌≡◌, ◌≤◌, refl, sym, ap, ◌++◌, ◌∙◌, append-nil, length, List, ℕ, arith}
+use Rattle.std.proofs.Common.{[], ◌∷◌, ◌≡◌, ◌≤◌, refl, sym, ap, subst, ◌++◌, ◌∙◌, append-nil, length, List, ℕ, arith}
 use Rattle.sci_trace.specs.NoteText.{note_bytes}
 use Rattle.sci_trace.proofs.Coded.{coded_nil, both_then}
 use Rattle.sci_trace.proofs.Weaving.{notes_none}
@@ -23,4 +23,4 @@ returns-then-front-gt-LONG g c =
     }
 
 pub returns : goal.returns
-returns g c = record { ok = ([], notes_none, refl, coded_nil c.args.coding _); err = tt; few = (let at = c.front.ensures in omega (arith, at, c.if-front-gt-LONG.false)); cut = refl; desk = refl; size = refl }
+returns g c = record { ok = ([], notes_none, refl, coded_nil c.args.coding _); err = tt; few = subst (λ (front : List ℕ). length front ≤ 65536) c.front.ensures (omega (arith, c.if-front-gt-LONG.false)); cut = refl; desk = refl; size = refl }
