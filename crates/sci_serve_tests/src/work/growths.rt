@@ -150,8 +150,8 @@ fn works<R: Abort + Wait>(rt: &R, alloc: Global) -> Result<(), Fail> {
     consumes(rt, alloc, &mut reader, &mut bank, &items)
 }
 
-/// Growths: 9 of count, 1 thread of count, 14 of count, 17 of stencil, 1 thread of stencil, 22 of stencil,
-/// 50 of ring or its threads, 8 of open, 2 of new, 5 of produce, 2 of new, 7 of consume.
+/// Growths: 9 of count, 1 thread of count, 15 of count, 17 of stencil, 1 thread of stencil, 24 of stencil,
+/// 54 of ring or its threads, 8 of open, 2 of new, 6 of produce, 2 of new, 8 of consume.
 #[test]
 fn refused_growths(rt: HostRuntime) -> Result<(), Fail> {
     let alloc = rt.alloc();
