@@ -89,7 +89,8 @@ impl Node {
         unreachable!()
     }
 
-    /// Sees the line: Seen, with words that fit. It may wait for ever. The refusals: those of `begin`.
+    /// Sees the line: Seen, with words that fit. It may wait for ever. The refusals: those of `begin`; 7 may have raised the room for
+    /// receipts. None changes anything else, here and in the other calls that wait.
     #[inline(always)]
     pub fn load<B: Bank, R: Wait>(
         &mut self,
