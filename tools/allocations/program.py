@@ -3,6 +3,7 @@
 Of each row of RUNS the program is run with its first allocation refused, then with its second, and so on until there is none left to
 refuse; that run ends as the one with ample memory. Each other one says `scisim: refused 7` and ends with status 1, but where the call
 makes up for it by a later growth, and ends as with ample memory: as often as the row says. Where threads are started, 26 may come too.
+The histories are of runs whose nodes can't meet, so that they are always the same.
 """
 
 import subprocess
@@ -78,6 +79,9 @@ RUNS = [
     ("run", STENCIL, 1, OR_NO_THREAD, nothing),
     ("run", RING, 1, OR_NO_THREAD, nothing),
     ("run --progress", COUNT, 1, OR_NO_THREAD, nothing),
+    ("history", COUNT, 1, OR_NO_THREAD, nothing),
+    ("history", STENCIL.replace("nodes = 2", "nodes = 1"), 1, OR_NO_THREAD, nothing),
+    ("history", RING.replace("0, 3, 6", ""), 1, OR_NO_THREAD, nothing),
     ("--help", "", 1, REFUSED, nothing),
 ]
 

@@ -1,5 +1,6 @@
 """histories: makes histories by chance, changes one thing in each, and compares what the built program says of them with what
-checker.py says, which was written from docs/HISTORIES.md alone.
+checker.py says, which was written from docs/HISTORIES.md alone. So it does with what the program's `history` prints of ten workloads
+by chance, which must be legal.
 
     python3 tools/histories [PROGRAM [SEED [COUNT]]]
 
@@ -112,6 +113,31 @@ def said(text):
     return ran.stdout if ran.returncode == (0 if ran.stdout == "legal\n" else 3) and not ran.stderr else repr(ran)
 
 
+def settings(by):
+    """The settings of a workload by chance, and how many nodes and lines it has."""
+    nodes, capacity = by.randint(1, 8), by.randint(1, 4)
+    match by.choice(("stencil", "ring", "count")):
+        case "stencil":
+            tiles = by.randint(1, 4)
+            cells = [by.randrange(2**63) for _ in range(7 * tiles)]
+            return f'work = "stencil"\nnodes = {nodes}\ncapacity = {capacity}\nphases = {by.randint(0, 9)}\ncells = {cells}\n', nodes, 2 * tiles
+        case "ring":
+            lines, items = by.randint(1, 5), [by.randrange(2**63) for _ in range(by.randint(0, 40))]
+            return f'work = "ring"\nlines = {lines}\ncapacity = {capacity}\nitems = {items}\n', 2, lines + 1
+        case _:
+            return f'work = "count"\nnodes = {nodes}\nadds = {by.randint(0, 300)}\ncapacity = {capacity}\n', nodes, 1
+
+
+def kept(by):
+    """What is wrong with the history of a workload, or nothing."""
+    text, nodes, lines = settings(by)
+    ran = subprocess.run([PROGRAM, "history"], input=text, capture_output=True, text=True)
+    if ran.returncode or ran.stderr or not ran.stdout.startswith(f"scihistory 1 {nodes} {lines}\n"):
+        return f"{ran.returncode} {ran.stderr!r} {ran.stdout[:80]!r} of {text}"
+    told = checker.verdict(ran.stdout), said(ran.stdout)
+    return "" if told == ("legal\n", "legal\n") else f"{told} of the history of {text}"
+
+
 def main():
     by = random.Random(int(GIVEN[1]) if GIVEN[1:] else 48)
     seen = []
@@ -128,6 +154,11 @@ def main():
             seen.append(told == wanted)
             if told != wanted and seen.count(False) < 4:
                 print(f"histories: {told!r}, and not {wanted!r}, of\n{it}", file=sys.stderr)
+    for _ in range(10):
+        wrong = kept(by)
+        seen.append(not wrong)
+        if wrong:
+            print(f"histories: {wrong}", file=sys.stderr)
     print(f"{sum(seen)} passed, {len(seen) - sum(seen)} failed")
     return not all(seen)
 

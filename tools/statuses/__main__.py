@@ -36,7 +36,7 @@ import sizes
 import traces
 import wrong as wrongs
 from kinds import CLOSED, FOLDER, FULL, UNREAD
-from kinds import Begins, Broken, Crowded, Drawn, Filled, Lawful, Little, Page, Traced, WholePage
+from kinds import Begins, Broken, Crowded, Drawn, Filled, Lawful, Legal, Little, Page, Traced, WholePage
 
 PROGRAM = os.path.realpath(sys.argv[1] if sys.argv[1:] else HOME / "crates/sci_sim/out/sci_sim")
 TABLES = [scripts, reasons, caches, sizes, cuts, shortages, traces, dumps, histories, logs, outcomes, runs, settings]
@@ -143,6 +143,9 @@ def is_wanted(said, wanted, room):
         case Lawful():
             status, (verdict, _) = run(["check"], [said.removeprefix(wanted), "", ""], room)
             return said.startswith(wanted) and status == 0 and verdict.endswith("lawful\n")
+        case Legal():
+            status, (verdict, _) = run(["legal"], [said, "", ""], room)
+            return said.startswith(wanted) and (status, verdict) == (0, "legal\n")
         case Begins():
             return said.startswith(wanted)
         case str():

@@ -1,13 +1,14 @@
 """Inputs that can't be read on behind each byte, or that don't end; outputs that fill at each byte; and each front of a script."""
 
 from dumps import DUMP, LAWFUL
+from histories import counted
 from kinds import READ, WRITE
 from kinds import Broken, Filled, refused
 from runs import ALONE, ALONE_COUNTED
 from scripts import ROW, TEXT
 
 # A command that reads, its input, and its text.
-SERVED = [("script", ROW, TEXT), ("run", ALONE, ALONE_COUNTED), ("check", DUMP, LAWFUL)]
+SERVED = [("script", ROW, TEXT), ("run", ALONE, ALONE_COUNTED), ("history", ALONE, counted(3)), ("check", DUMP, LAWFUL)]
 READER = "memory 1 1\nload 0 0 0\ndone 0\n"
 TRACED = (
     "# node 0 line 0 load: Queue(none) Done; Queueing(none); HOME\n"

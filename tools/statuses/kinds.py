@@ -31,6 +31,10 @@ class Lawful(str):
     """A first line, and behind it a dump that `check` calls lawful."""
 
 
+class Legal(str):
+    """The first line of a history that `legal` calls legal."""
+
+
 class Little(str):
     """Standard input of a run that gets little memory: so many bytes of address space."""
 

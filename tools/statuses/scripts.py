@@ -67,6 +67,7 @@ Scripts:
 
 Workloads:
   run       Runs a workload, each node in a thread of its own, and prints its result
+  history   Runs a workload, and prints what its nodes read and wrote on each line
 
 Checks of your own texts:
   check     Checks that each line of a dump is an exact sharing list

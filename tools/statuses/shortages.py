@@ -22,6 +22,19 @@ def growing():
 
 GROWING, ITS_TEXT = growing()
 ONE = COUNT.replace("nodes = 4", "nodes = 1")
+# a count keeps 144 bytes of each of its adds
+MILLIONS = COUNT.replace("adds = 1000\n", "adds = 1000000\n")
+
+
+def summed(phases):
+    """What becomes of a tile of a stencil: each cell is the sum of itself and its neighbours, modulo 2^64."""
+    cells = [1, 0, 0, 0, 0, 0, 0]
+    for _ in range(phases):
+        cells = [sum(cells[max(place - 1, 0) : place + 2]) % 2**64 for place in range(7)]
+    return "cells " + " ".join(map(str, cells)) + "\n"
+
+
+PHASES = 'work = "stencil"\nnodes = 1\ncapacity = 2\nphases = 100000\ncells = [1, 0, 0, 0, 0, 0, 0]\n'
 
 # A command, its input, the text by hand where it is known, and whether something is printed before the last growth.
 SERVED = [
@@ -33,11 +46,16 @@ SERVED = [
     ("outcomes", STORE_AND_LOADS, None, False),
 ]
 
-# 64 nodes want more stack than there is; one has room for its thread. The largest memory fits in 150,000,000 bytes.
+# 64 nodes want more stack than there is; one has room for its thread. The largest memory fits in 150,000,000 bytes. Where memory ends
+# under way, all nodes stop; a stencil keeps nothing, unless its history is asked for.
 CASES = [
     (["script"], Little("memory 1024 1024\nlist 1023\n", 150_000_000), 0, "line 1023 HOME\n", ""),
     (["run"], Crowded(COUNT.replace("nodes = 4", "nodes = 64")), 1, "", refused("26")),
     (["run"], Crowded(ONE), 0, "count 1000\n", ""),
+    (["run"], Little(MILLIONS, 300_000_000), 1, "", refused("7")),
+    (["history"], Little(MILLIONS, 300_000_000), 1, "", refused("7")),
+    (["run"], Little(PHASES, 60_000_000), 0, summed(100_000), ""),
+    (["history"], Little(PHASES, 60_000_000), 1, "", refused("7")),
 ]
 
 

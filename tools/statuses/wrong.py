@@ -3,7 +3,7 @@ tool must tell each of them."""
 
 import shortages
 from kinds import FULL, READ, WRITE
-from kinds import Begins, Broken, Drawn, Filled, Lawful, Little, Page, Traced, WholePage, refused
+from kinds import Begins, Broken, Drawn, Filled, Lawful, Legal, Little, Page, Traced, WholePage, refused
 from runs import ALONE, COUNT
 from scripts import ROW, TEXT
 
@@ -32,6 +32,8 @@ CASES = [
     (["script"], ROW, 0, Page(TEXT), ""),
     (["run"], COUNT, 0, Lawful("count 4000\n"), ""),
     (["run"], ALONE, 0, Lawful("count 4\n"), ""),
+    (["run"], ALONE, 0, Legal("count 3\n"), ""),
+    (["history"], ALONE, 0, Legal("scihistory 1 2 1\n"), ""),
 ]
 
 LOW, LEAST, WHOLE = 1_000_000, 50_000_000, "one\ntwo\n"

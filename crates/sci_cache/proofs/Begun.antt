@@ -47,8 +47,8 @@ module _ (n now : NodeState) (view : n ≡ now) (r : Request) where
   accepted h k b = at_now _ (if_not (is_some n.call) _ _ h ∙ if_not (not (nat_lt (line_of r) n.lines)) _ _ (inside (line_of r) n.lines k) ∙ if_not (has_bad_word r) _ _ b)
 
   -- a line that the table names takes no memory
-  pub had_memory : {line : ℕ} → line ≡ line_of r → is_evict r ≡ false → (is_resident line n.residents ≡ true → false ≡ true) → (is_evict r ≡ true) ⊎ (is_resident (line_of r) now.residents ≡ true) → false ≡ true
-  had_memory same other named (inl evict) = sym other ∙ evict
+  pub had_memory : {line : ℕ} {P : Type 0} → line ≡ line_of r → is_evict r ≡ false → (is_resident line n.residents ≡ true → P) → (is_evict r ≡ true) ⊎ (is_resident (line_of r) now.residents ≡ true) → P
+  had_memory same other named (inl evict) = absurd (let e = sym other ∙ evict in cc)
   had_memory {line = line} same other named (inr resident) =
       named (ap (λ (k : ℕ). is_resident k n.residents) same ∙ subst (λ (k : NodeState). is_resident (line_of r) k.residents ≡ true) (sym view) resident)
 
@@ -72,10 +72,10 @@ module _ (n now : NodeState) (view : n ≡ now) (r : Request) where
     pub victim_used : (victim : Option ℕ) → victim ≡ displaced_by n.capacity line n.residents → victim ≡ victim_with now r
     victim_used victim d = d ∙ ap (λ (k : ℕ). displaced_by n.capacity k n.residents) same ∙ sym (if_not (is_evict r) _ _ other) ∙ ap (λ (k : NodeState). victim_with k r) view
 
-    pub used_line : (capacity : ℕ) (xs : List ℕ) → capacity ≡ n.capacity → xs ≡ used n.capacity line n.residents → node_state n.id n.lines capacity xs n.call ≡ node_used now r
+    pub used_line : (capacity : ℕ) (xs : List ℕ) → capacity ≡ n.capacity → xs ≡ used n.capacity line n.residents → node_state n.id n.lines capacity n.keeps xs n.call ≡ node_used now r
     used_line capacity xs e f =
         let all : xs ≡ residents_with n r = f ∙ ap (λ (k : ℕ). used n.capacity k n.residents) same ∙ sym (if_not (is_evict r) _ _ other) in
-        (λ i. node_state n.id n.lines (e i) (all i) n.call) ∙ ap (λ (k : NodeState). node_used k r) view
+        (λ i. node_state n.id n.lines (e i) n.keeps (all i) n.call) ∙ ap (λ (k : NodeState). node_used k r) view
 
 none_bad : (a b d : Bool) → ◌≡◌ {A = Option NodeRefusal} (if a then Some NodeRefusal.CallOpen else (if b then Some NodeRefusal.BadLine else (if d then Some NodeRefusal.BadWord else None))) None → d ≡ true → ⊥
 none_bad true b d h is = let e = h in cc

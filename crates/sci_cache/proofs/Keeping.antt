@@ -13,12 +13,11 @@ use Rattle.sci_port.proofs.KeepsAll.{chain_keeps, extends_none, extends_same, ex
 use Rattle.sci_ops.specs.declared.answers.Answer.{Answer}
 use Rattle.sci_ops.specs.declared.answers.Turn.{Turn}
 use Rattle.sci_ops.specs.declared.goals.Goal.{Goal}
-use Rattle.sci_ops.specs.declared.goals.Write.{Write}
-use Rattle.sci_ops.specs.Kept.{KeepsAnswer}
+use Rattle.sci_ops.specs.Kept.{IsLastReceipt}
 use Rattle.sci_ops.specs.Operation.{Operation}
 use Rattle.sci_ops.specs.Room.{HasNeed, IsProvided, KeepsTurn, adds_towards, need_in, need_towards}
 use Rattle.sci_ops.specs.Table.{after_turn, begun}
-use Rattle.sci_cache.specs.Called.{IsLastReceipt, IsReadyFor, KeepsOn, KeepsRequest, LeavesReceipts}
+use Rattle.sci_cache.specs.Called.{IsReadyFor, KeepsOn, KeepsRequest, LeavesReceipts}
 use Rattle.sci_cache.specs.declared.calls.OpenCall.{OpenCall}
 use Rattle.sci_cache.specs.declared.refusals.NodeRefusal.{NodeRefusal}
 use Rattle.sci_cache.specs.declared.requests.Request.{Request}
@@ -102,21 +101,6 @@ need_idle Goal.Evict s h = need_by Goal.Evict (last_passed s.list) s.room h
 
 pub ready_need : (goal : Goal) (p : Pending) (s : ReceiptList) → IsReadyFor goal s → p ≡ Pending.Idle → HasNeed goal p s
 ready_need goal p s h idle = record { mark = h.mark; room = subst (λ (q : Pending). need_in goal q s ≤ s.room) (sym idle) (need_idle goal s h.room) }
-
--- ---- an answer is the last receipt
-
-some_room : (write : Write) (b : Bool) (room : ℕ) → need_towards (Goal.Write write) b ≤ room → 0 < room
-some_room write true room h = omega (arith, h)
-some_room write false room h = omega (arith, h)
-
-write_room : (write : Write) (p : Pending) (s : ReceiptList) → need_in (Goal.Write write) p s ≤ s.room → 0 < s.room
-write_room write (Pending.Holding word line) s h = omega (arith, h)
-write_room write p s h = some_room write (last_passed s.list) s.room h
-
-pub last_receipt : (goal : Goal) (answer : Answer) (p : Pending) (s t : ReceiptList) → HasNeed goal p s → KeepsAnswer (begun goal) (Turn.Done answer) s t → IsLastReceipt goal answer t.list
-last_receipt Goal.Load (Answer.Seen words stamp) p s t h k = record { front = s.list; is = k refl (omega (arith, h.room)) h.mark }
-last_receipt (Goal.Write write) (Answer.Wrote old stamp) p s t h k = record { front = s.list; is = k refl (write_room write p s h.room) tt }
-last_receipt goal answer p s t h k = tt
 
 -- ---- one piece of work after another
 
@@ -257,6 +241,6 @@ module _ {U : Type 0} (gives : U → ℕ → Call → U → Type 0) (readies : U
   pub answered_keeps : (answer : Answer) → HasWorked gives readies step told (goal_of r) (line_of r) (Turn.Done answer) u v → IsLastReceipt (goal_of r) answer (told v (line_of r)).list → KeepsRequest gives readies told r u (Ok answer) v
   answered_keeps answer h last = record { all = h.all; writes = h.writes; last = last; extends = h.extends }
 
--- a bank readied for a request, from which its turns have run so far
+-- a bank readied for a request, unless its node keeps no receipts, from which its turns have run so far
 abbrev pub HasRunFrom : {U : Type 0} → (U → ℕ → Call → U → Type 0) → (U → ℕ → Readying → U → Type 0) → (U → ℕ → Pending) → NodeState → Request → U → U → Type 0
-HasRunFrom {U} gives readies step n r u v = (w : U) × IsReadied readies u w × Runs gives step (node_with n r) w (work_of n r None) v
+HasRunFrom {U} gives readies step n r u v = (w : U) × IsReadied readies u w × (n.keeps ≡ false → w ≡ u) × Runs gives step (node_with n r) w (work_of n r None) v

@@ -1,5 +1,5 @@
 -- Room that was asked for.
-use Rattle.std.proofs.Common.{◌≡◌, ◌≤◌, inl, inr, ℕ, Bool, true, Option, Some, None, IfSome, Result, Ok, Err, IfOk, OnOk, OnErr, is_ok, refl, sym, ap, subst, ◌∙◌, arith}
+use Rattle.std.proofs.Common.{◌≡◌, ◌<◌, ◌≤◌, inl, inr, ℕ, Bool, true, Option, Some, None, IfSome, Result, Ok, Err, IfOk, OnOk, OnErr, is_ok, refl, sym, ap, subst, ◌∙◌, arith}
 use Rattle.std.proofs.lemmas.Bool.{cases_eq}
 use Rattle.sci_port.specs.Readying.{ChangesAt, Reserves}
 use Rattle.sci_port.specs.ReceiptList.{ReceiptList}
@@ -33,6 +33,9 @@ ready_out_by (Some w) before after mark room grows = let more = grows w in recor
 
 pub more_room : (n a b c : ℕ) → n ≤ a → a ≤ b → b ≤ c → n ≤ c
 more_room n a b c h k l = omega (arith, h, k, l)
+
+pub less_room : (n room s : ℕ) → room < n → room ≡ s → n ≤ s → ⊥
+less_room n room s h same k = omega (arith, h, same, k)
 
 pub reserves_same : (n : ℕ) (ok : Bool) (before : ℕ → ReceiptList) (line : ℕ) (after : ℕ → ReceiptList) → ChangesAt (Reserves n ok) before line after → (m : ℕ) → IsSameButRoom (before m) (after m)
 reserves_same n ok before line after h m = elim (cases_eq m line) [

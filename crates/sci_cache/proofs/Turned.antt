@@ -103,18 +103,18 @@ taken_other (Goal.Write w) line xs h = refl
 
 -- the node where a call has ended
 module _ (n : NodeState) (c : OpenCall) (answer : Answer) (g : Goal) (is : g ≡ c.op.goal) where
-  pub ends_other : (g ≡ Goal.Evict → ⊥) → node_state n.id n.lines n.capacity n.residents None ≡ record n { residents = residents_after c None (Turn.Done answer) n.residents; call = call_after c None (Turn.Done answer) }
-  ends_other h = ap (λ (xs : List ℕ). node_state n.id n.lines n.capacity xs None) (taken_other g c.line n.residents h ∙ ap (λ (k : Goal). taken_by k c.line n.residents) is)
+  pub ends_other : (g ≡ Goal.Evict → ⊥) → node_state n.id n.lines n.capacity n.keeps n.residents None ≡ record n { residents = residents_after c None (Turn.Done answer) n.residents; call = call_after c None (Turn.Done answer) }
+  ends_other h = ap (λ (xs : List ℕ). node_state n.id n.lines n.capacity n.keeps xs None) (taken_other g c.line n.residents h ∙ ap (λ (k : Goal). taken_by k c.line n.residents) is)
 
-  pub ends_evict : (capacity : ℕ) (xs : List ℕ) → g ≡ Goal.Evict → capacity ≡ n.capacity → xs ≡ without c.line n.residents → node_state n.id n.lines capacity xs None ≡ record n { residents = residents_after c None (Turn.Done answer) n.residents; call = call_after c None (Turn.Done answer) }
+  pub ends_evict : (capacity : ℕ) (xs : List ℕ) → g ≡ Goal.Evict → capacity ≡ n.capacity → xs ≡ without c.line n.residents → node_state n.id n.lines capacity n.keeps xs None ≡ record n { residents = residents_after c None (Turn.Done answer) n.residents; call = call_after c None (Turn.Done answer) }
   ends_evict capacity xs h same taken =
       let all : xs ≡ taken_by c.op.goal c.line n.residents = taken ∙ ap (λ (k : Goal). taken_by k c.line n.residents) (sym h ∙ is) in
-      λ i. node_state n.id n.lines (same i) (all i) None
+      λ i. node_state n.id n.lines (same i) n.keeps (all i) None
 
 -- ---- what a turn leaves of the node and of the pending steps
 
 pub same_kept : (n : NodeState) → IsSameNode n n
-same_kept n = record { id = refl; lines = refl; capacity = refl }
+same_kept n = record { id = refl; lines = refl; capacity = refl; keeps = refl }
 
 pub same_with : (n now m : NodeState) → n ≡ now → IsSameNode n m → IsSameNode now m
 same_with n now m view h = subst (λ (k : NodeState). IsSameNode k m) view h

@@ -12,7 +12,7 @@ use Rattle.sci_cache.specs.Requests.{line_of, goal_of, has_bad_word}
 use Rattle.sci_cache.specs.Nodes.{NodeState, TurnsBy, Waits, IsRefused, shown_by, node_after, node_ended, residents_with, GoesOn, LeavesIdle, IsSameNode}
 
 pub still_same : {n k m : NodeState} → IsSameNode n k → IsSameNode k m → IsSameNode n m
-still_same h g = record { id = g.id ∙ h.id; lines = g.lines ∙ h.lines; capacity = g.capacity ∙ h.capacity }
+still_same h g = record { id = g.id ∙ h.id; lines = g.lines ∙ h.lines; capacity = g.capacity ∙ h.capacity; keeps = g.keeps ∙ h.keeps }
 
 -- what a request has at work, with a victim still or without
 abbrev pub call_of : Request → Option ℕ → OpenCall

@@ -1,5 +1,5 @@
 -- What a call of a node that waits for its end has come to. This project's profile.
-use Rattle.std.specs.Prelude.{◌≡◌, ◌≢◌, ℕ, ◌≤◌, false, nat_eq, if◌then◌else◌, List, [], ◌++◌, Option, Some, None, Result, Ok, Err, IfOk, IfSome}
+use Rattle.std.specs.Prelude.{◌≡◌, ◌≢◌, ℕ, ◌≤◌, Bool, true, false, nat_eq, if◌then◌else◌, List, [], ◌++◌, Option, Some, None, Result, Ok, Err, IfOk, IfSome}
 use Rattle.sci_core.specs.declared.pending.Pending.{Pending}
 use Rattle.sci_core.specs.declared.receipts.Receipt.{Receipt}
 use Rattle.sci_core.specs.declared.receipts.Receipt.TheVariants.{Read, Wrote}
@@ -11,13 +11,19 @@ use Rattle.sci_port.specs.ReceiptList.{ReceiptList}
 use Rattle.sci_ops.specs.declared.answers.Answer.{Answer}
 use Rattle.sci_ops.specs.declared.answers.Turn.{Turn}
 use Rattle.sci_ops.specs.declared.goals.Goal.{Goal}
-use Rattle.sci_ops.specs.Change.{change}
-use Rattle.sci_ops.specs.Room.{IsProvided, KeepsTurn, adds_towards, is_passing, need_towards}
+use Rattle.sci_ops.specs.Kept.{IsLastReceipt}
+use Rattle.sci_ops.specs.Room.{IsProvided, KeepsTurn, adds_towards, is_passing, need_of, need_towards}
+use Rattle.sci_ops.specs.Table.{begun}
 use Rattle.sci_cache.specs.declared.calls.OpenCall.{OpenCall}
 use Rattle.sci_cache.specs.declared.refusals.NodeRefusal.{NodeRefusal}
 use Rattle.sci_cache.specs.declared.requests.Request.{Request}
 use Rattle.sci_cache.specs.Requests.{line_of, goal_of}
 use Rattle.sci_cache.specs.Nodes.{NodeState, IsAnswerTo, IsIdleBut, IsSameNode, LeavesIdle, Runs, Waits, line_by, op_by, shown_by}
+
+-- the line is that of the victim
+abbrev pub is_victim : Option ℕ → ℕ → Bool
+is_victim None line = false
+is_victim (Some victim) line = nat_eq victim line
 
 -- a turn of an open call: where what is at work has what it needs of its line's receipts, the turn keeps them
 pub record KeepsTurnOf {U : Type 0} (gives : U → ℕ → Call → U → Type 0) (step : U → ℕ → Pending) (told : U → ℕ → ReceiptList) (c : OpenCall) (u : U) (shown : Turn) (v : U) : Type 0 where
@@ -31,12 +37,6 @@ abbrev pub adds_on : Request → Result Answer NodeRefusal → ℕ → List Rece
 adds_on r (Ok answer) line = if nat_eq (line_of r) line then adds_towards (goal_of r) (Turn.Done answer) else []
 adds_on r (Err e) line = []
 
--- an answer is the last receipt: of a load the line that it saw, of a write the words that it replaced, those that it wrote, their stamp
-abbrev pub IsLastReceipt : Goal → Answer → List Receipt → Type 0
-IsLastReceipt Goal.Load (Answer.Seen words stamp) list = IsLast (Read words stamp) list
-IsLastReceipt (Goal.Write write) (Answer.Wrote old stamp) list = IsLast (Wrote old (change write old) stamp) list
-IsLastReceipt goal answer list = Unit {0}
-
 -- the same receipts and the same mark, with another room
 pub record IsSameButRoom (s t : ReceiptList) : Type 0 where
   pub list : t.list ≡ s.list
@@ -49,10 +49,31 @@ LeavesReceipts told (Err NodeRefusal.StampsSpent) u v = Unit {0}
 LeavesReceipts told (Err NodeRefusal.OutOfMemory) u v = (line : ℕ) → IsSameButRoom (told u line) (told v line)
 LeavesReceipts told (Err refusal) u v = v ≡ u
 
+-- of a refusal of `begin`: want of memory changes nothing but room, and another nothing
+abbrev pub LeavesBut : {U : Type 0} → (U → ℕ → ReceiptList) → NodeRefusal → U → U → Type 0
+LeavesBut told NodeRefusal.OutOfMemory u v = (line : ℕ) → IsSameButRoom (told u line) (told v line)
+LeavesBut told refusal u v = v ≡ u
+
 -- the mark is set for the goal, and there is room for as many receipts as it needs at most
 pub record IsReadyFor (goal : Goal) (s : ReceiptList) : Type 0 where
   pub mark : s.passing ≡ is_passing goal
   pub room : need_towards goal false ≤ s.room
+
+-- the receipts are ready for a request, and for the exit of the line that it puts out, if there is one
+pub record AreReadyFor (request : Request) (victim : Option ℕ) (told : ℕ → ReceiptList) : Type 0 where
+  pub line : IsReadyFor (goal_of request) (told (line_of request))
+  pub exit : IfSome victim (λ w. IsReadyFor Goal.Evict (told w))
+
+-- there is room for the receipts of a request already, or its node keeps none
+abbrev pub HasNoNeed : Bool → Request → ReceiptList → Type 0
+HasNoNeed keeps request s = keeps ≡ true → need_towards (goal_of request) false ≤ s.room
+
+-- for how many receipts an open call needs room on a line: what its operation needs on its own, and an exit on its victim's
+abbrev pub need_on : Option OpenCall → (ℕ → Pending) → (ℕ → ReceiptList) → ℕ → ℕ
+need_on None step told line = 0
+need_on (Some c) step told line =
+    if nat_eq c.line line then need_of c.op (step line) (told line) else
+    (if is_victim c.victim line then need_of (begun Goal.Evict) (step line) (told line) else 0)
 
 -- a node's work that went on: each call found room for its receipt, none was a write, and what stood in a list stands there
 pub record KeepsOn {U : Type 0} (gives : U → ℕ → Call → U → Type 0) (readies : U → ℕ → Readying → U → Type 0) (told : U → ℕ → ReceiptList) (u v : U) : Type 0 where
@@ -68,15 +89,16 @@ pub record KeepsRequest {U : Type 0} (gives : U → ℕ → Call → U → Type 
   pub last : IfOk result (λ answer. IsLastReceipt (goal_of request) answer (told v (line_of request)).list)
   pub extends : (line : ℕ) → Extends (told u line).list (told v line).list
 
--- a request of node n over the bank u has ended so, with the bank v and the node m. Once room for its receipts was reserved, it was
--- accepted and took turns, or was refused. The answer is one to it. The request's line is left Idle, and so are the others, where they
--- were. The node and the bank are the same: of the same lines of as many nodes, under the same fact
+-- a request of node n over the bank u has ended so, with the bank v and the node m. Once room for its receipts was reserved, unless
+-- the node keeps none, it was accepted and took turns, or was refused. The answer is one to it. The request's line is left Idle, and
+-- so are the others, where they were. The node and the bank are the same: of the same lines of as many nodes, under the same fact
 pub record HasCalled {U K : Type 0} (way : U → BankWay) (nodes_on : U → ℕ → ℕ) (keep : U → K) (fits : K → ℕ → List ℕ → Type 0) (gives : U → ℕ → Call → U → Type 0) (readies : U → ℕ → Readying → U → Type 0) (step : U → ℕ → Pending) (told : U → ℕ → ReceiptList) (n : NodeState) (request : Request) (u : U) (result : Result Answer NodeRefusal) (v : U) (m : NodeState) : Type 0 where
   pub ready : U
   pub readied : IsReadied readies u ready
   pub waits : Waits gives step n request ready result v m
   pub refused : LeavesReceipts told result u v
-  pub kept : ((line : ℕ) → step u line ≡ Pending.Idle) → KeepsRequest gives readies told request u result v
+  pub kept : n.keeps ≡ true → ((line : ℕ) → step u line ≡ Pending.Idle) → KeepsRequest gives readies told request u result v
+  pub unready : n.keeps ≡ false → ready ≡ u
   pub content : IfOk result (λ answer. IsAnswerTo (fits (keep u) (line_of request)) (goal_of request) answer)
   pub idle : LeavesIdle result (step v (line_of request))
   pub rest : IsIdleBut n.call (step u) → IsIdleBut m.call (step v)

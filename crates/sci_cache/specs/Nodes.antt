@@ -15,22 +15,25 @@ use Rattle.sci_cache.specs.declared.requests.Request.{Request}
 use Rattle.sci_cache.specs.Requests.{line_of, goal_of, is_evict, has_bad_word}
 use Rattle.sci_cache.specs.Residents.{without, used, displaced_by, AreBelow}
 
--- whose node of how many lines it is, how many lines it may name, those that it names, most recent first, and its open call
+-- whose node of how many lines it is, how many lines it may name, whether its calls keep receipts, the lines that it names, most recent
+-- first, and its open call
 pub record NodeState : Type 0 where
   pub id : ℕ
   pub lines : ℕ
   pub capacity : ℕ
+  pub keeps : Bool
   pub residents : List ℕ
   pub call : Option OpenCall
 
-abbrev pub node_state : ℕ → ℕ → ℕ → List ℕ → Option OpenCall → NodeState
-node_state id lines capacity residents call = record { id = id; lines = lines; capacity = capacity; residents = residents; call = call }
+abbrev pub node_state : ℕ → ℕ → ℕ → Bool → List ℕ → Option OpenCall → NodeState
+node_state id lines capacity keeps residents call = record { id = id; lines = lines; capacity = capacity; keeps = keeps; residents = residents; call = call }
 
--- the same node of the same lines, with the same capacity
+-- the same node of the same lines, with the same capacity, and one that keeps receipts or doesn't, as before
 pub record IsSameNode (n m : NodeState) : Type 0 where
   pub id : m.id ≡ n.id
   pub lines : m.lines ≡ n.lines
   pub capacity : m.capacity ≡ n.capacity
+  pub keeps : m.keeps ≡ n.keeps
 
 abbrev pub IsLine : ℕ → Option ℕ → Type 0
 IsLine lines None = Unit {0}

@@ -1,15 +1,15 @@
 //! Nodes.
-ghost use Rattle.std.specs.Prelude.{◌≡◌, ◌≢◌, ◌<◌, ◌≤◌, ◌⊎◌, ◌↔◌, ℕ, Some, None, Ok, Err, length, true, is_some, [], IfOk, IfErr, IfSome, OnOk, OnErr, IsOk};
+ghost use Rattle.std.specs.Prelude.{◌≡◌, ◌≢◌, ◌<◌, ◌≤◌, ◌⊎◌, ◌↔◌, ℕ, Some, None, Ok, Err, length, true, false, is_some, [], IfOk, IfErr, IfSome, OnOk, OnErr, IsOk};
 ghost use Rattle.sci_port.specs.KeepsAll.{IsReadied};
 ghost use Rattle.sci_ops.specs.Change.{StoresFitting};
 ghost use Rattle.sci_ops.specs.declared.goals.Goal.{Goal};
-ghost use Rattle.sci_cache.specs.Called.{IsReadyFor, IsSameButRoom, KeepsTurnOf};
+ghost use Rattle.sci_cache.specs.Called.{AreReadyFor, HasNoNeed, IsSameButRoom, KeepsTurnOf, LeavesBut, need_on};
 ghost use Rattle.sci_cache.specs.declared.refusals.NodeRefusal.{NodeRefusal};
 ghost use Rattle.sci_cache.specs.Requests.{line_of, goal_of, is_evict};
 ghost use Rattle.sci_cache.specs.Residents.{is_resident};
 
 use crate::calls::OpenCall;
-use crate::ports::turn_at;
+use crate::ports::{need_at, turn_at};
 use crate::readying::{aim_at, reserve_at, reserve_out};
 use crate::refusals::NodeRefusal;
 use crate::requests::Request;
@@ -27,6 +27,7 @@ use std::num::NonZeroUsize;
 pub struct Node {
     id: NodeId,
     lines: u16,
+    keeps: bool,
     table: LruCache<LineNo, ()>,
     call: Option<OpenCall>,
 }
@@ -37,21 +38,21 @@ impl Model for Node {
 
     ghost Value = { NodeState };
 
-    ghost view = { λ n. node_state n.id n.lines n.table.cap (keys_of n.table.entries) n.call };
+    ghost view = { λ n. node_state n.id n.lines n.table.cap n.keeps (keys_of n.table.entries) n.call };
 
-    ghost invariant = { λ n. IsSoundNode (node_state n.id n.lines n.table.cap (keys_of n.table.entries) n.call) };
+    ghost invariant = { λ n. IsSoundNode (node_state n.id n.lines n.table.cap n.keeps (keys_of n.table.entries) n.call) };
 }
 
 impl Node {
     ghost use Rattle.sci_core.specs.declared.pending.Pending.TheVariants.{Idle};
     ghost use Rattle.sci_cache.specs.Nodes.{node_state, refusal_of, IsLine, IsRefused, IsSoundCall, call_with, victim_with, node_used, node_closed, node_with, TurnsBy, line_by, ShowsAnswerTo, IsIdleBut, IsSameNode};
 
-    /// A node of a memory of so many lines, which names up to `capacity` of them and has used none. The refusals: 13 for a
-    /// capacity of 0 or more than 1,024, then 7.
+    /// A node of a memory of so many lines, which names up to `capacity` of them and has used none. Its calls make room for their
+    /// receipts. The refusals: 13 for a capacity of 0 or more than 1,024, then 7.
     pub fn new(alloc: Global, id: NodeId, lines: u16, capacity: u16) -> Result<Node, NodeRefusal>
         ensures capacity { (result ≡ Err NodeRefusal.BadCapacity) ↔ ((capacity ≡ 0) ⊎ (1024 < capacity)) }
         ensures refused { IfErr result (λ e. (e ≡ NodeRefusal.BadCapacity) ⊎ (e ≡ NodeRefusal.OutOfMemory)) }
-        ensures made { IfOk result (λ n. n ≡ node_state id lines capacity [] None) }
+        ensures made { IfOk result (λ n. n ≡ node_state id lines capacity true [] None) }
     {
         if capacity > 1024 {
             return Err(NodeRefusal::BadCapacity);
@@ -65,9 +66,20 @@ impl Node {
         Ok(Node {
             id,
             lines,
+            keeps: true,
             table,
             call: None,
         })
+    }
+
+    /// The same node, which keeps no receipts: its calls make no room for them, and leave the marks. Where there is no room already
+    /// none is kept, and none takes memory. What calls promise of receipts is promised of other nodes alone.
+    pub fn without_receipts(self) -> Node
+        ensures { result ≡ record self { keeps = false } }
+    {
+        let mut node = self;
+        node.keeps = false;
+        node
     }
 
     /// The node.
@@ -93,21 +105,35 @@ impl Node {
         open
     }
 
-    /// Opens a call. A request other than Evict makes its line the most recent; where it is new and the table full, the last
-    /// leaves the table and becomes the victim. The refusals: 14, 12, 10, then 7; none changes anything. An eviction, and a
-    /// line that the table names, take no memory.
+    /// Opens a call, over the node's bank. A request other than Evict makes its line the most recent; where it is new and the table
+    /// full, the last leaves the table and becomes the victim. Unless the node keeps no receipts, it makes room for those of the
+    /// request and of the victim's exit before that, and sets the marks behind it. The refusals: 14, 12, 10, then 7, which may have
+    /// raised the room; none changes anything else. An eviction, and a line that the table names, take memory only where there is
+    /// less room than they need.
     #[inline(always)]
-    pub fn begin(&mut self, request: Request) -> Result<(), NodeRefusal>
+    pub fn begin<B: Bank>(&mut self, bank: &mut B, request: Request) -> Result<(), NodeRefusal>
+        requires node { (B.way bank.old).node ≡ self.old.id }
+        requires lines { (B.way bank.old).lines ≡ self.old.lines }
         ensures refused { IfErr result (IsRefused self.old request) }
         ensures accepted { OnOk result (refusal_of self.old request ≡ None) }
         ensures begun { OnOk result (self.new ≡ node_with self.old request) }
         ensures same { OnErr result (self.new ≡ self.old) }
         ensures same_node { IsSameNode self.old self.new }
-        ensures succeeds { refusal_of self.old request ≡ None → (is_evict request ≡ true) ⊎ (is_resident (line_of request) self.old.residents ≡ true) → IsOk result }
+        ensures succeeds { refusal_of self.old request ≡ None → (is_evict request ≡ true) ⊎ (is_resident (line_of request) self.old.residents ≡ true) → HasNoNeed self.old.keeps request (B.told bank.old (line_of request)) → IsOk result }
+        ensures readied { IsReadied B.readies bank.old bank.new }
+        ensures kept { IfErr result (λ e. LeavesBut B.told e bank.old bank.new) }
+        ensures ready { self.old.keeps ≡ true → OnOk result (AreReadyFor request (victim_with self.old request) (B.told bank.new)) }
+        ensures unready { self.old.keeps ≡ false → bank.new ≡ bank.old }
+        ensures same_way { B.way bank.new ≡ B.way bank.old }
+        ensures same_nodes { (m : ℕ) → B.nodes_on bank.new m ≡ B.nodes_on bank.old m }
+        ensures same_fact { B.keep bank.new ≡ B.keep bank.old }
+        ensures same_steps { (m : ℕ) → B.at_step bank.new m ≡ B.at_step bank.old m }
     {
-        let victim = match self.admit(&request) {
-            Ok(victim) => victim,
-            Err(refusal) => return Err(refusal),
+        if let Some(refusal) = self.refusal(&request) {
+            return Err(refusal);
+        }
+        let Ok(victim) = self.enter(bank, &request) else {
+            return Err(NodeRefusal::OutOfMemory);
         };
         let line = request.line();
         let Ok(op) = request.op() else { unreachable!() };
@@ -115,28 +141,23 @@ impl Node {
         Ok(())
     }
 
-    // Makes a request's line the most recent: the line that this puts out. The refusals are those of `begin`.
-    #[inline(always)]
-    pub(crate) fn admit(&mut self, request: &Request) -> Result<Option<LineNo>, NodeRefusal>
-        ensures refused { IfErr result (IsRefused self.old request.now) }
-        ensures accepted { OnOk result (refusal_of self.old request.now ≡ None) }
-        ensures victim { IfOk result (λ v. v ≡ victim_with self.old request.now) }
-        ensures sound { OnOk result (IsSoundCall self.old.lines (Some (call_with self.old request.now))) }
-        ensures used { OnOk result (self.new ≡ node_used self.old request.now) }
-        ensures same { OnErr result (self.new ≡ self.old) }
-        ensures same_node { IsSameNode self.old self.new }
-        ensures succeeds { refusal_of self.old request.now ≡ None → (is_evict request.now ≡ true) ⊎ (is_resident (line_of request.now) self.old.residents ≡ true) → IsOk result }
+    /// For how many receipts the open call needs room on the line until its end, with the mark set there: its operation on its own
+    /// line, an eviction on the victim's. 0 on any other, and where no call is open.
+    pub fn need<B: Bank>(&self, bank: &mut B, line: LineNo) -> usize
+        requires lines { (B.way bank.old).lines ≡ self.now.lines }
+        ensures need { result ≡ need_on self.now.call (B.at_step bank.old) (B.told bank.old) line }
+        ensures same { bank.new ≡ bank.old }
     {
-        if let Some(refusal) = self.refusal(request) {
-            return Err(refusal);
-        }
-        if request.is_evict() {
-            return Ok(None);
-        }
-        let Ok(victim) = make_recent(&mut self.table, request.line()) else {
-            return Err(NodeRefusal::OutOfMemory);
+        let Some(call) = &self.call else {
+            return 0;
         };
-        Ok(victim)
+        if call.line == line {
+            return need_at(bank, line, &call.op);
+        }
+        if call.victim == Some(line) {
+            return need_at(bank, line, &Op::evict());
+        }
+        0
     }
 
     // Why a request is refused, but for want of memory: 14, 12, 10.
@@ -156,8 +177,8 @@ impl Node {
         None
     }
 
-    // Makes the line of a request that nothing else stands against the most recent, with room for the receipts of the request
-    // and of the eviction of the line that this puts out, and with their marks: the line that this puts out.
+    // Makes the line of a request that nothing else stands against the most recent: the line that this puts out. Where the node keeps
+    // receipts, first with room for those of the request and of the eviction of that line, and then with their marks.
     #[inline(always)]
     pub(crate) fn enter<B: Bank>(
         &mut self,
@@ -171,21 +192,25 @@ impl Node {
         ensures used { OnOk result (self.new ≡ node_used self.old request.now) }
         ensures same { OnErr result (self.new ≡ self.old) }
         ensures same_node { IsSameNode self.old self.new }
+        ensures succeeds { (is_evict request.now ≡ true) ⊎ (is_resident (line_of request.now) self.old.residents ≡ true) → HasNoNeed self.old.keeps request.now (B.told bank.old (line_of request.now)) → IsOk result }
         ensures readied { IsReadied B.readies bank.old bank.new }
         ensures kept { OnErr result ((m : ℕ) → IsSameButRoom (B.told bank.old m) (B.told bank.new m)) }
-        ensures ready { OnOk result (IsReadyFor (goal_of request.now) (B.told bank.new (line_of request.now))) }
-        ensures ready_out { IfOk result (λ v. IfSome v (λ w. IsReadyFor Goal.Evict (B.told bank.new w))) }
+        ensures ready { self.old.keeps ≡ true → OnOk result (AreReadyFor request.now (victim_with self.old request.now) (B.told bank.new)) }
+        ensures unready { self.old.keeps ≡ false → bank.new ≡ bank.old }
     {
+        if !self.keeps {
+            return self.put_in(request);
+        }
         let line = request.line();
         reserve_at(bank, line, request.need())?;
-        let victim = self.put_in(bank, request)?;
+        let victim = self.put_in_with_room(bank, request)?;
         aim_at(bank, line, request.passes(), victim);
         Ok(victim)
     }
 
     // The same, of the table alone, with room for the eviction.
     #[inline(always)]
-    fn put_in<B: Bank>(
+    fn put_in_with_room<B: Bank>(
         &mut self,
         bank: &mut B,
         request: &Request,
@@ -197,6 +222,7 @@ impl Node {
         ensures used { OnOk result (self.new ≡ node_used self.old request.now) }
         ensures same { OnErr result (self.new ≡ self.old) }
         ensures same_node { IsSameNode self.old self.new }
+        ensures succeeds { (is_evict request.now ≡ true) ⊎ (is_resident (line_of request.now) self.old.residents ≡ true) → IsOk result }
         ensures readied { IsReadied B.readies bank.old bank.new }
         ensures same_receipts { (m : ℕ) → IsSameButRoom (B.told bank.old m) (B.told bank.new m) }
         ensures room { IfOk result (λ v. IfSome v (λ w. 1 ≤ (B.told bank.new w).room)) }
@@ -210,6 +236,23 @@ impl Node {
         }
         reserve_out(bank, last_of_full(&self.table))?;
         make_recent(&mut self.table, line)
+    }
+
+    // The same, of the table alone, without any room.
+    #[inline(always)]
+    fn put_in(&mut self, request: &Request) -> Result<Option<LineNo>, AllocError>
+        requires line { line_of request.now < self.old.lines }
+        ensures victim { IfOk result (λ v. v ≡ victim_with self.old request.now) }
+        ensures inside { OnOk result (IsLine self.old.lines (victim_with self.old request.now)) }
+        ensures used { OnOk result (self.new ≡ node_used self.old request.now) }
+        ensures same { OnErr result (self.new ≡ self.old) }
+        ensures same_node { IsSameNode self.old self.new }
+        ensures succeeds { (is_evict request.now ≡ true) ⊎ (is_resident (line_of request.now) self.old.residents ≡ true) → IsOk result }
+    {
+        if request.is_evict() {
+            return Ok(None);
+        }
+        make_recent(&mut self.table, request.line())
     }
 
     // Ends a call that was never opened: an eviction takes its line out.

@@ -4,13 +4,22 @@ ghost use Rattle.sci_ops.specs.Answers.{AnswersAt};
 ghost use Rattle.sci_ops.specs.Change.{StoresFitting};
 ghost use Rattle.sci_ops.specs.Kept.{KeepsAnswer};
 ghost use Rattle.sci_ops.specs.Plan.{Takes, LoadsAtMost};
-ghost use Rattle.sci_ops.specs.Room.{IsProvided, KeepsTurn};
+ghost use Rattle.sci_ops.specs.Room.{IsProvided, KeepsTurn, need_of};
 ghost use Rattle.sci_ops.specs.Table.{turn_of, after_turn};
 ghost use Rattle.sci_cache.specs.Nodes.{ShowsAnswerTo, EndsIdle};
 
 use sci_ops::{Op, Turn};
 use sci_port::{At, Bank};
 use sci_words::LineNo;
+
+/// For how many receipts the operation needs room on the line: `Op::need`.
+pub(crate) fn need_at<B: Bank>(bank: &mut B, line: LineNo, op: &Op) -> usize
+    requires line { line < (B.way bank.old).lines }
+    ensures need { result ≡ need_of op.now (B.at_step bank.old line) (B.told bank.old line) }
+    ensures same { bank.new ≡ bank.old }
+{
+    op.need(&At::new(bank, line))
+}
 
 /// One turn of the operation on the line, over the bank's port to it: `Op::turn`. The other lines' steps and receipts stay.
 #[inline(always)]

@@ -1,5 +1,5 @@
 //! Room for receipts and the mark, before a request's turns.
-ghost use Rattle.std.specs.Prelude.{◌≡◌, ◌≢◌, ◌<◌, ◌≤◌, ℕ, true, IfSome, OnOk};
+ghost use Rattle.std.specs.Prelude.{◌≡◌, ◌≢◌, ◌<◌, ◌≤◌, ℕ, true, IfSome, IsOk, OnOk};
 ghost use Rattle.sci_port.specs.KeepsAll.{IsReadied};
 ghost use Rattle.sci_cache.specs.Called.{IsSameButRoom};
 ghost use Rattle.sci_cache.specs.Nodes.{IsLine};
@@ -14,6 +14,7 @@ pub(crate) fn reserve_at<B: Bank>(bank: &mut B, line: LineNo, n: usize) -> Resul
     requires line { line < (B.way bank.old).lines }
     ensures readied { IsReadied B.readies bank.old bank.new }
     ensures room { OnOk result (n ≤ (B.told bank.new line).room) }
+    ensures enough { n ≤ (B.told bank.old line).room → IsOk result }
     ensures same { (m : ℕ) → IsSameButRoom (B.told bank.old m) (B.told bank.new m) }
 {
     if n <= bank.room(line) {

@@ -1,5 +1,6 @@
-//! Calls of a node that wait for their end. Each reserves room for its receipts first, on its line and on the line that it puts
-//! out, and sets their marks. So refusal 7 changes nothing but room, and the other refusals of `begin` nothing.
+//! Calls of a node that wait for their end. Unless the node keeps no receipts, each reserves room for its own first, on its line and
+//! on the line that it puts out, and sets their marks. So refusal 7 changes nothing but room, and the other refusals of `begin`
+//! nothing.
 ghost use Rattle.std.specs.Prelude.{◌≡◌, ◌<◌, Some};
 ghost use Rattle.sci_ops.specs.declared.goals.Goal as goal;
 ghost use Rattle.sci_ops.specs.declared.goals.Write as write;

@@ -5,6 +5,7 @@ pub mod Unheld
 pub mod Spending
 pub mod Providing
 pub mod SoFar
+pub mod Last
 pub mod Carried
 pub mod Took
 pub mod Short

@@ -2,6 +2,7 @@
 use Rattle.std.specs.Prelude.{◌≡◌, ℕ, ◌<◌, false, None, List, [], ◌∷◌, ◌++◌}
 use Rattle.sci_core.specs.declared.receipts.Receipt.{Receipt}
 use Rattle.sci_core.specs.declared.receipts.Receipt.TheVariants.{Read, Wrote}
+use Rattle.sci_port.specs.KeepsAll.{IsLast}
 use Rattle.sci_port.specs.ReceiptList.{ReceiptList}
 use Rattle.sci_ops.specs.declared.goals.Goal.{Goal}
 use Rattle.sci_ops.specs.declared.answers.Answer.{Answer}
@@ -25,3 +26,9 @@ AppendsAnswer goal answer before after = after ≡ before
 abbrev pub KeepsAnswer : Operation → Turn → ReceiptList → ReceiptList → Type 0
 KeepsAnswer op (Turn.Done answer) r q = op.answer ≡ None → 0 < r.room → IsAimedAt op.goal r → AppendsAnswer op.goal answer r.list q.list
 KeepsAnswer op turn r q = Unit {0}
+
+-- an answer is the last receipt: of a load the line that it saw, of a write the words that it replaced, those that it wrote, their stamp
+abbrev pub IsLastReceipt : Goal → Answer → List Receipt → Type 0
+IsLastReceipt Goal.Load (Answer.Seen words stamp) list = IsLast (Read words stamp) list
+IsLastReceipt (Goal.Write write) (Answer.Wrote old stamp) list = IsLast (Wrote old (change write old) stamp) list
+IsLastReceipt goal answer list = Unit {0}

@@ -14,11 +14,10 @@ use Rattle.sci_port.specs.Banks.{BankWay}
 use Rattle.sci_core.specs.WellFormed.{IsMem, IsTag}
 use Rattle.sci_port.specs.declared.calls.Call.{Call}
 use Rattle.sci_ops.specs.declared.answers.Turn.{Turn}
-use Rattle.sci_cache.specs.Nodes.{NodeState, TurnsBy, node_with}
+use Rattle.sci_cache.specs.Nodes.{IsSameNode, NodeState, TurnsBy, node_with}
 use Rattle.sci_cache.specs.declared.requests.Request.{Request}
-use Rattle.sci_script.specs.declared.commands.Size.{Size}
 use Rattle.sci_script.specs.BankDesks.{Banked, IsBanked, IsBankOf, AreBanksOf, Asks, TurnsNode, banked, banked_is_open, node_at}
-use Rattle.sci_script.specs.Nodes.{AreNodesOf}
+use Rattle.sci_script.specs.Nodes.{AreNodesOf, IsNodeOf}
 use Rattle.sci_script.specs.Unused.{no_node}
 
 -- what is true of each element stays so where one is set of which it is true
@@ -29,35 +28,46 @@ each_set P (x ∷ xs) zero y h p (suc j) b e = h (suc j) b e
 each_set P (x ∷ xs) (suc i) y h p zero b e = h zero b e
 each_set P (x ∷ xs) (suc i) y h p (suc j) b e = each_set (λ k c. P (suc k) c) xs i y (λ k c f. h (suc k) c f) p j b e
 
-pub nodes_set : (lines : ℕ) (nodes : List NodeState) (i : ℕ) (m : NodeState) → AreNodesOf lines nodes → i < length nodes → m.id ≡ i → m.lines ≡ lines → AreNodesOf lines (set nodes i m)
-nodes_set lines nodes i m h lt id same = λ k d below.
+pub nodes_set : (lines : ℕ) (nodes : List NodeState) (i : ℕ) (m : NodeState) → AreNodesOf lines nodes → i < length nodes → IsNodeOf lines i m → AreNodesOf lines (set nodes i m)
+nodes_set lines nodes i m h lt is = λ k d below.
     elim (cases_eq k i) [
-      | inl e ↦ subst (λ (j : ℕ). ((get_or (set nodes i m) j d).id ≡ j) × ((get_or (set nodes i m) j d).lines ≡ lines)) (sym e)
-          (subst (λ (n : NodeState). (n.id ≡ i) × (n.lines ≡ lines)) (sym (get_or-set_same nodes i m d lt)) (id, same))
-      | inr other ↦ subst (λ (n : NodeState). (n.id ≡ k) × (n.lines ≡ lines)) (sym (get_or-set_other nodes i k m d other)) (h k d (subst (λ (n : ℕ). k < n) (length-set nodes i m) below))
+      | inl e ↦ subst (λ (j : ℕ). IsNodeOf lines j (get_or (set nodes i m) j d)) (sym e) (subst (λ (n : NodeState). IsNodeOf lines i n) (sym (get_or-set_same nodes i m d lt)) is)
+      | inr other ↦ subst (λ (n : NodeState). IsNodeOf lines k n) (sym (get_or-set_other nodes i k m d other)) (h k d (subst (λ (n : ℕ). k < n) (length-set nodes i m) below))
     ]
 
+-- the same node stays that of its number
+pub still_node : (lines k : ℕ) (n m : NodeState) → IsNodeOf lines k n → IsSameNode n m → IsNodeOf lines k m
+still_node lines k n m is same = (same.id ∙ is.0, same.lines ∙ is.1, same.keeps ∙ is.2)
+
 -- the node of a place, as it was read
-pub node_found : {B : Type 0} (way : B → BankWay) (nodes_on : B → ℕ → ℕ) (fits : B → ℕ → List ℕ → Type 0) (s : Banked B) → IsBanked way nodes_on fits s → (i : ℕ) (n : NodeState) → i < s.size.nodes → n ≡ get_or s.nodes i n → (n.id ≡ i) × (n.lines ≡ s.size.lines)
-node_found way nodes_on fits s h i n lt found = subst (λ (k : NodeState). (k.id ≡ i) × (k.lines ≡ s.size.lines)) (sym found) (h.nodes_are i n (omega (arith, h.count, lt)))
+pub node_read : (lines : ℕ) (nodes : List NodeState) → AreNodesOf lines nodes → (i : ℕ) (n : NodeState) → i < length nodes → n ≡ get_or nodes i n → IsNodeOf lines i n
+node_read lines nodes h i n lt found = subst (λ (k : NodeState). IsNodeOf lines i k) (sym found) (h i n lt)
+
+pub node_found : {B : Type 0} (way : B → BankWay) (nodes_on : B → ℕ → ℕ) (fits : B → ℕ → List ℕ → Type 0) (s : Banked B) → IsBanked way nodes_on fits s → (i : ℕ) (n : NodeState) → i < s.size.nodes → n ≡ get_or s.nodes i n → IsNodeOf s.size.lines i n
+node_found way nodes_on fits s h i n lt found = node_read s.size.lines s.nodes h.nodes_are i n (omega (arith, h.count, lt)) found
 
 pub open_found : {B : Type 0} (v s : Banked B) → v ≡ s → (i node : ℕ) (n : NodeState) → i ≡ node → i < length v.nodes → n ≡ get_or v.nodes i n → banked_is_open s node ≡ true → is_some n.call ≡ true
 open_found {B} v s is i node n place lt found here =
     let at : banked_is_open v i ≡ true = subst (λ (k : ℕ). banked_is_open v k ≡ true) (sym place) (subst (λ (x : Banked B). banked_is_open x node ≡ true) (sym is) here) in
     subst (λ (k : NodeState). is_some k.call ≡ true) (sym (get_or_read v.nodes i n lt found no_node)) at
 
--- a node that begins a call, and one that begins none
-pub begun_here : {B : Type 0} (v s : Banked B) → v ≡ s → (i node : ℕ) (n m : NodeState) (request : Request) → i ≡ node → i < length v.nodes → n ≡ get_or v.nodes i n → m ≡ node_with n request
-    → banked v.size v.banks (set v.nodes i m) ≡ record s { nodes = set s.nodes node (node_with (node_at s node) request) }
-begun_here {B} v s is i node n m request place lt found begun =
-    let now : m ≡ node_with (node_at v i) request = begun ∙ ap (λ (k : NodeState). node_with k request) (get_or_read v.nodes i n lt found no_node) in
-    subst (λ (x : Banked B). banked v.size v.banks (set v.nodes i m) ≡ record x { nodes = set x.nodes node (node_with (node_at x node) request) }) is
-    (subst (λ (k : ℕ). banked v.size v.banks (set v.nodes i m) ≡ banked v.size v.banks (set v.nodes k (node_with (node_at v k) request))) place
-    (ap (λ (k : NodeState). banked v.size v.banks (set v.nodes i k)) now))
+-- a node that begins a call, and one that begins none, over a bank that stays as it is
+module _ {B : Type 0} (v s : Banked B) (is : v ≡ s) (i : ℕ) (b after : B) (read : b ≡ get_or v.banks i b) (kept : after ≡ b) (n m : NodeState) (found : n ≡ get_or v.nodes i n) where
+  same_banks : set v.banks i after ≡ v.banks
+  same_banks = ap (λ (k : B). set v.banks i k) (kept ∙ read) ∙ set-get_or v.banks i b
 
-pub same_here : {B : Type 0} (v s : Banked B) → v ≡ s → (i : ℕ) (n m : NodeState) → n ≡ get_or v.nodes i n → m ≡ n → banked v.size v.banks (set v.nodes i m) ≡ s
-same_here v s is i n m found same =
-    ap (λ (k : NodeState). banked v.size v.banks (set v.nodes i k)) (same ∙ found) ∙ ap (λ (ns : List NodeState). banked v.size v.banks ns) (set-get_or v.nodes i n) ∙ is
+  pub begun_here : (node : ℕ) (request : Request) → i ≡ node → i < length v.nodes → m ≡ node_with n request
+      → banked v.size (set v.banks i after) (set v.nodes i m) ≡ record s { nodes = set s.nodes node (node_with (node_at s node) request) }
+  begun_here node request place lt begun =
+      let now : m ≡ node_with (node_at v i) request = begun ∙ ap (λ (k : NodeState). node_with k request) (get_or_read v.nodes i n lt found no_node) in
+      subst (λ (x : Banked B). banked v.size (set v.banks i after) (set v.nodes i m) ≡ record x { nodes = set x.nodes node (node_with (node_at x node) request) }) is
+      (subst (λ (k : ℕ). banked v.size (set v.banks i after) (set v.nodes i m) ≡ banked v.size v.banks (set v.nodes k (node_with (node_at v k) request))) place
+      (ap (λ (bs : List B). banked v.size bs (set v.nodes i m)) same_banks ∙ ap (λ (k : NodeState). banked v.size v.banks (set v.nodes i k)) now))
+
+  pub same_here : m ≡ n → banked v.size (set v.banks i after) (set v.nodes i m) ≡ s
+  same_here same =
+      ap (λ (bs : List B). banked v.size bs (set v.nodes i m)) same_banks
+      ∙ ap (λ (k : NodeState). banked v.size v.banks (set v.nodes i k)) (same ∙ found) ∙ ap (λ (ns : List NodeState). banked v.size v.banks ns) (set-get_or v.nodes i n) ∙ is
 
 -- the bank of a node, as it was read and as it is set
 module _ {B K : Type 0} (way : B → BankWay) (nodes_on : B → ℕ → ℕ) (keep : B → K) (fits : K → ℕ → List ℕ → Type 0) (s : Banked B) (h : IsBanked way nodes_on (λ b line words. fits (keep b) line words) s) (node : ℕ) (b : B) (lt : node < s.size.nodes)
@@ -85,15 +95,14 @@ module _ {B K : Type 0} (way : B → BankWay) (nodes_on : B → ℕ → ℕ) (ke
     pub banked_set : IsBanked way nodes_on (λ x line words. fits (keep x) line words) (banked s.size (set s.banks node after) s.nodes)
     banked_set = record { some_are = h.some_are; banks_are = banks_set; count = h.count; nodes_are = h.nodes_are }
 
-    pub turned_set : (n m : NodeState) → n ≡ get_or s.nodes node n → m.id ≡ n.id → m.lines ≡ n.lines → IsBanked way nodes_on (λ x line words. fits (keep x) line words) (banked s.size (set s.banks node after) (set s.nodes node m))
-    turned_set n m found id lines =
+    pub turned_set : (n m : NodeState) → n ≡ get_or s.nodes node n → IsSameNode n m → IsBanked way nodes_on (λ x line words. fits (keep x) line words) (banked s.size (set s.banks node after) (set s.nodes node m))
+    turned_set n m found same =
         let below : node < length s.nodes = omega (arith, h.count, lt) in
-        let was : (n.id ≡ node) × (n.lines ≡ s.size.lines) = subst (λ (k : NodeState). (k.id ≡ node) × (k.lines ≡ s.size.lines)) (sym found) (h.nodes_are node n below) in
         record {
           some_are = h.some_are;
           banks_are = banks_set;
           count = length-set s.nodes node m ∙ h.count;
-          nodes_are = nodes_set s.size.lines s.nodes node m h.nodes_are below (id ∙ was.0) (lines ∙ was.1);
+          nodes_are = nodes_set s.size.lines s.nodes node m h.nodes_are below (still_node s.size.lines node n m (node_read s.size.lines s.nodes h.nodes_are node n below found) same);
         }
 
 module _ {B : Type 0} (gives : B → ℕ → Call → B → Type 0) (step : B → ℕ → Pending) (v s : Banked B) (is : v ≡ s) where

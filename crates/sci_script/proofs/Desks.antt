@@ -1,24 +1,18 @@
 -- The calls of a desk of whole lines, on its lists.
-use Rattle.std.proofs.Common.{◌≡◌, ◌∙◌, ℕ, ◌<◌, List, Option, Some, None, IfSome, length, get_or, set, All, refl, sym, ap, subst, arith, rules}
-use Rattle.std.specs.Global.{Vec}
-use Rattle.std.proofs.Props.{props}
+use Rattle.std.proofs.Common.{◌≡◌, ◌∙◌, ℕ, ◌<◌, List, Option, Some, None, IfSome, length, get_or, set, All, refl, sym, ap, subst, arith}
 use Rattle.std.proofs.lemmas.Bool.Decides.{nat_tests}
-use Rattle.std.proofs.lemmas.List.{get_or-set_same, get_or-set_other, get_or_read, set-get_or}
-use Rattle.std.specs.Vec.{with_item}
+use Rattle.std.proofs.lemmas.List.{get_or-set_same, get_or-set_other}
 use Rattle.sci_core.specs.declared.keeps.AnyWords.{AnyWords}
 use Rattle.sci_core.specs.State.{update}
 use Rattle.sci_core.specs.Whole.{WholeLine, nodes_of, state_of}
 use Rattle.sci_core.proofs.States.{opened_state}
 use Rattle.sci_ops.specs.declared.answers.Turn.{Turn}
 use Rattle.sci_cache.specs.declared.calls.OpenCall.{OpenCall}
-use Rattle.sci_cache.specs.declared.node.Node.{Node}
-use Rattle.sci_cache.specs.Nodes.{NodeState, node_after, node_with, line_by, op_by}
-use Rattle.sci_cache.specs.declared.requests.Request.{Request}
+use Rattle.sci_cache.specs.Nodes.{NodeState, node_after, line_by, op_by}
 use Rattle.sci_script.specs.declared.commands.Size.{Size}
 use Rattle.sci_script.specs.declared.commands.Opening.{Opening}
 use Rattle.sci_script.specs.declared.watching.Passed.{Passed}
-use Rattle.sci_script.specs.declared.wholes.WholeDesk.{WholeDesk}
-use Rattle.sci_script.specs.Nodes.{AreNodesOf, TurnsOverOf, whole_of}
+use Rattle.sci_script.specs.Nodes.{TurnsOverOf, whole_of}
 use Rattle.sci_script.specs.Passed.{PassesOn, PassesOverOf, PassesTurnOf}
 use Rattle.sci_script.specs.Openings.{zeros, content_of}
 use Rattle.sci_script.specs.ScriptText.{Opens}
@@ -28,41 +22,6 @@ use Rattle.sci_script.specs.Unused.{AreOpened, AreIdle, no_line, no_node, shared
 
 pub read_set : {A : Type 0} (l : List A) (i j : ℕ) (v d : A) → i < length l → get_or (set l i v) j d ≡ update (λ k. get_or l k d) i v j
 read_set l i j v d h = grind (arith, nat_tests, get_or-set_same l i v d, get_or-set_other l i j v d)
-
--- a call begun by the node that was read at a place
-pub begins : (nodes : List NodeState) (place node : ℕ) (n m : NodeState) (request : Request) → place ≡ node → place < length nodes → n ≡ get_or nodes place n → m ≡ node_with n request
-    → (i : ℕ) → get_or (set nodes place m) i no_node ≡ update (λ k. get_or nodes k no_node) node (node_with (get_or nodes node no_node) request) i
-begins nodes place node n m request same lt found begun = λ i.
-    let now : m ≡ node_with (get_or nodes place no_node) request = begun ∙ ap (λ (k : NodeState). node_with k request) (get_or_read nodes place n lt found no_node) in
-    subst (λ (j : ℕ). get_or (set nodes place m) i no_node ≡ update (λ k. get_or nodes k no_node) j (node_with (get_or nodes j no_node) request) i) same
-    (read_set nodes place i m no_node lt ∙ ap (λ (k : NodeState). update (λ j. get_or nodes j no_node) place k i) now)
-
--- a desk is the one whose nodes it has
-abbrev with_nodes : (d : WholeDesk) (nodes : Vec Node) → length d.bank.wholes.items ≡ d.size.lines → All (λ w. nodes_of w ≡ d.size.nodes) d.bank.wholes.items → nodes.len ≡ d.size.nodes → AreNodesOf d.size.lines nodes.items → WholeDesk
-with_nodes d nodes lines widths count of = record { size = d.size; bank = d.bank; nodes = nodes; lines = lines; widths = widths; count = count; of = of }
-
-abbrev with_list : (v : Vec Node) (nodes : List NodeState) → v.len ≡ length nodes → Vec Node
-with_list v nodes count = record { ptr = v.ptr; len = v.len; cap = v.cap; alloc = v.alloc; items = nodes; ok = (count, v.ok.1); small = v.small }
-
-same_vec : (v : Vec Node) (place : ℕ) (n m : NodeState) → n ≡ get_or v.items place n → m ≡ n → with_item v place m ≡ v
-same_vec v place n m found same =
-    let items : set v.items place m ≡ v.items = ap (λ k. set v.items place k) (same ∙ found) ∙ set-get_or v.items place n in
-    let count_prop : IsProp (v.len ≡ length v.items) = hlevel props in
-    subst (λ (l : List NodeState). (count : v.len ≡ length l) → with_list v l count ≡ v) (sym items) (λ count. ap (λ c. with_list v v.items c) (count_prop count v.ok.0)) _
-
-pub same_desk : (d : WholeDesk) (place : ℕ) (n m : NodeState) → n ≡ get_or d.nodes.items place n → m ≡ n
-    → (lines : length d.bank.wholes.items ≡ d.size.lines) (widths : All (λ w. nodes_of w ≡ d.size.nodes) d.bank.wholes.items) (count : d.nodes.len ≡ d.size.nodes) (of : AreNodesOf d.size.lines (set d.nodes.items place m))
-    → with_nodes d (with_item d.nodes place m) lines widths count of ≡ d
-same_desk d place n m found same =
-    let lines_prop : IsProp (length d.bank.wholes.items ≡ d.size.lines) = hlevel props in
-    let widths_prop : IsProp (All (λ w. nodes_of w ≡ d.size.nodes) d.bank.wholes.items) = hlevel props in
-    let count_prop : IsProp (d.nodes.len ≡ d.size.nodes) = hlevel props in
-    let of_prop : IsProp (AreNodesOf d.size.lines d.nodes.items) = hlevel props in
-    subst (λ (v : Vec Node). (lines : length d.bank.wholes.items ≡ d.size.lines) (widths : All (λ w. nodes_of w ≡ d.size.nodes) d.bank.wholes.items) (count : v.len ≡ d.size.nodes) (of : AreNodesOf d.size.lines v.items) → with_nodes d v lines widths count of ≡ d)
-    (sym (same_vec d.nodes place n m found same))
-    (λ lines widths count of.
-    ap (λ h. with_nodes d d.nodes h widths count of) (lines_prop lines d.lines) ∙ ap (λ h. with_nodes d d.nodes d.lines h count of) (widths_prop widths d.widths)
-    ∙ ap (λ h. with_nodes d d.nodes d.lines d.widths h of) (count_prop count d.count) ∙ ap (λ h. with_nodes d d.nodes d.lines d.widths d.count h) (of_prop of d.of))
 
 -- a turn of the call of the node that stands at its number
 module _ (width : ℕ) (wholes after : List (WholeLine AnyWords)) (nodes : List NodeState) (node : ℕ) (shown : Turn) (m : NodeState) (inside : node < length nodes)

@@ -70,7 +70,7 @@ heard_going (line ∷ lines) n size shown s steps parts u e (first, rest, mid, a
 
 -- lines that nobody has used, and nodes without a call
 unused : Size → ℕ → List Opening → Shared
-unused size capacity openings = record { width = size.nodes; lines = λ line. opened size.nodes (content_of line zeros openings); nodes = λ node. node_state node size.lines capacity [] None }
+unused size capacity openings = record { width = size.nodes; lines = λ line. opened size.nodes (content_of line zeros openings); nodes = λ node. node_state node size.lines capacity false [] None }
 
 opens_unused : (size : Size) (capacity : ℕ) (openings : List Opening) → Opens size capacity openings (unused size capacity openings)
 unfolding unused

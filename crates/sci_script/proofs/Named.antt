@@ -92,25 +92,9 @@ ends_so : (answer : Answer) → Turn.Waiting ≡ Turn.Done answer → ⊥
 ends_so answer e = cc
 
 calls_in : (goal : Goal) (me : ℕ) (p : Pending) → Calls (turn_in goal me p)
-calls_in goal me Pending.Idle = tt
-calls_in goal me (Pending.Holding w l) = tt
-calls_in goal me (Pending.Queueing f) = tt
-calls_in goal me (Pending.Fetching f d l) = tt
 calls_in goal me (Pending.InQueue None d c) = tt
-calls_in goal me (Pending.InQueue (Some x) d c) = tt
-calls_in goal me (Pending.Copying x w l) = tt
-calls_in goal me (Pending.Ready f d l) = tt
 calls_in goal me (Pending.Converting f true) = tt
-calls_in goal me (Pending.Converting f false) = tt
-calls_in goal me (Pending.Purging l seen) = tt
-calls_in goal me (Pending.Advancing l x w) = tt
-calls_in goal me (Pending.Clearing l x w) = tt
-calls_in goal me (Pending.Leaving d l seen) = tt
-calls_in goal me (Pending.Promoted d l x) = tt
-calls_in goal me (Pending.WritingBack l) = tt
-calls_in goal me (Pending.Parted f) = tt
-calls_in goal me (Pending.Rolling told seen) = tt
-calls_in goal me (Pending.Unlinked f b) = tt
+calls_in goal me _ = tt
 
 calls_again : (goal : Goal) (answer : Option Answer) (me : ℕ) (p : Pending) → Calls (turn_again goal answer me p)
 calls_again goal None me p = calls_in goal me p

@@ -1,5 +1,5 @@
 -- Lines that nobody has used and nodes that have used none, one after the other.
-use Rattle.std.proofs.Common.{◌≡◌, ℕ, ◌+◌, ◌<◌, ◌≤◌, List, [], ◌∷◌, ◌++◌, length, get_or, All, None, arith, refl, ap, sym, subst, ◌∙◌, inl, inr}
+use Rattle.std.proofs.Common.{◌≡◌, ℕ, ◌+◌, ◌<◌, ◌≤◌, false, List, [], ◌∷◌, ◌++◌, length, get_or, All, None, arith, refl, ap, sym, subst, ◌∙◌, inl, inr}
 use Rattle.std.proofs.lemmas.Bool.{cases_lt}
 use Rattle.std.proofs.lemmas.List.{get_or_append_left, get_or_push, length-replicate}
 use Rattle.sci_core.specs.declared.keeps.AnyWords.{AnyWords}
@@ -38,20 +38,20 @@ opened_widths nodes openings wholes n count opened = λ k d lt.
     ap (λ (w : WholeLine AnyWords). nodes_of w) (opened k d lt-n) ∙ length-replicate nodes invalid
 
 -- and nodes that have used none
-pub idle_push : (lines capacity : ℕ) (nodes : List NodeState) (n : ℕ) (node : NodeState) → length nodes ≡ n → AreIdle lines capacity n nodes → node ≡ node_state n lines capacity [] None
+pub idle_push : (lines capacity : ℕ) (nodes : List NodeState) (n : ℕ) (node : NodeState) → length nodes ≡ n → AreIdle lines capacity n nodes → node ≡ node_state n lines capacity false [] None
     → AreIdle lines capacity (n + 1) (nodes ++ node ∷ [])
 idle_push lines capacity nodes n node count before e = λ k d lt.
     elim (cases_lt k n) [
       | inl less ↦ get_or_append_left nodes (node ∷ []) d k (omega (arith, count)) ∙ before k d less
       | inr more ↦
           let same : k ≡ n = omega arith in
-          subst (λ (j : ℕ). get_or (nodes ++ node ∷ []) j d ≡ node_state j lines capacity [] None) (sym same) (get_or_push nodes node d n count ∙ e)
+          subst (λ (j : ℕ). get_or (nodes ++ node ∷ []) j d ≡ node_state j lines capacity false [] None) (sym same) (get_or_push nodes node d n count ∙ e)
     ]
 
 pub idle_nodes : (lines capacity n : ℕ) (nodes : List NodeState) → length nodes ≡ n → AreIdle lines capacity n nodes → AreNodesOf lines nodes
 idle_nodes lines capacity n nodes count idle = λ k d lt.
     let here = idle k d (omega (arith, count)) in
-    (ap (λ (node : NodeState). node.id) here, ap (λ (node : NodeState). node.lines) here)
+    (ap (λ (node : NodeState). node.id) here, ap (λ (node : NodeState). node.lines) here, ap (λ (node : NodeState). node.keeps) here)
 
 -- the lines of a bank of their node
 pub are_lines : (nodes : ℕ) (openings : List Opening) (wholes : List (WholeLine AnyWords)) (n node : ℕ) → length wholes ≡ n → 0 < n → n ≤ 1024 → node < nodes → AreOpened nodes openings n wholes

@@ -1,5 +1,5 @@
 -- Nodes over whole lines. This project's profile.
-use Rattle.std.specs.Prelude.{◌≡◌, ◌≢◌, ℕ, ◌<◌, List, [], length, Option, Some, None, slice_index_or}
+use Rattle.std.specs.Prelude.{◌≡◌, ◌≢◌, ℕ, ◌<◌, false, List, [], length, Option, Some, None, slice_index_or}
 use Rattle.sci_core.specs.declared.keeps.AnyWords.{AnyWords}
 use Rattle.sci_core.specs.Whole.{WholeLine, nodes_of, state_of}
 use Rattle.sci_ops.specs.declared.answers.Turn.{Turn}
@@ -10,9 +10,13 @@ use Rattle.sci_cache.specs.Nodes.{NodeState, node_state, node_after, line_by, op
 use Rattle.sci_script.specs.Turns.{TurnsOn}
 use Rattle.sci_script.specs.Unused.{no_line}
 
--- each node stands at its number, and has so many lines
+-- the node of this number, which has so many lines and keeps no receipts
+abbrev pub IsNodeOf : ℕ → ℕ → NodeState → Type 0
+IsNodeOf lines k node = (node.id ≡ k) × (node.lines ≡ lines) × (node.keeps ≡ false)
+
+-- each node stands at its number
 abbrev pub AreNodesOf : ℕ → List NodeState → Type 0
-AreNodesOf lines nodes = (k : ℕ) (d : NodeState) → k < length nodes → ((slice_index_or nodes k d).id ≡ k) × ((slice_index_or nodes k d).lines ≡ lines)
+AreNodesOf lines nodes = (k : ℕ) (d : NodeState) → k < length nodes → IsNodeOf lines k (slice_index_or nodes k d)
 
 abbrev pub whole_of : List (WholeLine AnyWords) → ℕ → WholeLine AnyWords
 whole_of wholes line = slice_index_or wholes line no_line
@@ -34,4 +38,4 @@ abbrev pub load_on : ℕ → OpenCall
 load_on line = record { line = line; op = begun Goal.Load; victim = None }
 
 abbrev pub loader : ℕ → ℕ → NodeState
-loader node line = node_state node 0 0 [] (Some (load_on line))
+loader node line = node_state node 0 0 false [] (Some (load_on line))

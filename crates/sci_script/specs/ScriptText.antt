@@ -1,5 +1,5 @@
 -- The text of a script. This project's profile.
-use Rattle.std.specs.Prelude.{◌≡◌, ℕ, ◌<◌, List, [], None}
+use Rattle.std.specs.Prelude.{◌≡◌, ℕ, ◌<◌, false, List, [], None}
 use Rattle.sci_core.specs.State.{opened}
 use Rattle.sci_cache.specs.Nodes.{node_state}
 use Rattle.sci_script.specs.declared.commands.Size.{Size}
@@ -15,7 +15,7 @@ use Rattle.sci_script.specs.Shared.{Shared, shared_is_open, shared_does}
 pub record Opens (size : Size) (capacity : ℕ) (openings : List Opening) (s : Shared) : Type 0 where
   pub width : s.width ≡ size.nodes
   pub lines : (line : ℕ) → line < size.lines → s.lines line ≡ opened size.nodes (content_of line zeros openings)
-  pub nodes : (node : ℕ) → node < size.nodes → s.nodes node ≡ node_state node size.lines capacity [] None
+  pub nodes : (node : ℕ) → node < size.nodes → s.nodes node ≡ node_state node size.lines capacity false [] None
 
 -- what the commands print one after another over one state a line and one list of residents a node, where a turn is the table's
 -- entry and at most one row

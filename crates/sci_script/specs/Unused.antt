@@ -1,5 +1,5 @@
 -- Whole lines and nodes as a memory, and lines and nodes just opened. This project's profile.
-use Rattle.std.specs.Prelude.{◌≡◌, ℕ, ◌<◌, List, [], None, slice_index_or}
+use Rattle.std.specs.Prelude.{◌≡◌, ℕ, ◌<◌, false, List, [], None, slice_index_or}
 use Rattle.sci_core.specs.declared.keeps.AnyWords.{AnyWords}
 use Rattle.sci_core.specs.State.{blank}
 use Rattle.sci_core.specs.Whole.{WholeLine, state_of, opened_whole}
@@ -13,7 +13,7 @@ abbrev pub no_line : WholeLine AnyWords
 no_line = opened_whole (record {}) 0 0 blank
 
 abbrev pub no_node : NodeState
-no_node = node_state 0 0 0 [] None
+no_node = node_state 0 0 0 false [] None
 
 -- the memory that these lines and nodes are
 abbrev pub shared : ℕ → List (WholeLine AnyWords) → List NodeState → Shared
@@ -26,4 +26,4 @@ AreOpened nodes openings n wholes =
 
 -- the first n nodes of so many lines, with this capacity, which have used none
 abbrev pub AreIdle : ℕ → ℕ → ℕ → List NodeState → Type 0
-AreIdle lines capacity n nodes = (k : ℕ) (d : NodeState) → k < n → slice_index_or nodes k d ≡ node_state k lines capacity [] None
+AreIdle lines capacity n nodes = (k : ℕ) (d : NodeState) → k < n → slice_index_or nodes k d ≡ node_state k lines capacity false [] None

@@ -5,7 +5,7 @@ ghost use Rattle.sci_script.specs.BankDesks.{AreBanksOf};
 
 use crate::commands::{Script, Size};
 use crate::desk::{Desk, Toward};
-use crate::nodes::idle;
+use crate::nodes::{begin_over, idle};
 use sci_cache::{Node, Request};
 use sci_ops::Turn;
 use sci_port::Bank;
@@ -114,10 +114,8 @@ impl<B: Bank> Desk for BankDesk<B> {
     }
 
     fn begin(&mut self, node: NodeId, request: Request) -> Result<(), AllocError> {
-        match self.nodes[usize::from(node.get())].begin(request) {
-            Ok(()) => Ok(()),
-            Err(_) => Err(AllocError),
-        }
+        let place = usize::from(node.get());
+        begin_over(&mut self.banks[place], &mut self.nodes[place], request)
     }
 
     fn turn(&mut self, node: NodeId) -> Turn {

@@ -7,7 +7,7 @@ ghost use Rattle.sci_script.specs.Unused.{AreOpened};
 
 use crate::commands::{Script, Size};
 use crate::desk::{Desk, Toward};
-use crate::nodes::idle;
+use crate::nodes::{begin_over, idle};
 use crate::watching::Passed;
 use sci_cache::{Node, OpenCall, Request};
 use sci_core::{AnyWords, Whole};
@@ -122,10 +122,14 @@ impl Desk for WholeDesk {
     }
 
     fn begin(&mut self, node: NodeId, request: Request) -> Result<(), AllocError> {
-        match self.nodes[usize::from(node.get())].begin(request) {
-            Ok(()) => Ok(()),
-            Err(_) => Err(AllocError),
-        }
+        let seated = self.bank.node();
+        self.bank.seat(node);
+        let place = usize::from(node.get());
+        let Ok(()) = begin_over(&mut self.bank, &mut self.nodes[place], request) else {
+            self.bank.seat(seated);
+            return Err(AllocError);
+        };
+        Ok(())
     }
 
     #[inline(always)]

@@ -1,4 +1,4 @@
--- The faults of the command `run`.
+-- The faults of the commands `run` and `history`.
 use Rattle.std.proofs.Common.{◌≡◌, ℕ, ◌≤◌, List, [], length, None, IsUtf8, refl, sym, ◌∙◌}
 use Rattle.sci_script.specs.declared.refusals.ScriptRefusal.TheVariants.{OutOfMemory, BadCommand, BadNumber, NotDone, WriteFailed}
 use Rattle.sci_work.specs.declared.refusals.WorkRefusal.{WorkRefusal}
@@ -9,7 +9,9 @@ use Rattle.sci_serve.specs.declared.settings.refusals.SettingsRefusal.{SettingsR
 use Rattle.sci_serve.specs.declared.settings.refusals.SettingsRefusal.TheVariants as settings
 use Rattle.sci_serve.specs.Fault.{settings_fault_of, work_fault_of}
 use Rattle.sci_serve.specs.Input.{IsReadFault}
-use Rattle.sci_serve.specs.Runs.{AreSettings, ComesInRun, StopsRun}
+use Rattle.sci_serve.specs.declared.running.Shown.{Shown}
+use Rattle.sci_serve.specs.Runs.{AreSettings, ComesInRun}
+use Rattle.sci_serve.specs.Shown.{StopsPrinting}
 use Rattle.sci_serve.specs.Settings.{Fails, settings_of}
 use Rattle.sci_serve.proofs.ReadFaults.{of_read_fault}
 
@@ -26,28 +28,28 @@ comes_in_run WorkRefusal.NoThread h = tt
 none_is : (input : List ℕ) → (IsUtf8 input → settings_of input ≡ None) → (s : Settings) → AreSettings input s → ⊥
 none_is input none s (short, text, is) = let e = sym (none text) ∙ is in cc
 
-pub stops_reading_settings : (e : SettingsRefusal) (input : List ℕ) → length input ≤ 1048576 → (IsUtf8 input → Fails e (settings_of input)) → StopsRun (settings_fault_of e) input []
-stops_reading_settings settings.OutOfMemory input short h = refl
-stops_reading_settings settings.BadSettings input short h = ((short, none_is input h), refl)
+pub stops_reading_settings : (shown : Shown) (e : SettingsRefusal) (input : List ℕ) → length input ≤ 1048576 → (IsUtf8 input → Fails e (settings_of input)) → StopsPrinting shown (settings_fault_of e) input []
+stops_reading_settings shown settings.OutOfMemory input short h = refl
+stops_reading_settings shown settings.BadSettings input short h = ((short, none_is input h), refl)
 
-pub stops_in_run : (e : SimFault) (input : List ℕ) (s : Settings) → AreSettings input s → ComesInRun e → StopsRun e input []
-stops_in_run CannotRead input s are h = absurd h
-stops_in_run CannotWrite input s are h = absurd h
-stops_in_run InputTooLong input s are h = absurd h
-stops_in_run (Refused OutOfMemory) input s are h = refl
-stops_in_run (Refused (BadCommand n)) input s are h = absurd h
-stops_in_run (Refused (BadNumber n)) input s are h = absurd h
-stops_in_run (Refused (NotDone n)) input s are h = absurd h
-stops_in_run (Refused WriteFailed) input s are h = absurd h
-stops_in_run (NoDump n) input s are h = absurd h
-stops_in_run Unlawful input s are h = absurd h
-stops_in_run (NoRun WorkRefusal.OutOfMemory) input s are h = absurd h
-stops_in_run (NoRun WorkRefusal.StampsSpent) input s are h = ((s, are), refl)
-stops_in_run (NoRun WorkRefusal.Overrun) input s are h = ((s, are), refl)
-stops_in_run (NoRun WorkRefusal.Stalled) input s are h = ((s, are), refl)
-stops_in_run (NoRun WorkRefusal.BadSettings) input s are h = absurd h
-stops_in_run (NoRun WorkRefusal.Stopped) input s are h = ((s, are), refl)
-stops_in_run (NoRun WorkRefusal.NoThread) input s are h = ((s, are), refl)
+pub stops_in_run : (shown : Shown) (e : SimFault) (input : List ℕ) (s : Settings) → AreSettings input s → ComesInRun e → StopsPrinting shown e input []
+stops_in_run shown CannotRead input s are h = absurd h
+stops_in_run shown CannotWrite input s are h = absurd h
+stops_in_run shown InputTooLong input s are h = absurd h
+stops_in_run shown (Refused OutOfMemory) input s are h = refl
+stops_in_run shown (Refused (BadCommand n)) input s are h = absurd h
+stops_in_run shown (Refused (BadNumber n)) input s are h = absurd h
+stops_in_run shown (Refused (NotDone n)) input s are h = absurd h
+stops_in_run shown (Refused WriteFailed) input s are h = absurd h
+stops_in_run shown (NoDump n) input s are h = absurd h
+stops_in_run shown Unlawful input s are h = absurd h
+stops_in_run shown (NoRun WorkRefusal.OutOfMemory) input s are h = absurd h
+stops_in_run shown (NoRun WorkRefusal.StampsSpent) input s are h = ((s, are), refl)
+stops_in_run shown (NoRun WorkRefusal.Overrun) input s are h = ((s, are), refl)
+stops_in_run shown (NoRun WorkRefusal.Stalled) input s are h = ((s, are), refl)
+stops_in_run shown (NoRun WorkRefusal.BadSettings) input s are h = absurd h
+stops_in_run shown (NoRun WorkRefusal.Stopped) input s are h = ((s, are), refl)
+stops_in_run shown (NoRun WorkRefusal.NoThread) input s are h = ((s, are), refl)
 
-pub stops_run_input : (e : SimFault) (input : List ℕ) → IsReadFault e input → StopsRun e input []
-stops_run_input e input h = of_read_fault (λ f. StopsRun f input []) input refl (λ long. (long, refl)) refl e h
+pub stops_run_input : (shown : Shown) (e : SimFault) (input : List ℕ) → IsReadFault e input → StopsPrinting shown e input []
+stops_run_input shown e input h = of_read_fault (λ f. StopsPrinting shown f input []) input refl (λ long. (long, refl)) refl e h

@@ -26,3 +26,4 @@ pub mod Kept
 pub mod Fed
 pub mod ReadRanges
 pub mod LogFollows
+pub mod LineHistories

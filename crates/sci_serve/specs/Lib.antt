@@ -2,6 +2,8 @@ pub mod Fault
 pub mod Legality
 pub mod Input
 pub mod Runs
+pub mod Histories
+pub mod Shown
 pub mod Serve
 pub mod Settings
 pub mod Verdicts

@@ -1,4 +1,4 @@
--- What the command `run` writes. This project's profile.
+-- What a workload comes to, and what the command `run` writes of it. This project's profile.
 use Rattle.std.specs.Prelude.{◌≡◌, ℕ, ◌+◌, ◌*◌, ◌/◌, ◌%◌, ◌^◌, ◌<◌, ◌≤◌, List, [], ◌++◌, length, take, codes, Some, Bool, IsUtf8, if◌then◌else◌}
 use Rattle.sci_core.specs.Closed.{ClosedLine}
 use Rattle.sci_script.specs.declared.refusals.ScriptRefusal.TheVariants.{OutOfMemory, BadCommand, BadNumber, NotDone, WriteFailed}
@@ -30,38 +30,32 @@ AreWithin (Count nodes adds capacity dump) = IsCountSize nodes adds capacity
 abbrev pub dump_part : Bool → ℕ → List ClosedLine → List ℕ
 dump_part wanted nodes closed = if wanted then dump_text Two nodes closed else []
 
+-- how many nodes there are
+abbrev pub nodes_of : Settings → ℕ
+nodes_of (Stencil nodes capacity phases cells dump) = nodes
+nodes_of (Ring lines capacity items dump) = 2
+nodes_of (Count nodes adds capacity dump) = nodes
+
+-- the lines of these settings as their work leaves them
+abbrev pub AreLeftBy : Settings → List ClosedLine → Type 0
+AreLeftBy (Stencil nodes capacity phases cells dump) closed = AreClosed (FitsStencil cells phases) (2 * (length cells / 7)) closed × HaveNodes nodes closed
+AreLeftBy (Ring lines capacity items dump) closed = AreClosed (FitsRing items lines) (lines + 1) closed × HaveNodes 2 closed
+AreLeftBy (Count nodes adds capacity dump) closed = IsCounted ((nodes * adds) % 2 ^ 64) closed × HaveNodes nodes closed
+
+-- the line of their result, and whether the dump is wanted too
+abbrev pub result_line : Settings → List ℕ
+result_line (Stencil nodes capacity phases cells dump) = list_line (codes "cells") (plain cells phases)
+result_line (Ring lines capacity items dump) = list_line (codes "items") items
+result_line (Count nodes adds capacity dump) = count_line ((nodes * adds) % 2 ^ 64)
+
+abbrev pub wants_dump : Settings → Bool
+wants_dump (Stencil nodes capacity phases cells dump) = dump
+wants_dump (Ring lines capacity items dump) = dump
+wants_dump (Count nodes adds capacity dump) = dump
+
 -- the result of these settings, and the dump of the lines on which it was made
 abbrev pub IsTextOf : Settings → List ℕ → Type 0
-IsTextOf (Stencil nodes capacity phases cells dump) text =
-    (closed : List ClosedLine) × AreClosed (FitsStencil cells phases) (2 * (length cells / 7)) closed × HaveNodes nodes closed × (text ≡ list_line (codes "cells") (plain cells phases) ++ dump_part dump nodes closed)
-IsTextOf (Ring lines capacity items dump) text =
-    (closed : List ClosedLine) × AreClosed (FitsRing items lines) (lines + 1) closed × HaveNodes 2 closed × (text ≡ list_line (codes "items") items ++ dump_part dump 2 closed)
-IsTextOf (Count nodes adds capacity dump) text =
-    (closed : List ClosedLine) × IsCounted ((nodes * adds) % 2 ^ 64) closed × HaveNodes nodes closed × (text ≡ count_line ((nodes * adds) % 2 ^ 64) ++ dump_part dump nodes closed)
-
--- the input is a text of settings, and this is what their run prints
-abbrev pub Runs : List ℕ → List ℕ → Type 0
-Runs input text = (settings : Settings) × AreSettings input settings × IsTextOf settings text
-
--- 22 says that the input is no text of settings; any other refusal comes of a run of its settings
-abbrev pub IsDeclined : WorkRefusal → List ℕ → Type 0
-IsDeclined WorkRefusal.OutOfMemory input = ⊥
-IsDeclined WorkRefusal.BadSettings input = (length input ≤ 1048576) × ((settings : Settings) → AreSettings input settings → ⊥)
-IsDeclined refusal input = (settings : Settings) × AreSettings input settings
-
--- what is written where the command fails: a front of a run's text where the writer failed, and else nothing
-abbrev pub StopsRun : SimFault → List ℕ → List ℕ → Type 0
-StopsRun CannotRead input written = written ≡ []
-StopsRun CannotWrite input written = (text : List ℕ) × (n : ℕ) × Runs input text × (n < length text) × (written ≡ take n text)
-StopsRun InputTooLong input written = (1048576 < length input) × (written ≡ [])
-StopsRun (Refused OutOfMemory) input written = written ≡ []
-StopsRun (Refused (BadCommand n)) input written = ⊥
-StopsRun (Refused (BadNumber n)) input written = ⊥
-StopsRun (Refused (NotDone n)) input written = ⊥
-StopsRun (Refused WriteFailed) input written = ⊥
-StopsRun (NoDump n) input written = ⊥
-StopsRun Unlawful input written = ⊥
-StopsRun (NoRun refusal) input written = IsDeclined refusal input × (written ≡ [])
+IsTextOf s text = (closed : List ClosedLine) × AreLeftBy s closed × (text ≡ result_line s ++ dump_part (wants_dump s) (nodes_of s) closed)
 
 -- a run of settings within the limits fails with 7, or with a refusal of the workload other than 22
 abbrev pub ComesInRun : SimFault → Type 0

@@ -2,14 +2,16 @@
 //!
 //! [`serve_script`], [`serve_trace`] and [`serve_draw`] run a script and write its run, [`serve_outcomes`] lists what the calls that it
 //! leaves open come to, [`serve_talk`] answers a script's commands one by one, [`serve_run`] and [`serve_run_by`] run the workload that
-//! settings ask for, [`serve_check`] checks a dump, and [`serve_legal`] a history. Each answers Ok or a [`SimFault`], which has the
-//! program's status; [`serve_outcomes`] a [`RaceFault`]. [`read_settings`] reads the settings of a workload.
+//! settings ask for, [`serve_history`] and [`serve_history_by`] write the history of its lines, [`serve_check`] checks a dump, and
+//! [`serve_legal`] a history. Each answers Ok or a [`SimFault`], which has the program's status; [`serve_outcomes`] a [`RaceFault`].
+//! [`read_settings`] reads the settings of a workload.
 //! [`script_is_talked`], [`entries_are_read_back`], [`turns_are_followed`] and [`logs_follow`] are laws: they compute nothing.
 #![tactic(auto)]
 
 mod checking;
 mod faults;
 mod following;
+mod histories;
 mod input;
 mod laws;
 mod legality;
@@ -17,6 +19,7 @@ mod playing;
 mod progress;
 mod racing;
 mod reasons;
+mod results;
 mod running;
 mod scripts;
 mod settings;
@@ -35,7 +38,7 @@ pub use playing::serve_play;
 pub use progress::{Progress, Visits};
 pub use racing::{RaceFault, serve_outcomes};
 pub use reasons::{Explain, Told, Untold, explanation};
-pub use running::{serve_run, serve_run_by};
+pub use running::{serve_history, serve_history_by, serve_run, serve_run_by};
 pub use scripts::{Form, serve, serve_buffered, serve_draw, serve_script, serve_trace};
 pub use settings::{Numbers, Settings, SettingsRefusal, read_settings};
 pub use talking::{serve_talk, serve_talk_by};

@@ -13,14 +13,16 @@ const STEP: u64 = 100_000;
 #[derive(Drop)]
 pub struct Progress<'c, C> {
     console: &'c C,
+    command: &'static str,
     ended: AtomicU64,
 }
 
 impl<'c, C> Progress<'c, C> {
-    /// A gate that tells this console, from 0 calls on.
-    pub fn new(console: &'c C) -> Progress<'c, C> {
+    /// A gate that tells this console of a run by this command, from 0 calls on.
+    pub fn new(console: &'c C, command: &'static str) -> Progress<'c, C> {
         Progress {
             console,
+            command,
             ended: AtomicU64::new(0),
         }
     }
@@ -37,7 +39,8 @@ impl<C: Eprint + Sync> Gate for Progress<'_, C> {
         let calls = self.ended.fetch_add(1, Ordering::SeqCst).wrapping_add(1);
         if calls % STEP == 0 {
             // a line that isn't written changes nothing of the run
-            let _ = eprintln!(self.console; "scisim: run: {calls} calls");
+            let command = self.command;
+            let _ = eprintln!(self.console; "scisim: {command}: {calls} calls");
         }
     }
 

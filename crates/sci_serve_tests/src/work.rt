@@ -9,6 +9,7 @@ mod meeting;
 mod nodes;
 mod overrun;
 mod passing;
+mod receipts;
 mod refusals;
 mod rings;
 mod stencils;

@@ -91,35 +91,39 @@ fn given_back(bank: SoloBank<AnyWords>) -> Lent {
     Lent { lines, receipts }
 }
 
-// The open call of a node of three lines, in turns that all move: how many there were, its answer, and the lines after it.
+// The open call of a node over its bank, in turns that all move: how many there were, and its answer.
 #[tactic(auto, using(sci_cache::proofs::Storing::any_call_fits))]
-fn ended(node: &mut Node, wholes: Lent) -> Option<(u32, Answer, Lent)>
-    requires { node.old.lines ≡ 3 }
-    ensures { node.new.lines ≡ 3 }
+fn ended(node: &mut Node, bank: &mut SoloBank<AnyWords>) -> Option<(u32, Answer)>
+    requires node { node.old.id ≡ bank.old.node }
+    requires lines { length bank.old.wholes.items ≡ node.old.lines }
+    ensures node { node.new.id ≡ bank.new.node }
+    ensures lines { length bank.new.wholes.items ≡ node.new.lines }
+    ensures same { node.new.lines ≡ node.old.lines }
 {
-    if wholes.lines.len() != 3 {
-        return None;
-    }
-    let mut bank = banked(wholes, node.id())?;
     for turns in 1..100 {
-        match node.turn(&mut bank) {
+        match node.turn(bank) {
             Ok(Turn::Moved) => {}
-            Ok(Turn::Done(answer)) => return Some((turns, answer, given_back(bank))),
+            Ok(Turn::Done(answer)) => return Some((turns, answer)),
             Ok(Turn::Waiting) | Err(_) => return None,
         }
     }
     None
 }
 
-// A request of such a node, to its end.
-fn done(node: &mut Node, wholes: Lent, request: Request) -> Option<(u32, Answer, Lent)>
+// A request of a node of three lines, to its end: how many turns it took, its answer, and the lines after it.
+fn done(node: &mut Node, lent: Lent, request: Request) -> Option<(u32, Answer, Lent)>
     requires { node.old.lines ≡ 3 }
     ensures { node.new.lines ≡ 3 }
 {
-    if node.begin(request).is_err() {
+    if lent.lines.len() != 3 {
         return None;
     }
-    ended(node, wholes)
+    let mut bank = banked(lent, node.id())?;
+    if node.begin(&mut bank, request).is_err() {
+        return None;
+    }
+    let (turns, answer) = ended(node, &mut bank)?;
+    Some((turns, answer, given_back(bank)))
 }
 
 // The names of memory's word and of a node's tag on a line.

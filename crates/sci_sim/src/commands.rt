@@ -1,6 +1,6 @@
 //! The program's command line, and its help.
 
-use crate::histories::HISTORIES;
+use crate::histories::{HISTORIES, KEPT};
 use crate::races::{OUTCOMES, PLAYS};
 use clap::{Arg, ArgAction, Command};
 use std::alloc::AllocError;
@@ -21,6 +21,7 @@ Scripts:
 
 Workloads:
   run       Runs a workload, each node in a thread of its own, and prints its result
+  history   Runs a workload, and prints what its nodes read and wrote on each line
 
 Checks of your own texts:
   check     Checks that each line of a dump is an exact sharing list
@@ -39,8 +40,8 @@ Example:
 
 `scisim script --help` lists the commands of scripts, `scisim trace --help` has the lines of turns, `scisim draw --help` the keys of
 pages, `scisim outcomes --help` what is listed, `scisim play --help` the keys of its page, `scisim talk --help` the answers,
-`scisim run --help` the keys of settings, `scisim check --help` the format of dumps, `scisim legal --help` that of histories, and
-`scisim follow --help` that of logs; they say what each refusal means.
+`scisim run --help` the keys of settings, `scisim history --help` what is kept of a run, `scisim check --help` the format of dumps,
+`scisim legal --help` that of histories, and `scisim follow --help` that of logs; they say what each refusal means.
 ";
 
 const SCRIPTS: &str = "\
@@ -347,6 +348,12 @@ fn run<'a>(rt: &impl AllocGlobal) -> Result<Command<'a>, AllocError> {
     reader_of(rt, "run", about, SETTINGS, file)?.arg(progress(rt))
 }
 
+fn history<'a>(rt: &impl AllocGlobal) -> Result<Command<'a>, AllocError> {
+    let about = "Runs a workload, and prints what its nodes read and wrote on each line";
+    let file = "the settings; without it standard input is read";
+    reader_of(rt, "history", about, KEPT, file)?.arg(progress(rt))
+}
+
 fn check<'a>(rt: &impl AllocGlobal) -> Result<Command<'a>, AllocError> {
     let about = "Checks that each line of a dump is an exact sharing list";
     let file = "the dump; without it standard input is read";
@@ -393,6 +400,7 @@ pub fn commands<'a>(rt: &impl AllocGlobal) -> Result<Command<'a>, AllocError> {
     let program = with(program, play(rt));
     let program = with(program, talk(rt));
     let program = with(program, run(rt));
+    let program = with(program, history(rt));
     let program = with(program, check(rt));
     let program = with(program, legal(rt));
     with(program, follow(rt))

@@ -1,4 +1,4 @@
-//! The help of the command that checks histories.
+//! The help of the commands that write and check histories.
 
 /// What `scisim legal --help` says behind its options.
 pub const HISTORIES: &str = "\
@@ -35,3 +35,19 @@ Example: one node writes 7 into word 0, and another reads it.
   wrote 0 1 7 0 0 0 0 0 0 0 over 0 0 0 0 0 0 0 0
   read 1 1 7 0 0 0 0 0 0 0
   end";
+
+/// What `scisim history --help` says behind its options.
+pub const KEPT: &str = "\
+Reads settings as `scisim run` does, runs their workload, and prints the history of its lines and nothing else, dump or not: with what
+each line was closed, and what each node read and wrote there, in its order. `scisim run --help` lists the keys of settings,
+`scisim legal --help` has the format of histories. Each line opens with zeros.
+
+What is printed is legal, whatever the threads did: `scisim history FILE | scisim legal` prints `legal`. Two runs of the same settings
+may print two histories. A node keeps 144 bytes for each receipt: up to two of a write, one of any other call that reads or waits.
+So `work = \"count\"` with 64 nodes and 1000000 adds wants 9.2 GB or more.
+
+Nothing is printed before the end, and nothing says that the end comes. With --progress lines such as `scisim: history: 100000 calls`
+come on standard error meanwhile. Its refusals and faults are those of `run`; nothing is printed then.
+
+Example: two nodes count to 6, and the check of what they read and wrote.
+  printf 'work = \"count\"\nnodes = 2\nadds = 3\ncapacity = 1\n' | scisim history | scisim legal";

@@ -1,7 +1,7 @@
 //! `scisim script [FILE]` runs a script; `scisim trace [FILE]` says of each turn what it did, and `scisim draw [FILE]` shows it on a
 //! page; `scisim outcomes [FILE]` lists the outcomes of the calls that it leaves open, and `scisim play [FILE]` writes a page of their
-//! states; `scisim talk` answers a script's commands one by one; `scisim run [FILE]` runs a workload; `scisim check [FILE]` checks a
-//! dump, `scisim legal [FILE]` a history, and `scisim follow [FILE]` a log.
+//! states; `scisim talk` answers a script's commands one by one; `scisim run [FILE]` runs a workload, and `scisim history [FILE]` prints
+//! the history of its lines; `scisim check [FILE]` checks a dump, `scisim legal [FILE]` a history, and `scisim follow [FILE]` a log.
 #![tactic(auto)]
 
 ghost use Rattle.std.specs.Prelude.{◌≤◌, length, IfOk};
@@ -14,8 +14,8 @@ use clap::{ArgMatches, Error, error};
 use commands::commands;
 use sci_serve::{
     Form, Progress, RaceFault, SimFault, Told, Visits, explanation, read_input, serve_buffered,
-    serve_check, serve_follow, serve_legal, serve_outcomes, serve_play, serve_run, serve_run_by,
-    serve_talk, serve_talk_by,
+    serve_check, serve_follow, serve_history, serve_history_by, serve_legal, serve_outcomes,
+    serve_play, serve_run, serve_run_by, serve_talk, serve_talk_by,
 };
 use std::alloc::{AllocError, Global};
 use std::fs::File;
@@ -163,32 +163,65 @@ fn script_explained(
     }
 }
 
-/// Runs the settings of a reader, and says meanwhile on standard error how many calls have ended, where that is wanted.
+/// Runs the settings of a reader, and prints the result, or the history of its lines. It says meanwhile on standard error how many calls
+/// have ended.
+fn run_told<T: Threads + Wait + Eprint + Sync, R: Read, W: Write>(
+    threads: &T,
+    alloc: Global,
+    keeps: bool,
+    reader: &mut R,
+    writer: &mut W,
+) -> Result<(), SimFault> {
+    if keeps {
+        let progress = Progress::new(threads, "history");
+        serve_history_by(threads, alloc, &progress, reader, writer)
+    } else {
+        let progress = Progress::new(threads, "run");
+        serve_run_by(threads, alloc, &progress, reader, writer)
+    }
+}
+
+/// Runs the settings of a reader, and prints the result, or the history of its lines.
 fn run_from<T: Threads + Wait + Eprint + Sync, R: Read, W: Write>(
     threads: &T,
     alloc: Global,
+    keeps: bool,
     says: bool,
     reader: &mut R,
     writer: &mut W,
 ) -> Result<(), SimFault> {
     if says {
-        serve_run_by(threads, alloc, &Progress::new(threads), reader, writer)
+        run_told(threads, alloc, keeps, reader, writer)
+    } else if keeps {
+        serve_history(threads, alloc, reader, writer)
     } else {
         serve_run(threads, alloc, reader, writer)
     }
 }
 
-/// The nodes' threads are started by the other handle.
+/// The command `run` or `history`. The nodes' threads are started by the other handle.
 fn run<T: Threads + Wait + Eprint + Sync>(
     rt: &HostRuntime,
     threads: &T,
-    path: Option<&str>,
-    says: bool,
+    name: &str,
+    options: &ArgMatches<'_>,
 ) -> Result<(), SimFault> {
+    let keeps = name == "history";
+    let says = options.get_flag("progress");
     let mut output = io::writer(rt);
-    match path {
-        Some(path) => run_from(threads, rt.alloc(), says, &mut open(rt, path)?, &mut output),
-        None => run_from(threads, rt.alloc(), says, &mut rt.reader(), &mut output),
+    match options.get_str("FILE") {
+        Some(path) => {
+            let mut file = open(rt, path)?;
+            run_from(threads, rt.alloc(), keeps, says, &mut file, &mut output)
+        }
+        None => run_from(
+            threads,
+            rt.alloc(),
+            keeps,
+            says,
+            &mut rt.reader(),
+            &mut output,
+        ),
     }
 }
 
@@ -260,7 +293,7 @@ fn served<T: Threads + Wait + Eprint + Sync>(
     match name {
         "script" | "trace" | "draw" => script(rt, form(name, options), path)?,
         "talk" => talk(rt, options.get_flag("why"))?,
-        "run" => run(rt, threads, path, options.get_flag("progress"))?,
+        "run" | "history" => run(rt, threads, name, options)?,
         "check" => check(rt, path)?,
         "legal" => legal(rt, path)?,
         "follow" => follow(rt, path)?,

@@ -10,6 +10,7 @@ pub mod Locked
 pub mod Making
 pub mod Opening
 pub mod Plain
+pub mod Reached
 pub mod Refusing
 pub mod Residual
 pub mod Seated

@@ -13,6 +13,7 @@ use Rattle.sci_cache.specs.declared.requests.Request.{Request}
 use Rattle.sci_cache.specs.Called.{HasCalled}
 use Rattle.sci_cache.specs.Nodes.{IsIdleBut, NodeState, Waits}
 use Rattle.sci_work.specs.Made.{IsBankOf, IsStillBankOf, Made, none, ready, look, load, write, refused}
+use Rattle.sci_work.proofs.Reached.{called}
 
 pub on_ok : {A E X : Type 0} → (r : Result A E) → X → OnOk r X
 on_ok (Ok a) x = x
@@ -50,7 +51,7 @@ module _ {U : Type 0} (gives : U → ℕ → Call → U → Type 0) (readies : U
 module _ {U K : Type 0} {way : U → BankWay} {nodes_on : U → ℕ → ℕ} {keep : U → K} {fits : K → ℕ → List ℕ → Type 0} {gives : U → ℕ → Call → U → Type 0} {readies : U → ℕ → Readying → U → Type 0} {step : U → ℕ → Pending} {told : U → ℕ → ReceiptList}
     (n : NodeState) (r : Request) (u : U) (result : Result Answer NodeRefusal) (v : U) (m : NodeState) (h : HasCalled way nodes_on keep fits gives readies step told n r u result v m) where
   -- a call that waited leaves the bank the node's
-  pub still_called : IsBankOf (way u) n → IsStillBankOf way keep step gives readies told u m v
+  pub still_called : IsBankOf (way u) n → IsStillBankOf n.keeps way keep step gives readies told u m v
   still_called bank =
       let closed : m.call ≡ None = closed_after gives readies step n r h.ready result v m h.waits bank.closed in
       record {
@@ -59,10 +60,12 @@ module _ {U K : Type 0} {way : U → BankWay} {nodes_on : U → ℕ → ℕ} {ke
           lines = ap (λ (x : BankWay). x.lines) h.same_way ∙ bank.lines ∙ sym h.same_node.lines;
           closed = closed;
         };
+        same_keeps = h.same_node.keeps;
+        reached = called step n r u h.ready result v m h.readied h.waits;
         same_way = h.same_way;
         same_fact = h.same_fact;
         rests = record {
           idle = λ idle. subst (λ (c : Option OpenCall). IsIdleBut c (step v)) closed (h.rest (subst (λ (c : Option OpenCall). IsIdleBut c (step u)) (sym bank.closed) idle));
-          kept = λ idle. (h.kept idle).all;
+          kept = λ yes idle. (h.kept yes idle).all;
         };
       }

@@ -9,26 +9,27 @@ use Rattle.sci_fine.specs.declared.line.FineLine.{FineLine}
 use Rattle.sci_fine.specs.declared.seats.Seat.{Seat}
 use Rattle.sci_fine.specs.Kept.{HasKeptAll}
 use Rattle.sci_fine.specs.Seats.{IsSeatOf}
+use Rattle.sci_work.specs.declared.keeping.Keeping.{Keeping}
 
 -- P holds of each place and the element there
 abbrev pub AtEach : {A : Type 0} → (ℕ → A → Type 0) → List A → Type 0
 AtEach {A} P xs = (k : ℕ) (x : A) → get_elem? xs k ≡ some x → P k x
 
--- the node's seat at this very line, Idle, and with the receipts of all that it did
-pub record IsIdleSeat {K : Type 0} {g : keeps.Ghosts K} (node : ℕ) (l : FineLine K) (s : Seat K g) : Type 0 where
+-- the node's seat at this very line, Idle, and with the receipts of all that it did, where that is kept
+pub record IsIdleSeat {K : Type 0} {g : keeps.Ghosts K} (keeping : Keeping) (node : ℕ) (l : FineLine K) (s : Seat K g) : Type 0 where
   pub of : IsSeatOf l s
   pub node_is : s.standing.node ≡ node
   pub idle : s.standing.pending ≡ Pending.Idle
-  pub kept : HasKeptAll s
+  pub kept : keeping ≡ Keeping.All → HasKeptAll s
 
 -- the node's seats, one at each line, in order, and all Idle
-pub record IsHandOf {K : Type 0} {g : keeps.Ghosts K} (lines : List (FineLine K)) (node : ℕ) (seats : List (Seat K g)) : Type 0 where
+pub record IsHandOf {K : Type 0} {g : keeps.Ghosts K} (keeping : Keeping) (lines : List (FineLine K)) (node : ℕ) (seats : List (Seat K g)) : Type 0 where
   pub count : length seats ≡ length lines
-  pub each : (k : ℕ) (l : FineLine K) (s : Seat K g) → get_elem? lines k ≡ some l → get_elem? seats k ≡ some s → IsIdleSeat node l s
+  pub each : (k : ℕ) (l : FineLine K) (s : Seat K g) → get_elem? lines k ≡ some l → get_elem? seats k ≡ some s → IsIdleSeat keeping node l s
 
--- each seat is one of this very line, Idle, and with the receipts of all that it did
-abbrev pub AreIdle : {K : Type 0} {g : keeps.Ghosts K} → FineLine K → List (Seat K g) → Type 0
-AreIdle {K} {g} l seats = (k : ℕ) (s : Seat K g) → get_elem? seats k ≡ some s → IsSeatOf l s × (s.standing.pending ≡ Pending.Idle) × HasKeptAll s
+-- each seat is one of this very line, Idle, and with the receipts of all that it did, where that is kept
+abbrev pub AreIdle : {K : Type 0} {g : keeps.Ghosts K} → Keeping → FineLine K → List (Seat K g) → Type 0
+AreIdle {K} {g} keeping l seats = (k : ℕ) (s : Seat K g) → get_elem? seats k ≡ some s → IsSeatOf l s × (s.standing.pending ≡ Pending.Idle) × (keeping ≡ Keeping.All → HasKeptAll s)
 
 -- the hand at each place holds the seat at that place alone
 abbrev pub HoldEach : {K : Type 0} {g : keeps.Ghosts K} → List (Vec (Seat K g)) → List (Seat K g) → Type 0

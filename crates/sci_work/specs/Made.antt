@@ -1,5 +1,5 @@
 -- What a worker has done through its node and its bank: calls that waited for their end, and looks, one after another.
-use Rattle.std.specs.Prelude.{◌≡◌, ℕ, ◌≤◌, Option, Result, Ok, Err, None, List, [], ◌∷◌}
+use Rattle.std.specs.Prelude.{◌≡◌, ℕ, ◌≤◌, Bool, true, Option, Result, Ok, Err, None, List, [], ◌∷◌}
 use Rattle.sci_words.specs.declared.tags.Tag.{Tag}
 use Rattle.sci_core.specs.declared.pending.Pending.{Pending}
 use Rattle.sci_port.specs.declared.calls.Call.{Call}
@@ -20,17 +20,26 @@ pub record IsBankOf (way : BankWay) (n : NodeState) : Type 0 where
   pub lines : way.lines ≡ n.lines
   pub closed : n.call ≡ None
 
--- from the bank u to v, a node that was Idle on every line is so again, and its receipts keep all that it did
-pub record RestsAgain {U : Type 0} (step : U → ℕ → Pending) (gives : U → ℕ → Call → U → Type 0) (readies : U → ℕ → Readying → U → Type 0) (told : U → ℕ → ReceiptList) (u v : U) : Type 0 where
-  pub idle : ((line : ℕ) → step u line ≡ Pending.Idle) → (line : ℕ) → step v line ≡ Pending.Idle
-  pub kept : ((line : ℕ) → step u line ≡ Pending.Idle) → KeepsAll gives readies told u v
+-- from one bank to another by calls on lines, and by such as ready receipts
+pub data IsReached {U : Type 0} (gives : U → ℕ → Call → U → Type 0) (readies : U → ℕ → Readying → U → Type 0) : U → U → Type 0 where
+  stays : {u : U} → IsReached gives readies u u
+  by_call : {u w v : U} → (line : ℕ) → (call : Call) → gives u line call w → IsReached gives readies w v → IsReached gives readies u v
+  by_readying : {u w v : U} → (line : ℕ) → (r : Readying) → readies u line r w → IsReached gives readies w v → IsReached gives readies u v
 
--- from the bank u to v it is the node's with no call open still, of as many lines, under the same fact, and at rest if it was
-pub record IsStillBankOf {U K : Type 0} (way : U → BankWay) (keep : U → K) (step : U → ℕ → Pending) (gives : U → ℕ → Call → U → Type 0) (readies : U → ℕ → Readying → U → Type 0) (told : U → ℕ → ReceiptList) (u : U) (n : NodeState) (v : U) : Type 0 where
+-- from the bank u to v, a node that was Idle on every line is so again, and its receipts keep all that it did, if it keeps any
+pub record RestsAgain {U : Type 0} (keeps : Bool) (step : U → ℕ → Pending) (gives : U → ℕ → Call → U → Type 0) (readies : U → ℕ → Readying → U → Type 0) (told : U → ℕ → ReceiptList) (u v : U) : Type 0 where
+  pub idle : ((line : ℕ) → step u line ≡ Pending.Idle) → (line : ℕ) → step v line ≡ Pending.Idle
+  pub kept : keeps ≡ true → ((line : ℕ) → step u line ≡ Pending.Idle) → KeepsAll gives readies told u v
+
+-- from the bank u to v it is the node's with no call open still, of as many lines, under the same fact, and at rest if it was; the node
+-- keeps receipts as before, or none
+pub record IsStillBankOf {U K : Type 0} (keeps : Bool) (way : U → BankWay) (keep : U → K) (step : U → ℕ → Pending) (gives : U → ℕ → Call → U → Type 0) (readies : U → ℕ → Readying → U → Type 0) (told : U → ℕ → ReceiptList) (u : U) (n : NodeState) (v : U) : Type 0 where
   pub ready : IsBankOf (way v) n
+  pub same_keeps : n.keeps ≡ keeps
+  pub reached : IsReached gives readies u v
   pub same_way : way v ≡ way u
   pub same_fact : keep v ≡ keep u
-  pub rests : RestsAgain step gives readies told u v
+  pub rests : RestsAgain keeps step gives readies told u v
 
 -- a call on a line that there is, begun where none is open, is refused with 7 or 11
 abbrev pub IsLineRefusal : NodeRefusal → Type 0
@@ -71,6 +80,7 @@ module _ {U : Type 0} (gives : U → ℕ → Call → U → Type 0) (readies : U
 -- from the bank u to v any node has only looked at own tags
 pub record HasWatched {U K : Type 0} (way : U → BankWay) (keep : U → K) (step : U → ℕ → Pending) (gives : U → ℕ → Call → U → Type 0) (readies : U → ℕ → Readying → U → Type 0) (told : U → ℕ → ReceiptList) (u v : U) : Type 0 where
   pub made : (n : NodeState) → Made gives readies step [] n u n v
+  pub reached : IsReached gives readies u v
   pub same_way : way v ≡ way u
   pub same_fact : keep v ≡ keep u
-  pub rests : RestsAgain step gives readies told u v
+  pub rests : RestsAgain true step gives readies told u v

@@ -8,6 +8,7 @@ use Rattle.sci_port.specs.KeepsAll.{writes_in}
 use Rattle.sci_fine.specs.declared.line.FineLine.{FineLine}
 use Rattle.sci_fine.specs.declared.seats.Seat.{Seat}
 use Rattle.sci_fine.specs.Banks.{AreLines}
+use Rattle.sci_work.specs.declared.keeping.Keeping.{Keeping}
 use Rattle.sci_work.specs.declared.programs.Program.{Program}
 use Rattle.sci_work.specs.declared.refusals.WorkRefusal.{WorkRefusal}
 use Rattle.sci_work.specs.Adding.{AreAdds}
@@ -27,7 +28,7 @@ Ends program seats = Unit {0}
 -- the lines of one memory, the node's seats at them, and a program that suits their fact
 pub record IsPart {K : Type 0} {g : keeps.Ghosts K} (fits : K → ℕ → List ℕ → Type 0) (lines : List (FineLine K)) (program : Program) (number : ℕ) (seats : List (Seat K g)) : Type 0 where
   pub lines_are : AreLines lines
-  pub hand : IsHandOf lines number seats
+  pub hand : IsHandOf Keeping.All lines number seats
   pub begins : Begins program seats
   pub suits : (l : FineLine K) → get_elem? lines 0 ≡ some l → Suits program (fits l.terms.keep) (length lines) number
 
@@ -35,22 +36,22 @@ pub record IsPart {K : Type 0} {g : keeps.Ghosts K} (fits : K → ℕ → List �
 pub record AreParts {K : Type 0} {g : keeps.Ghosts K} (fits : K → ℕ → List ℕ → Type 0) (lines : List (FineLine K)) (program : Program) (hands : Vec (Vec (Seat K g))) : Type 0 where
   pub lines_are : AreLines lines
   pub few : vec_len hands ≤ 64
-  pub hands_are : AtEach (λ k hand. IsHandOf lines k hand.items) hands.items
+  pub hands_are : AtEach (λ k hand. IsHandOf Keeping.All lines k hand.items) hands.items
   pub begin : AtEach (λ k hand. Begins program hand.items) hands.items
   pub suits : (k : ℕ) (l : FineLine K) → k < vec_len hands → get_elem? lines 0 ≡ some l → Suits program (fits l.terms.keep) (length lines) k
 
--- the node's seats, Idle again, and its share, or why there is none
-pub record IsPartDone {K : Type 0} {g : keeps.Ghosts K} (lines : List (FineLine K)) (program : Program) (number : ℕ) (seats : List (Seat K g)) (share : Result (Vec ℕ) WorkRefusal) : Type 0 where
-  pub hand : IsHandOf lines number seats
+-- the node's seats, Idle again, with its receipts where they are kept, and its share, or why there is none
+pub record IsPartDone {K : Type 0} {g : keeps.Ghosts K} (keeping : Keeping) (lines : List (FineLine K)) (program : Program) (number : ℕ) (seats : List (Seat K g)) (share : Result (Vec ℕ) WorkRefusal) : Type 0 where
+  pub hand : IsHandOf keeping lines number seats
   pub share_is : IfOk share (λ s. IsShareOf program number s.items)
-  pub ends : OnOk share (Ends program seats)
+  pub ends : keeping ≡ Keeping.All → OnOk share (Ends program seats)
   pub refused : IfErr share (ComesInPart program)
 
 -- what so many nodes have ended with: their seats, Idle again, and their shares
-pub record AreEnded {K : Type 0} {g : keeps.Ghosts K} (lines : List (FineLine K)) (program : Program) (nodes : ℕ) (hands : Vec (Vec (Seat K g))) (shares : Vec (Vec ℕ)) : Type 0 where
+pub record AreEnded {K : Type 0} {g : keeps.Ghosts K} (keeping : Keeping) (lines : List (FineLine K)) (program : Program) (nodes : ℕ) (hands : Vec (Vec (Seat K g))) (shares : Vec (Vec ℕ)) : Type 0 where
   pub hand_count : vec_len hands ≡ nodes
-  pub hands_are : AtEach (λ k hand. IsHandOf lines k hand.items) hands.items
-  pub end : AtEach (λ k hand. Ends program hand.items) hands.items
+  pub hands_are : AtEach (λ k hand. IsHandOf keeping lines k hand.items) hands.items
+  pub end : keeping ≡ Keeping.All → AtEach (λ k hand. Ends program hand.items) hands.items
   pub share_count : vec_len shares ≡ nodes
   pub shares_are : AtEach (λ k share. IsShareOf program k share.items) shares.items
 

@@ -1,5 +1,5 @@
 -- A node at work on a bank, between two of its calls. This project's profile.
-use Rattle.std.specs.Prelude.{◌≡◌, ℕ, None}
+use Rattle.std.specs.Prelude.{◌≡◌, ℕ, Bool, true, false, None}
 use Rattle.sci_core.specs.declared.pending.Pending.{Pending}
 use Rattle.sci_port.specs.declared.calls.Call.{Call}
 use Rattle.sci_port.specs.Banks.{BankWay}
@@ -7,6 +7,13 @@ use Rattle.sci_port.specs.KeepsAll.{KeepsAll}
 use Rattle.sci_port.specs.Readying.{Readying}
 use Rattle.sci_port.specs.ReceiptList.{ReceiptList}
 use Rattle.sci_cache.specs.Nodes.{NodeState}
+use Rattle.sci_work.specs.declared.keeping.Keeping.{Keeping}
+use Rattle.sci_work.specs.Made.{IsReached}
+
+-- whether a node keeps receipts
+abbrev pub keeps_any : Keeping → Bool
+keeps_any Keeping.All = true
+keeps_any Keeping.Nothing = false
 
 -- the bank is this node's and has its lines, no call is open, and the node is Idle on every line
 pub record IsReady {U : Type 0} (step : U → ℕ → Pending) (way : BankWay) (n : NodeState) (u : U) : Type 0 where
@@ -15,10 +22,12 @@ pub record IsReady {U : Type 0} (step : U → ℕ → Pending) (way : BankWay) (
   pub free : n.call ≡ None
   pub idle : (line : ℕ) → step u line ≡ Pending.Idle
 
--- a node's work led the bank u to v: by calls each of which found room for its receipt, and all have ended; it is the node's as before,
--- and under the same fact
-pub record HasWorked {U K : Type 0} (way : U → BankWay) (keep : U → K) (step : U → ℕ → Pending) (gives : U → ℕ → Call → U → Type 0) (readies : U → ℕ → Readying → U → Type 0) (told : U → ℕ → ReceiptList) (u : U) (n : NodeState) (v : U) : Type 0 where
+-- a node's work led the bank u to v: all its calls have ended, and if it keeps receipts, each found room for its own; it is the node's as
+-- before, and under the same fact
+pub record HasWorked {U K : Type 0} (keeps : Bool) (way : U → BankWay) (keep : U → K) (step : U → ℕ → Pending) (gives : U → ℕ → Call → U → Type 0) (readies : U → ℕ → Readying → U → Type 0) (told : U → ℕ → ReceiptList) (u : U) (n : NodeState) (v : U) : Type 0 where
   pub ready : IsReady step (way v) n v
-  pub kept : KeepsAll gives readies told u v
+  pub same_keeps : n.keeps ≡ keeps
+  pub reached : IsReached gives readies u v
+  pub kept : keeps ≡ true → KeepsAll gives readies told u v
   pub same_way : way v ≡ way u
   pub same_fact : keep v ≡ keep u

@@ -1,16 +1,18 @@
 //! Nodes that count on one line.
 ghost use Rattle.std.specs.Prelude.{◌≡◌, ◌≢◌, ◌<◌, ◌≤◌, ◌↔◌, ◌*◌, ◌%◌, ◌^◌, Err, length, slice_index, IfOk, IfErr, IsTrue};
 ghost use Rattle.sci_core.specs.Closed.{IsExactClosed, value_of};
-ghost use Rattle.sci_work.specs.Ended.{HaveNodes, IsCounted, IsCountSize};
+ghost use Rattle.sci_work.specs.Ended.{AreHistories, HaveNodes, IsCounted, IsCountSize, IsLineHistory, lists_in};
 ghost use Rattle.sci_work.specs.Starts.{ComesInCount, ComesInStart};
 
 use crate::gates::Gate;
+use crate::keeping::{ClosedMemory, Keeping};
 use crate::lines::{finished, zeroed};
 use crate::programs::Program;
 use crate::refusals::WorkRefusal;
 use crate::seating::{dealt, gathered};
 use crate::starting::run_all;
-use sci_core::{AnyWords, Closed};
+use sci_core::AnyWords;
+use sci_fine::Finished;
 use std::alloc::Global;
 use std::slice;
 use std::sync::Wait;
@@ -23,7 +25,7 @@ fn is_count_size(nodes: u16, adds: u64, capacity: u16) -> bool
     nodes >= 1 && nodes <= 64 && adds <= 1_000_000 && capacity >= 1 && capacity <= 1024
 }
 
-// The line as it is closed, once each node has ended its adds.
+// The line as it is closed, once each node has ended its adds, and what each kept.
 fn counted<R: Threads + Wait + Sync, G: Gate>(
     rt: &R,
     alloc: Global,
@@ -31,11 +33,12 @@ fn counted<R: Threads + Wait + Sync, G: Gate>(
     adds: u64,
     capacity: u16,
     gate: &G,
-) -> Result<Closed, WorkRefusal>
+) -> Result<Finished, WorkRefusal>
     requires { (0 < nodes) × (nodes ≤ 64) }
-    ensures ok { IfOk result (λ closed. IsExactClosed closed) }
-    ensures total { IfOk result (λ closed. slice_index (value_of closed).words 0 ≡ (nodes * adds) % 2 ^ 64) }
-    ensures nodes { IfOk result (λ closed. length closed.tags ≡ nodes) }
+    ensures ok { IfOk result (λ one. IsExactClosed one.closed) }
+    ensures total { IfOk result (λ one. slice_index (value_of one.closed).words 0 ≡ (nodes * adds) % 2 ^ 64) }
+    ensures nodes { IfOk result (λ one. length one.closed.tags ≡ nodes) }
+    ensures history { IfOk result (λ one. IsLineHistory nodes one.closed (lists_in one.receipts)) }
     ensures err { IfErr result (ComesInStart (Program.Count adds)) }
 {
     let (line, seats) = zeroed(alloc, nodes, 0, AnyWords)?;
@@ -48,16 +51,19 @@ fn counted<R: Threads + Wait + Sync, G: Gate>(
         slice::from_ref(&line),
         hands,
         program,
+        Keeping::All,
         capacity,
     )?;
     let seats = gathered(alloc, &line, hands)?;
-    finished(alloc, line, seats)
+    finished(alloc, line, Keeping::All, seats)
 }
 
 /// Each of 1 to 64 nodes, in a thread of its own, adds 1 to word 0 of line 0, at most 1,000,000 times. Gives the word once the
-/// line is closed, which is all adds modulo 2^64, and the closed line, an exact sharing list. A node's table names up to 1,024 lines. It may wait for ever. The
-/// refusals: 22 for a number outside these limits; then that of the lowest node whose refusal isn't 25: 7, 11, 20 where the gate
-/// held a call back to its limit, and 26 where the node's thread couldn't be started. A refused growth outside the nodes is 7.
+/// line is closed, which is all adds modulo 2^64, and the closed line, an exact sharing list, with the receipts of each node: they are
+/// one history of the line. A node keeps up to two of each add, of 144 bytes each. A node's table names up to 1,024 lines. It may
+/// wait for ever. The refusals: 22 for a number outside these limits; then that of the lowest node whose refusal isn't 25: 7, 11, 20
+/// where the gate held a call back to its limit, and 26 where the node's thread couldn't be started. A refused growth outside the
+/// nodes is 7.
 pub fn count<R: Threads + Wait + Sync, G: Gate>(
     rt: &R,
     alloc: Global,
@@ -65,21 +71,22 @@ pub fn count<R: Threads + Wait + Sync, G: Gate>(
     adds: u64,
     capacity: u16,
     gate: &G,
-) -> Result<(u64, Vec<Closed>), WorkRefusal>
+) -> Result<(u64, ClosedMemory), WorkRefusal>
     ensures limits { (result ≡ Err WorkRefusal.BadSettings) ↔ (IsCountSize nodes adds capacity → ⊥) }
     ensures total { IfOk result (λ r. r.0 ≡ (nodes * adds) % 2 ^ 64) }
-    ensures ok { IfOk result (λ r. IsCounted r.0 r.1.items) }
-    ensures nodes { IfOk result (λ r. HaveNodes nodes r.1.items) }
+    ensures ok { IfOk result (λ r. IsCounted r.0 r.1.lines.items) }
+    ensures nodes { IfOk result (λ r. HaveNodes nodes r.1.lines.items) }
+    ensures kept { IfOk result (λ r. AreHistories nodes r.1) }
     ensures err { IfErr result ComesInCount }
 {
     if !is_count_size(nodes, adds, capacity) {
         return Err(WorkRefusal::BadSettings);
     }
-    let closed = counted(rt, alloc, nodes, adds, capacity, gate)?;
-    let word = closed.value().words[0];
-    let mut lines = Vec::new(alloc);
-    let Ok(()) = lines.push(closed) else {
-        return Err(WorkRefusal::OutOfMemory);
-    };
-    Ok((word, lines))
+    let one = counted(rt, alloc, nodes, adds, capacity, gate)?;
+    let word = one.closed.value().words[0];
+    let mut lines = Vec::with_capacity(alloc, 1)?;
+    let mut receipts = Vec::with_capacity(alloc, 1)?;
+    lines.push_reserved(one.closed);
+    receipts.push_reserved(one.receipts);
+    Ok((word, ClosedMemory { lines, receipts }))
 }

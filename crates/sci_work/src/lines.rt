@@ -1,20 +1,24 @@
 //! The lines of a workload, and each node's seats at them.
-ghost use Rattle.std.specs.Prelude.{◌≡◌, ◌<◌, ◌≤◌, ◌++◌, ◌∷◌, [], ℕ, replicate, IfOk, IfErr, vec_len};
+ghost use Rattle.std.specs.Prelude.{◌≡◌, ◌<◌, ◌≤◌, ◌++◌, ◌∷◌, [], ℕ, length, replicate, IfOk, IfErr, vec_capacity, vec_len};
+ghost use Rattle.sci_core.specs.State.{blank};
 ghost use Rattle.sci_fine.specs.Banks.{IsLine};
 ghost use Rattle.sci_fine.specs.Seats.{AreNew};
-ghost use Rattle.sci_work.specs.Ended.{AreClosedOf, IsClosedOf, IsHistoryOf};
+ghost use Rattle.sci_fine.specs.Kept.{lists_of};
+ghost use Rattle.sci_work.specs.declared.keeping.Keeping as keeps;
+ghost use Rattle.sci_work.specs.Ended.{AreClosedOf, AreKeptOf, IsClosedOf, IsHistoryOf, lists_in};
 ghost use Rattle.sci_work.specs.Hands.{AreIdle, AtEach, IsHandOf, IsIdleSeat};
 
+use crate::keeping::{ClosedMemory, Keeping};
 use crate::refusals::WorkRefusal;
 use crate::seating::Hand;
-use sci_core::{Closed, Keeps, Line, OpenRefusal};
-use sci_fine::{FineLine, Seat};
+use sci_core::{Keeps, Line, OpenRefusal, Receipt};
+use sci_fine::{FineLine, Finished, Seat};
 use std::alloc::Global;
 
 // The hands of so many nodes, at no line.
 fn empty_hands<K: Keeps>(alloc: Global, nodes: u16) -> Result<Vec<Hand<K>>, WorkRefusal>
     ensures len { IfOk result (λ hands. vec_len hands ≡ nodes) }
-    ensures each { IfOk result (λ hands. AtEach (λ k hand. IsHandOf [] k hand.items) hands.items) }
+    ensures each { IfOk result (λ hands. AtEach (λ k hand. IsHandOf keeps.Keeping.All [] k hand.items) hands.items) }
     ensures err { IfErr result (λ e. e ≡ WorkRefusal.OutOfMemory) }
 {
     let mut hands = Vec::with_capacity(alloc, usize::from(nodes))?;
@@ -33,10 +37,10 @@ fn extended<K: Keeps>(
     seats: Vec<Seat<K>>,
 ) -> Result<Vec<Hand<K>>, WorkRefusal>
     requires count { vec_len seats ≡ vec_len hands }
-    requires seats { AtEach (λ k s. IsIdleSeat k line.now s) seats.items }
-    requires hands { AtEach (λ k hand. IsHandOf lines.now k hand.items) hands.items }
+    requires seats { AtEach (λ k s. IsIdleSeat keeps.Keeping.All k line.now s) seats.items }
+    requires hands { AtEach (λ k hand. IsHandOf keeps.Keeping.All lines.now k hand.items) hands.items }
     ensures len { IfOk result (λ all. vec_len all ≡ vec_len hands) }
-    ensures each { IfOk result (λ all. AtEach (λ k hand. IsHandOf (lines.now ++ line.now ∷ []) k hand.items) all.items) }
+    ensures each { IfOk result (λ all. AtEach (λ k hand. IsHandOf keeps.Keeping.All (lines.now ++ line.now ∷ []) k hand.items) all.items) }
     ensures err { IfErr result (λ e. e ≡ WorkRefusal.OutOfMemory) }
 {
     let _ = lines;
@@ -67,8 +71,8 @@ pub(crate) fn zeroed<K: Keeps>(
     requires fits { K.fits keep number (replicate 8 0) }
     ensures line { IfOk result (λ r. IsLine nodes keep number r.0) }
     ensures len { IfOk result (λ r. vec_len r.1 ≡ nodes) }
-    ensures opening { IfOk result (λ r. r.0.terms.opening.words ≡ replicate 8 0) }
-    ensures seats { IfOk result (λ r. AtEach (λ k s. IsIdleSeat k r.0 s) r.1.items) }
+    ensures opening { IfOk result (λ r. r.0.terms.opening ≡ blank) }
+    ensures seats { IfOk result (λ r. AtEach (λ k s. IsIdleSeat keeps.Keeping.All k r.0 s) r.1.items) }
     ensures new { IfOk result (λ r. AreNew r.1.items) }
     ensures err { IfErr result (λ e. e ≡ WorkRefusal.OutOfMemory) }
 {
@@ -90,8 +94,9 @@ pub fn opened<K: Keeps>(
     requires fits { (number : ℕ) → K.fits keep number (replicate 8 0) }
     ensures count { IfOk result (λ r. vec_len r.0 ≡ count) }
     ensures lines { IfOk result (λ r. AtEach (IsLine nodes keep) r.0.items) }
+    ensures zeros { IfOk result (λ r. AtEach (λ k l. l.terms.opening ≡ blank) r.0.items) }
     ensures len { IfOk result (λ r. vec_len r.1 ≡ nodes) }
-    ensures hands { IfOk result (λ r. AtEach (λ k hand. IsHandOf r.0.items k hand.items) r.1.items) }
+    ensures hands { IfOk result (λ r. AtEach (λ k hand. IsHandOf keeps.Keeping.All r.0.items k hand.items) r.1.items) }
     ensures err { IfErr result (λ e. e ≡ WorkRefusal.OutOfMemory) }
 {
     let mut lines = Vec::with_capacity(alloc, usize::from(count))?;
@@ -109,15 +114,17 @@ fn last_seats<K: Keeps>(
     alloc: Global,
     lines: &[FineLine<K>],
     line: &FineLine<K>,
+    keeping: Keeping,
     hands: Vec<Hand<K>>,
 ) -> Result<(Vec<Hand<K>>, Vec<Seat<K>>), WorkRefusal>
-    requires { AtEach (λ k hand. IsHandOf (lines.now ++ line.now ∷ []) k hand.items) hands.items }
-    ensures hands { IfOk result (λ r. AtEach (λ k hand. IsHandOf lines.now k hand.items) r.0.items) }
-    ensures seats { IfOk result (λ r. AreIdle line.now r.1.items) }
+    requires { AtEach (λ k hand. IsHandOf keeping (lines.now ++ line.now ∷ []) k hand.items) hands.items }
+    ensures hands { IfOk result (λ r. AtEach (λ k hand. IsHandOf keeping lines.now k hand.items) r.0.items) }
+    ensures seats { IfOk result (λ r. AreIdle keeping line.now r.1.items) }
     ensures err { IfErr result (λ e. e ≡ WorkRefusal.OutOfMemory) }
 {
     let _ = lines;
     let _ = line;
+    let _ = keeping;
     let count = hands.len();
     let mut all = Vec::with_capacity(alloc, count)?;
     let mut seats = Vec::with_capacity(alloc, count)?;
@@ -132,46 +139,82 @@ fn last_seats<K: Keeps>(
     Ok((all, seats))
 }
 
-/// The line, closed with its seats.
+/// The line, closed with its seats, and what each kept.
 pub(crate) fn finished<K: Keeps>(
     alloc: Global,
     line: FineLine<K>,
+    keeping: Keeping,
     seats: Vec<Seat<K>>,
-) -> Result<Closed, WorkRefusal>
-    requires { AreIdle line seats.items }
-    ensures ok { IfOk result (λ one. IsClosedOf K.fits line one) }
-    ensures history { IfOk result (λ one. IsHistoryOf line seats.items one) }
+) -> Result<Finished, WorkRefusal>
+    requires { AreIdle keeping line seats.items }
+    ensures ok { IfOk result (λ one. IsClosedOf K.fits line one.closed) }
+    ensures own { IfOk result (λ one. lists_in one.receipts ≡ lists_of seats.items) }
+    ensures nodes { IfOk result (λ one. length (lists_in one.receipts) ≡ line.terms.nodes) }
+    ensures history { keeping ≡ keeps.Keeping.All → IfOk result (λ one. IsHistoryOf line seats.items one.closed) }
     ensures err { IfErr result (λ e. e ≡ WorkRefusal.OutOfMemory) }
 {
+    let _ = keeping;
     match line.finish(alloc, seats) {
-        Ok(made) => Ok(made.closed),
+        Ok(made) => Ok(made),
         // 7, and not 9: the seats are the line's own, one per node in order
         Err(_) => Err(WorkRefusal::OutOfMemory),
     }
 }
 
-/// The lines, closed.
+// For how many lines' receipts there is to be room.
+fn lists_for(keeping: Keeping, lines: usize) -> usize
+    ensures all { keeping ≡ keeps.Keeping.All → result ≡ lines }
+    ensures nothing { keeping ≡ keeps.Keeping.Nothing → result ≡ 0 }
+{
+    match keeping {
+        Keeping::All => lines,
+        Keeping::Nothing => 0,
+    }
+}
+
+// The receipts of one more line, where they are kept. There is room for them.
+fn keep_lists(receipts: &mut Vec<Vec<Vec<Receipt>>>, keeping: Keeping, lists: Vec<Vec<Receipt>>)
+    requires { keeping ≡ keeps.Keeping.All → vec_len receipts.old < vec_capacity receipts.old }
+    ensures all { keeping ≡ keeps.Keeping.All → receipts.new.items ≡ receipts.old.items ++ lists ∷ [] }
+    ensures room { vec_capacity receipts.new ≡ vec_capacity receipts.old }
+    ensures nothing { keeping ≡ keeps.Keeping.Nothing → receipts.new.items ≡ receipts.old.items }
+{
+    match keeping {
+        Keeping::All => receipts.push_reserved(lists),
+        Keeping::Nothing => (),
+    }
+}
+
+/// The lines, closed, and what their nodes kept.
 pub fn closed<K: Keeps>(
     alloc: Global,
     lines: Vec<FineLine<K>>,
+    keeping: Keeping,
     hands: Vec<Hand<K>>,
-) -> Result<Vec<Closed>, WorkRefusal>
-    requires { AtEach (λ k hand. IsHandOf lines.items k hand.items) hands.items }
-    ensures ok { IfOk result (λ all. AreClosedOf K.fits lines.items all.items) }
+) -> Result<ClosedMemory, WorkRefusal>
+    requires { AtEach (λ k hand. IsHandOf keeping lines.items k hand.items) hands.items }
+    ensures ok { IfOk result (λ all. AreClosedOf K.fits lines.items all.lines.items) }
+    ensures kept { IfOk result (λ all. AreKeptOf keeping lines.items all) }
     ensures err { IfErr result (λ e. e ≡ WorkRefusal.OutOfMemory) }
 {
     let mut all = Vec::with_capacity(alloc, lines.len())?;
+    let mut receipts = Vec::with_capacity(alloc, lists_for(keeping, lines.len()))?;
     let mut rest = lines;
     let mut hands = hands;
     for _ in 0..rest.len() {
         let Some(line) = rest.pop() else {
             unreachable!()
         };
-        let (fewer, seats) = last_seats(alloc, &rest, &line, hands)?;
+        let (fewer, seats) = last_seats(alloc, &rest, &line, keeping, hands)?;
         hands = fewer;
-        let one = finished(alloc, line, seats)?;
-        all.push_reserved(one);
+        let one = finished(alloc, line, keeping, seats)?;
+        all.push_reserved(one.closed);
+        keep_lists(&mut receipts, keeping, one.receipts);
     }
     all.reverse();
-    Ok(all)
+    receipts.reverse();
+    Ok(ClosedMemory {
+        lines: all,
+        receipts,
+    })
 }

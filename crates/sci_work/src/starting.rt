@@ -1,14 +1,18 @@
 //! A thread a node.
-ghost use Rattle.std.specs.Prelude.{◌≡◌, ◌↔◌, [], ℕ, ◌<◌, ◌≤◌, All, IfOk, IfErr, IsOk, IsTrue, OnOk, length, slice_index_or, vec_capacity, vec_len};
+ghost use Rattle.std.specs.Prelude.{◌≡◌, ◌↔◌, [], ℕ, ◌<◌, ◌≤◌, true, All, IfOk, IfErr, IsOk, IsTrue, OnOk, length, slice_index_or, vec_capacity, vec_len};
 ghost use Rattle.std.specs.PromisedHandle.{KeepsEach};
 ghost use Rattle.sci_core.specs.declared.pending.Pending.TheVariants.{Idle};
 ghost use Rattle.sci_work.specs.Hands.{AtEach};
+ghost use Rattle.sci_work.specs.declared.keeping.Keeping as keepings;
+ghost use Rattle.sci_work.specs.Made.{IsReached};
 ghost use Rattle.sci_work.specs.Programs.{ComesInPart, HasWritten, IsShareOf, Suits};
 ghost use Rattle.sci_work.specs.Starts.{AreEnded, AreParts, ComesInStart, HaveEnded, IsAnswerOf, IsLowestRefusal, IsNoRefusal, IsPart, IsPartDone};
+ghost use Rattle.sci_work.specs.Workers.{keeps_any};
 ghost use Rattle.sci_port.specs.KeepsAll.{KeepsAll};
 
 use crate::doors::Door;
 use crate::gates::Gate;
+use crate::keeping::Keeping;
 use crate::programs::{Program, run};
 use crate::refusals::WorkRefusal;
 use crate::seating::{Done, Hand};
@@ -28,16 +32,28 @@ struct PartOf<'s, 'a, K: Keeps> {
     lines: &'s [FineLine<K>],
     program: Program<'a>,
     number: u16,
+    keeping: Keeping,
 }
 
 impl<'s, 'a, K: Keeps> Promise<Done<K, Vec<u64>>> for PartOf<'s, 'a, K> {
     ghost use Rattle.sci_work.specs.Starts.{IsPartDone};
 
-    ghost kept_by = { λ p r. IsPartDone p.lines.now p.program p.number r.hand.items r.share };
+    ghost kept_by = { λ p r. IsPartDone p.keeping p.lines.now p.program p.number r.hand.items r.share };
 }
 
 /// A node's thread that runs.
 type Running<'s, 'a, K> = PromisedHandle<Done<K, Vec<u64>>, PartOf<'s, 'a, K>>;
+
+// The node, which keeps receipts of its calls or doesn't.
+fn node_that_keeps(node: Node, keeping: Keeping) -> Node
+    requires { node.keeps ≡ true }
+    ensures { result ≡ record node { keeps = keeps_any keeping } }
+{
+    match keeping {
+        Keeping::All => node,
+        Keeping::Nothing => node.without_receipts(),
+    }
+}
 
 /// The program, run by a node that names no line yet.
 pub fn share_of<R: Wait, G: Gate, B: Bank>(
@@ -47,6 +63,7 @@ pub fn share_of<R: Wait, G: Gate, B: Bank>(
     bank: &mut B,
     program: Program<'_>,
     number: u16,
+    keeping: Keeping,
     capacity: u16,
 ) -> Result<Vec<u64>, WorkRefusal>
     requires idle { (line : ℕ) → B.at_step bank.old line ≡ Idle }
@@ -54,11 +71,15 @@ pub fn share_of<R: Wait, G: Gate, B: Bank>(
     ensures share { IfOk result (λ share. IsShareOf program.entry number share.items) }
     ensures err { IfErr result (ComesInPart program.entry) }
     ensures idle { (line : ℕ) → B.at_step bank.new line ≡ Idle }
-    ensures kept { KeepsAll B.gives B.readies B.told bank.old bank.new }
-    ensures written { OnOk result (HasWritten program.entry (B.told bank.old 0).list (B.told bank.new 0).list) }
+    ensures reached { IsReached B.gives B.readies bank.old bank.new }
+    ensures kept { keeping ≡ keepings.Keeping.All → KeepsAll B.gives B.readies B.told bank.old bank.new }
+    ensures written { keeping ≡ keepings.Keeping.All → OnOk result (HasWritten program.entry (B.told bank.old 0).list (B.told bank.new 0).list) }
 {
     match Node::new(alloc, bank.node(), bank.lines(), capacity) {
-        Ok(mut node) => run(rt, alloc, door, &mut node, bank, program, number),
+        Ok(node) => {
+            let mut node = node_that_keeps(node, keeping);
+            run(rt, alloc, door, &mut node, bank, program, number)
+        }
         // the capacity was within its limits before any line was opened
         Err(NodeRefusal::OutOfMemory | NodeRefusal::BadCapacity) => Err(WorkRefusal::OutOfMemory),
         Err(
@@ -81,16 +102,19 @@ fn run_node<R: Wait, G: Gate, K: Keeps>(
     hand: Hand<K>,
     program: Program<'_>,
     number: u16,
+    keeping: Keeping,
     capacity: u16,
 ) -> Done<K, Vec<u64>>
     requires { IsPart K.fits lines.now program number hand.items }
-    ensures { IsPartDone lines.now program.entry number result.hand.items result.share }
+    ensures { IsPartDone keeping lines.now program.entry number result.hand.items result.share }
 {
     let mut door = Door::new(gate, stop, number);
     let Ok(mut bank) = FineBank::new(lines, hand) else {
         unreachable!()
     };
-    let share = share_of(rt, alloc, &mut door, &mut bank, program, number, capacity);
+    let share = share_of(
+        rt, alloc, &mut door, &mut bank, program, number, keeping, capacity,
+    );
     let share = door.told(share);
     let hand = bank.into_seats();
     Done { hand, share }
@@ -118,13 +142,14 @@ fn start_each<'s, 'a: 's, E, R: Threads + Wait + Sync, G: Gate, K: Keeps + Send 
     lines: &'s [FineLine<K>],
     hands: Vec<Hand<K>>,
     program: Program<'a>,
+    keeping: Keeping,
     capacity: u16,
     room: Vec<Running<'s, 'a, K>>,
 ) -> Vec<Running<'s, 'a, K>>
     requires parts { AreParts K.fits lines.now program hands }
     requires room { (vec_len room ≡ 0) × (vec_len hands ≤ vec_capacity room) }
     ensures few { vec_len result ≤ vec_len hands }
-    ensures each { (k : ℕ) (d : _) → k < vec_len result → ((slice_index_or result.items k d).promise.lines.now ≡ lines.now) × ((slice_index_or result.items k d).promise.program ≡ program.entry) × ((slice_index_or result.items k d).promise.number ≡ k) }
+    ensures each { (k : ℕ) (d : _) → k < vec_len result → ((slice_index_or result.items k d).promise.lines.now ≡ lines.now) × ((slice_index_or result.items k d).promise.program ≡ program.entry) × ((slice_index_or result.items k d).promise.number ≡ k) × ((slice_index_or result.items k d).promise.keeping ≡ keeping) }
 {
     let mut handles = room;
     let mut number = 0u16;
@@ -133,6 +158,7 @@ fn start_each<'s, 'a: 's, E, R: Threads + Wait + Sync, G: Gate, K: Keeps + Send 
             lines,
             program,
             number,
+            keeping,
         };
         let started = scope.spawn_with(
             promise,
@@ -140,7 +166,7 @@ fn start_each<'s, 'a: 's, E, R: Threads + Wait + Sync, G: Gate, K: Keeps + Send 
                 requires { IsPart K.fits lines.now program number hand.items }
             {
                 run_node(
-                    rt, alloc, gate, stop, lines, hand, program, number, capacity,
+                    rt, alloc, gate, stop, lines, hand, program, number, keeping, capacity,
                 )
             },
         );
@@ -181,16 +207,17 @@ fn start_all<'s, 'a: 's, E, R: Threads + Wait + Sync, G: Gate, K: Keeps + Send +
     lines: &'s [FineLine<K>],
     hands: Vec<Hand<K>>,
     program: Program<'a>,
+    keeping: Keeping,
     capacity: u16,
 ) -> Result<Vec<Done<K, Vec<u64>>>, WorkRefusal>
     requires { AreParts K.fits lines.now program hands }
     ensures few { IfOk result (λ done. vec_len done ≤ vec_len hands) }
-    ensures each { IfOk result (λ done. AtEach (λ k one. IsPartDone lines.now program.entry k one.hand.items one.share) done.items) }
+    ensures each { IfOk result (λ done. AtEach (λ k one. IsPartDone keeping lines.now program.entry k one.hand.items one.share) done.items) }
     ensures err { IfErr result (λ e. e ≡ WorkRefusal.OutOfMemory) }
 {
     let (handles, done) = rooms(alloc, hands.len())?;
     let handles = start_each(
-        rt, scope, alloc, gate, stop, lines, hands, program, capacity, handles,
+        rt, scope, alloc, gate, stop, lines, hands, program, keeping, capacity, handles,
     );
     Ok(joined(rt, handles, done))
 }
@@ -254,15 +281,17 @@ fn parted<K: Keeps>(
     alloc: Global,
     lines: &[FineLine<K>],
     program: Program<'_>,
+    keeping: Keeping,
     done: Vec<Done<K, Vec<u64>>>,
 ) -> Result<(Vec<Hand<K>>, Vec<Vec<u64>>), WorkRefusal>
-    requires done { AtEach (λ k one. IsPartDone lines.now program k one.hand.items one.share) done.items }
+    requires done { AtEach (λ k one. IsPartDone keeping lines.now program k one.hand.items one.share) done.items }
     requires ended { AtEach (λ k one. IsOk one.share) done.items }
-    ensures ok { IfOk result (λ r. AreEnded lines.now program.entry (vec_len done) r.0 r.1) }
+    ensures ok { IfOk result (λ r. AreEnded keeping lines.now program.entry (vec_len done) r.0 r.1) }
     ensures err { IfErr result (λ e. e ≡ WorkRefusal.OutOfMemory) }
 {
     let _ = lines;
     let _ = program;
+    let _ = keeping;
     let (mut hands, mut shares) = rooms(alloc, done.len())?;
     for one in done {
         let Done { hand, share } = one;
@@ -281,11 +310,12 @@ fn run_each<R: Threads + Wait + Sync, G: Gate, K: Keeps + Send + Sync>(
     lines: &[FineLine<K>],
     hands: Vec<Hand<K>>,
     program: Program<'_>,
+    keeping: Keeping,
     capacity: u16,
 ) -> Result<Vec<Done<K, Vec<u64>>>, WorkRefusal>
     requires { AreParts K.fits lines.now program hands }
     ensures few { IfOk result (λ done. vec_len done ≤ vec_len hands) }
-    ensures each { IfOk result (λ done. AtEach (λ k one. IsPartDone lines.now program.entry k one.hand.items one.share) done.items) }
+    ensures each { IfOk result (λ done. AtEach (λ k one. IsPartDone keeping lines.now program.entry k one.hand.items one.share) done.items) }
     ensures err { IfErr result (λ e. e ≡ WorkRefusal.OutOfMemory) }
 {
     let stop = AtomicBool::new(false);
@@ -296,11 +326,11 @@ fn run_each<R: Threads + Wait + Sync, G: Gate, K: Keeps + Send + Sync>(
         |scope| -> Result<Vec<Done<K, Vec<u64>>>, WorkRefusal>
             requires { AreParts K.fits lines.now program hands }
             ensures few { IfOk result (λ done. vec_len done ≤ vec_len hands) }
-            ensures each { IfOk result (λ done. AtEach (λ k one. IsPartDone lines.entry.now program.entry k one.hand.items one.share) done.items) }
+            ensures each { IfOk result (λ done. AtEach (λ k one. IsPartDone keeping lines.entry.now program.entry k one.hand.items one.share) done.items) }
             ensures err { IfErr result (λ e. e ≡ WorkRefusal.OutOfMemory) }
         {
             start_all(
-                rt, scope, alloc, gate, mark, lines, hands, program, capacity,
+                rt, scope, alloc, gate, mark, lines, hands, program, keeping, capacity,
             )
         },
     )
@@ -316,14 +346,15 @@ pub fn run_all<R: Threads + Wait + Sync, G: Gate, K: Keeps + Send + Sync>(
     lines: &[FineLine<K>],
     hands: Vec<Hand<K>>,
     program: Program<'_>,
+    keeping: Keeping,
     capacity: u16,
 ) -> Result<(Vec<Hand<K>>, Vec<Vec<u64>>), WorkRefusal>
     requires { AreParts K.fits lines.now program hands }
-    ensures ok { IfOk result (λ r. AreEnded lines.now program.entry (vec_len hands) r.0 r.1) }
+    ensures ok { IfOk result (λ r. AreEnded keeping lines.now program.entry (vec_len hands) r.0 r.1) }
     ensures err { IfErr result (ComesInStart program.entry) }
 {
     let nodes = hands.len();
-    let done = run_each(rt, alloc, gate, lines, hands, program, capacity)?;
+    let done = run_each(rt, alloc, gate, lines, hands, program, keeping, capacity)?;
     settled(&done, nodes, program)?;
-    parted(alloc, lines, program, done)
+    parted(alloc, lines, program, keeping, done)
 }

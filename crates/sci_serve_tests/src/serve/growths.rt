@@ -277,8 +277,8 @@ fn refused_growths(rt: HostRuntime) -> Result<(), Fail> {
     Ok(())
 }
 
-/// Growths: 18 of serve_run, 1 thread of serve_run, 23 of serve_run, 18 of serve_run_by, 1 thread of serve_run_by,
-/// 23 of serve_run_by.
+/// Growths: 18 of serve_run, 1 thread of serve_run, 24 of serve_run, 18 of serve_run_by, 1 thread of serve_run_by,
+/// 24 of serve_run_by.
 #[test]
 fn refused_growths_of_runs(rt: HostRuntime) -> Result<(), Fail> {
     let alloc = rt.alloc();

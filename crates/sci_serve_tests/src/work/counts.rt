@@ -9,8 +9,8 @@ fn nodes_count(rt: HostRuntime) -> Result<(), Fail> {
     for (nodes, adds, word) in [(4, 1000, 4000), (64, 10, 640), (1, 3, 3), (2, 0, 0)] {
         let (found, closed) = count(&rt, rt.alloc(), nodes, adds, 1, &OpenGate)?;
         same(&rt, &found, &word);
-        assert!(rt; closed.len() == 1);
-        same(&rt, &closed[0].tags.len(), &usize::from(nodes));
+        assert!(rt; closed.lines.len() == 1);
+        same(&rt, &closed.lines[0].tags.len(), &usize::from(nodes));
     }
     Ok(())
 }

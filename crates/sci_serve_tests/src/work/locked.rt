@@ -12,7 +12,7 @@ use sci_core::{AnyWords, Keeps, Line};
 use sci_ops::Answer;
 use sci_port::Bank;
 use sci_work::parts::{Door, Program, Work, share_of};
-use sci_work::{OpenGate, RingFact, StencilFact, WorkRefusal};
+use sci_work::{Keeping, OpenGate, RingFact, StencilFact, WorkRefusal};
 use std::alloc::Global;
 use std::sync::Wait;
 use std::sync::atomic::AtomicBool;
@@ -83,7 +83,16 @@ fn ran<R: Wait, K: Keeps>(
         return None;
     };
     let mut door = Door::new(&OpenGate, stop, number);
-    let share = share_of(rt, alloc, &mut door, &mut bank, program, number, 2);
+    let share = share_of(
+        rt,
+        alloc,
+        &mut door,
+        &mut bank,
+        program,
+        number,
+        Keeping::Nothing,
+        2,
+    );
     let share = door.told(share);
     let word = last_word(rt, alloc, &mut bank)?;
     Some((share, word))

@@ -4,7 +4,7 @@ use crossbeam_utils::Backoff;
 use sci_core::{AnyWords, Line};
 use sci_fine::FineLine;
 use sci_work::parts::{Program, dealt, run_all};
-use sci_work::{Gate, WorkRefusal};
+use sci_work::{Gate, Keeping, WorkRefusal};
 use std::alloc::Global;
 use std::slice;
 use std::sync::Wait;
@@ -68,7 +68,16 @@ fn refused<R: Threads + Wait + Sync>(rt: &R, alloc: Global, node: u16) -> Result
         ended: AtomicBool::new(false),
     };
     let program = Program::Count { adds: 1 };
-    run_all(rt, alloc, &gate, slice::from_ref(&line), hands, program, 1)?;
+    run_all(
+        rt,
+        alloc,
+        &gate,
+        slice::from_ref(&line),
+        hands,
+        program,
+        Keeping::Nothing,
+        1,
+    )?;
     Ok(())
 }
 

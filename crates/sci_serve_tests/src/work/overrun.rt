@@ -4,7 +4,7 @@ ghost use Rattle.std.specs.Prelude.{◌≡◌, ◌*◌, ◌<◌, ◌≤◌, leng
 use crate::checks::same;
 use crate::work::threads::Holds;
 use sci_work::parts::{Program, Work, opened, run_all};
-use sci_work::{OpenGate, StencilFact, WorkRefusal};
+use sci_work::{Keeping, OpenGate, StencilFact, WorkRefusal};
 use std::alloc::Global;
 use std::sync::Wait;
 use std::test::Fail;
@@ -21,8 +21,27 @@ fn again<R: Threads + Wait + Sync>(rt: &R, alloc: Global, work: Work<'_>) -> Res
     let fact = StencilFact::new(work.cells, work.phases);
     let (lines, hands) = opened(alloc, work.nodes, 2 * work.tiles, fact)?;
     let program = Program::Stencil(work);
-    let (hands, _) = run_all(rt, alloc, &OpenGate, &lines, hands, program, 2)?;
-    run_all(rt, alloc, &Holds::new(3), &lines, hands, program, 2)?;
+    let (hands, _) = run_all(
+        rt,
+        alloc,
+        &OpenGate,
+        &lines,
+        hands,
+        program,
+        Keeping::All,
+        2,
+    )?;
+    let gate = Holds::new(3);
+    run_all(
+        rt,
+        alloc,
+        &gate,
+        &lines,
+        hands,
+        program,
+        Keeping::Nothing,
+        2,
+    )?;
     Ok(())
 }
 

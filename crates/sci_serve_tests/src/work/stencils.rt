@@ -2,7 +2,7 @@
 use crate::checks::same;
 use crate::work::meeting::MeetingGate;
 use sci_core::Closed;
-use sci_work::{Gate, OpenGate, WorkRefusal, stencil};
+use sci_work::{Gate, Keeping, OpenGate, WorkRefusal, stencil};
 use std::alloc::{AllocError, Global};
 use std::sync::Wait;
 use std::test::Fail;
@@ -27,8 +27,17 @@ pub(crate) fn worked<R: Threads + Wait + Sync, G: Gate>(
     capacity: u16,
     gate: &G,
 ) -> Result<(Vec<u64>, Vec<u64>), Fail> {
-    let (found, closed) = stencil(rt, alloc, cells, phases, nodes, capacity, gate)?;
-    let words = first_words(alloc, &closed)?;
+    let (found, memory) = stencil(
+        rt,
+        alloc,
+        cells,
+        phases,
+        nodes,
+        capacity,
+        Keeping::Nothing,
+        gate,
+    )?;
+    let words = first_words(alloc, &memory.lines)?;
     Ok((found, words))
 }
 
@@ -43,7 +52,17 @@ fn refusal<R: Threads + Wait + Sync, G: Gate>(
     gate: &G,
 ) -> Result<Option<WorkRefusal>, AllocError> {
     let cells = vec![in alloc; 0; count]?;
-    Ok(stencil(rt, alloc, &cells, phases, nodes, capacity, gate).err())
+    let refused = stencil(
+        rt,
+        alloc,
+        &cells,
+        phases,
+        nodes,
+        capacity,
+        Keeping::Nothing,
+        gate,
+    );
+    Ok(refused.err())
 }
 
 #[test]

@@ -2,7 +2,7 @@
 use crate::checks::same;
 use crate::work::doors::Hears;
 use crate::work::stencils::worked;
-use sci_work::{Gate, WorkRefusal, count, ring, stencil};
+use sci_work::{Gate, Keeping, WorkRefusal, count, ring, stencil};
 use std::alloc::Global;
 use std::sync::Wait;
 use std::sync::atomic::{AtomicU64, Ordering};
@@ -62,7 +62,7 @@ fn heard_of_a_ring<R: Threads + Wait + Sync>(
     alloc: Global,
 ) -> Result<[Option<(u64, u64)>; 2], WorkRefusal> {
     let gate = HearsBoth::new();
-    ring(rt, alloc, &[7, 8, 9], 3, 1, &gate)?;
+    ring(rt, alloc, &[7, 8, 9], 3, 1, Keeping::Nothing, &gate)?;
     Ok(gate.calls())
 }
 
@@ -72,7 +72,7 @@ fn heard_of_a_stencil<R: Threads + Wait + Sync>(
     alloc: Global,
 ) -> Result<[Option<(u64, u64)>; 2], WorkRefusal> {
     let gate = HearsBoth::new();
-    stencil(rt, alloc, &[1; 14], 0, 2, 1, &gate)?;
+    stencil(rt, alloc, &[1; 14], 0, 2, 1, Keeping::Nothing, &gate)?;
     Ok(gate.calls())
 }
 

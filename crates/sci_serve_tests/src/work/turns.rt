@@ -2,7 +2,7 @@
 use crate::checks::same;
 use crossbeam_utils::Backoff;
 use sci_words::Kind;
-use sci_work::{Gate, count, ring};
+use sci_work::{Gate, Keeping, count, ring};
 use std::sync::atomic::{AtomicU64, Ordering};
 use std::test::Fail;
 
@@ -60,7 +60,7 @@ fn a_read_or_a_write_has_ended_when_it_is_told(rt: HostRuntime) -> Result<(), Fa
     let orders: [&[u16]; 2] = [&[1, 0, 1, 1], &[0, 1, 1]];
     for order in orders {
         let gate = InOrder::new(order);
-        let (items, _) = ring(&rt, rt.alloc(), &[7], 1, 2, &gate)?;
+        let (items, _) = ring(&rt, rt.alloc(), &[7], 1, 2, Keeping::Nothing, &gate)?;
         same(&rt, &items.as_slice(), &[7].as_slice());
         same(&rt, &gate.calls(), &order.len());
     }
@@ -74,10 +74,14 @@ fn an_addition_has_ended_when_it_is_told(rt: HostRuntime) -> Result<(), Fail> {
         let gate = InOrder::new(&order);
         let (word, closed) = count(&rt, rt.alloc(), 2, 1, 1, &gate)?;
         same(&rt, &(word, gate.calls()), &(2, 2));
-        assert!(rt; closed[0].tags.len() == 2);
+        assert!(rt; closed.lines[0].tags.len() == 2);
         for node in 0..2 {
             let is_last = usize::from(order[1]) == node;
-            same(&rt, &(closed[0].tags[node].kind == Kind::Dirty), &is_last);
+            same(
+                &rt,
+                &(closed.lines[0].tags[node].kind == Kind::Dirty),
+                &is_last,
+            );
         }
     }
     Ok(())

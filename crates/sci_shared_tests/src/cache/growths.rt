@@ -42,25 +42,33 @@ fn lent(rt: &impl Abort, alloc: Global) -> Result<Lent, Fail> {
     }
 }
 
-// Begins a load of a line that isn't named yet, where these are.
+// Begins a load over three lines, where so much stands: at a second try, if it is refused memory. The node's bank.
 fn begins(
     rt: &impl Abort,
     alloc: Global,
     node: &mut Node,
+    lent: Lent,
     line: u16,
-    named: &[u16],
-) -> Result<(), Fail>
-    ensures { node.new.lines ≡ node.old.lines }
+    stands: (&[u16], [&[Receipt]; 3]),
+) -> Result<SoloBank<AnyWords>, Fail>
+    requires { node.old.lines ≡ 3 }
+    ensures node { node.new.lines ≡ 3 }
+    ensures bank { IfOk result (λ bank. (bank.node ≡ node.new.id) × (length bank.wholes.items ≡ 3)) }
 {
     let load = Request::Load { line };
-    let Err(refusal) = node.begin(load) else {
-        return Ok(());
+    let (named, receipts) = stands;
+    let mut bank = of_three(lent, node)?;
+    let Err(refusal) = node.begin(&mut bank, load) else {
+        return Ok(bank);
     };
     same(rt, &refusal, &NodeRefusal::OutOfMemory);
     same(rt, &refusal.number(), &7);
     assert!(rt; !node.open());
     super::lists(rt, alloc, node, named)?;
-    same(rt, &node.begin(load), &Ok(()));
+    let lent = given_back(bank);
+    have(rt, &lent, receipts);
+    let mut bank = of_three(lent, node)?;
+    same(rt, &node.begin(&mut bank, load), &Ok(()));
     Err(Fail::new("begin answered 7"))
 }
 
@@ -154,39 +162,84 @@ fn waits_each<R: Abort + Wait>(rt: &R, alloc: Global) -> Result<(), Fail> {
     Ok(())
 }
 
-// What the load leaves.
+// What a load leaves.
 const SAW: Receipt = Receipt::Read {
     words: [0; 8],
     stamp: 0,
 };
 
-/// Growths: 11 of open, 2 of new, 5 of begin, 2 of load, 1 of evict.
+// For how many receipts the first growth makes room.
+const FIRST: usize = 4;
+
+const FULL: [Receipt; FIRST] = [SAW; FIRST];
+
+// Loads of a line that was loaded once, for as many receipts as there is room.
+fn filled(rt: &impl Abort, node: &mut Node, lent: Lent, line: u16) -> Result<Lent, Fail>
+    requires { node.old.lines ≡ 3 }
+    ensures { node.new.lines ≡ 3 }
+{
+    let mut lent = lent;
+    for _ in 1..FIRST {
+        lent = super::finds_zeros(rt, node, lent, line, 2)?;
+    }
+    Ok(lent)
+}
+
+// Begins a load of a line that isn't named yet, and has it and such loads.
+fn fills(
+    rt: &impl Abort,
+    alloc: Global,
+    node: &mut Node,
+    lent: Lent,
+    line: u16,
+    stands: (&[u16], [&[Receipt]; 3]),
+) -> Result<Lent, Fail>
+    requires { node.old.lines ≡ 3 }
+    ensures { node.new.lines ≡ 3 }
+{
+    let mut bank = begins(rt, alloc, node, lent, line, stands)?;
+    ended(node, &mut bank).ok_or("no end")?;
+    filled(rt, node, given_back(bank), line)
+}
+
+/// Growths: 11 of open, 2 of new, 8 of begin, 2 of load, 1 of evict.
 #[test]
 fn refused_receipts(rt: HostRuntime) -> Result<(), Fail> {
     let alloc = rt.alloc();
     let zero = NodeId::new(0).ok_or("no node")?;
     let lent = lent(&rt, alloc)?;
     let mut node = made(&rt, alloc, zero, 1)?;
-    begins(&rt, alloc, &mut node, 0, &[])?;
-    let (_, _, lent) = ended(&mut node, lent).ok_or("no end")?;
+    let lent = fills(&rt, alloc, &mut node, lent, 0, (&[], [&[]; 3]))?;
     // Line 1, and line 0, which it puts out.
-    let load = (Request::Load { line: 1 }, super::ZEROS);
-    let lent = waits_on(&rt, alloc, &mut node, lent, load, (0, [&[], &[], &[]]))?;
+    let stands: (&[u16], [&[Receipt]; 3]) = (&[0], [&FULL, &[], &[]]);
+    let lent = fills(&rt, alloc, &mut node, lent, 1, stands)?;
+    // Line 2, and line 1.
+    let load = (Request::Load { line: 2 }, super::ZEROS);
+    let lent = waits_on(&rt, alloc, &mut node, lent, load, (1, [&FULL, &FULL, &[]]))?;
+    let lent = filled(&rt, &mut node, lent, 2)?;
     let evict = (Request::Evict { line: 2 }, Answer::Out);
-    waits_on(&rt, alloc, &mut node, lent, evict, (1, [&[], &[SAW], &[]]))?;
+    waits_on(
+        &rt,
+        alloc,
+        &mut node,
+        lent,
+        evict,
+        (2, [&FULL, &FULL, &FULL]),
+    )?;
     Ok(())
 }
 
-/// Growths: 2 of new, 11 of open, 6 of begin, 1 of resident, 5 of open, 2 of new, 6 of store, 1 of load, 2 of add, 1 of write_line.
+/// Growths: 2 of new, 11 of open, 8 of begin, 1 of resident, 5 of open, 2 of new, 6 of store, 1 of load, 2 of add, 1 of write_line.
 #[test]
 fn refused_growths(rt: HostRuntime) -> Result<(), Fail> {
     let alloc = rt.alloc();
     let zero = NodeId::new(0).ok_or("no node")?;
     let mut node = made(&rt, alloc, zero, 2)?;
-    let wholes = lent(&rt, alloc)?;
-    begins(&rt, alloc, &mut node, 2, &[])?;
-    ended(&mut node, wholes).ok_or("no end")?;
-    begins(&rt, alloc, &mut node, 1, &[2])?;
+    let lent = lent(&rt, alloc)?;
+    let mut bank = begins(&rt, alloc, &mut node, lent, 2, (&[], [&[]; 3]))?;
+    ended(&mut node, &mut bank).ok_or("no end")?;
+    let stands: (&[u16], [&[Receipt]; 3]) = (&[2], [&[], &[], &[SAW]]);
+    begins(&rt, alloc, &mut node, given_back(bank), 1, stands)?;
     lists(&rt, alloc, &node, &[1, 2])?;
     waits_each(&rt, alloc)
 }

@@ -1,11 +1,14 @@
-//! Turns of a node, evictions, and requests for a line that it names take no memory. tools/allocations runs this test with the
-//! allocation of its last line refused, and wants it to fail there, and there alone.
-ghost use Rattle.std.specs.Prelude.{◌≡◌};
+//! Turns of a node take no memory, nor do evictions, and requests for a line that it names, where there is the room that they need or
+//! the node keeps no receipts. tools/allocations runs each of these tests with the allocation of its last line refused, and wants it
+//! to fail there, and there alone.
+ghost use Rattle.std.specs.Prelude.{◌≡◌, length};
 
-use super::{Lent, done, made, opened};
+use super::receipts::of_three;
+use super::{Lent, done, ended, made, opened};
 use crate::checks::{allocates, same};
 use sci_cache::{Node, Request};
-use sci_core::Line;
+use sci_core::{AnyWords, Line};
+use sci_port::{Bank, SoloBank};
 use sci_words::LineNo;
 use std::test::Fail;
 
@@ -80,9 +83,42 @@ fn worked(first: &mut Node, second: &mut Node, wholes: Lent) -> Option<(u32, usi
 fn turns_take_no_memory(rt: HostRuntime) -> Result<(), Fail> {
     // The lines and their receipts take eleven, a node six, and the first line that it names one.
     let wholes = opened(rt.alloc(), 2, 3, Line::ZERO)?;
-    let mut first = made(rt.alloc(), 0, 1)?;
-    let mut second = made(rt.alloc(), 1, 1)?;
+    let mut first = made(rt.alloc(), 0, 1)?.without_receipts();
+    let mut second = made(rt.alloc(), 1, 1)?.without_receipts();
     same(&rt, &worked(&mut first, &mut second, wholes), &Some((8, 3)));
     allocates(&rt, rt.alloc(), "allocation 26 is refused");
+    Ok(())
+}
+
+// For how many receipts each of these requests needs room at most.
+const NEED: usize = 2;
+
+// The requests of a node that names line 1, each to its end, where there is the room that they need.
+fn begun(node: &mut Node, bank: &mut SoloBank<AnyWords>) -> Option<()>
+    requires node { (node.old.id ≡ bank.old.node) × (node.old.lines ≡ 3) }
+    requires bank { length bank.old.wholes.items ≡ 3 }
+{
+    for request in requests(1) {
+        let has_room = bank.room(1) >= NEED && bank.room(2) >= NEED;
+        if !has_room || node.begin(bank, request).is_err() {
+            return None;
+        }
+        ended(node, bank)?;
+    }
+    Some(())
+}
+
+#[test]
+fn calls_with_room_take_no_memory(rt: HostRuntime) -> Result<(), Fail> {
+    // The lines and their receipts take eleven, a node six, the first line that it names one, and its receipts one; and then more
+    // room two.
+    let lent = opened(rt.alloc(), 1, 3, Line::ZERO)?;
+    let mut node = made(rt.alloc(), 0, 1)?;
+    let (_, _, lent) = done(&mut node, lent, Request::Load { line: 1 }).ok_or("no end")?;
+    let mut bank = of_three(lent, &node)?;
+    bank.reserve(1, 4 * NEED)?;
+    bank.reserve(2, NEED)?;
+    begun(&mut node, &mut bank).ok_or("no end")?;
+    allocates(&rt, rt.alloc(), "allocation 22 is refused");
     Ok(())
 }

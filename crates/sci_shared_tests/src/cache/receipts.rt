@@ -1,13 +1,15 @@
-//! The receipts that the calls that wait leave on the lines of a node with ample memory, written down by hand.
+//! The receipts that calls leave on the lines of a node with ample memory, written down by hand: those that wait, and those in
+//! turns; for how many there has to be room; and a node without receipts.
 ghost use Rattle.std.specs.Prelude.{◌≡◌, IfOk, length};
 
 use super::waiting::ends;
-use super::{Lent, banked, given_back, made, opened};
+use super::{Lent, answers, banked, ended, given_back, made, opened};
 use crate::checks::{same, same_at};
 use sci_cache::{Node, Request};
 use sci_core::{AnyWords, Line, Receipt};
 use sci_ops::Answer;
-use sci_port::SoloBank;
+use sci_port::{Bank, SoloBank};
+use std::alloc::Global;
 use std::process::Abort;
 use std::sync::Wait;
 use std::test::Fail;
@@ -146,5 +148,110 @@ fn each_call_that_waits_leaves_its_receipts(rt: HostRuntime) -> Result<(), Fail>
     let mut bank = of_three(lent, &node)?;
     called_each(&rt, &mut node, &mut bank);
     have(&rt, &given_back(bank), RECEIPTS);
+    Ok(())
+}
+
+// Begins these calls, and takes their turns to the end, over lines of its own: the lines.
+fn begun_each(rt: &impl Abort, alloc: Global, node: Node) -> Result<Lent, Fail>
+    requires { node.lines ≡ 3 }
+{
+    let mut node = node;
+    let mut lent = opened(alloc, 1, 3, Line::ZERO)?;
+    for (request, answer) in CALLS {
+        let (_, after) = answers(rt, &mut node, lent, request, answer)?;
+        lent = after;
+    }
+    Ok(lent)
+}
+
+#[test]
+fn each_call_in_turns_leaves_its_receipts(rt: HostRuntime) -> Result<(), Fail> {
+    let node = made(rt.alloc(), 0, 1)?;
+    have(&rt, &begun_each(&rt, rt.alloc(), node)?, RECEIPTS);
+    Ok(())
+}
+
+// There is no room for receipts on three lines, and none stands there.
+fn have_none(rt: &impl Abort, lent: &Lent) {
+    have(rt, lent, [&[], &[], &[]]);
+    for receipts in lent.receipts.iter() {
+        same(rt, &receipts.room(), &0);
+    }
+}
+
+#[test]
+fn a_node_without_receipts_has_the_same_answers(rt: HostRuntime) -> Result<(), Fail> {
+    let mut node = made(rt.alloc(), 0, 1)?.without_receipts();
+    let lent = opened(rt.alloc(), 1, 3, Line::ZERO)?;
+    let mut bank = of_three(lent, &node)?;
+    called_each(&rt, &mut node, &mut bank);
+    have_none(&rt, &given_back(bank));
+    let node = made(rt.alloc(), 0, 1)?.without_receipts();
+    have_none(&rt, &begun_each(&rt, rt.alloc(), node)?);
+    Ok(())
+}
+
+// Calls of a node that may name one line, and for how many receipts they need room on each. The load of line 1 puts line 0 out.
+const NEEDS: [(Request, [usize; 3]); 4] = [
+    (Request::Load { line: 0 }, [1, 0, 0]),
+    (
+        Request::Store {
+            line: 0,
+            word: 0,
+            value: 7,
+        },
+        [2, 0, 0],
+    ),
+    (Request::Load { line: 1 }, [1, 1, 0]),
+    (Request::Evict { line: 1 }, [0, 1, 0]),
+];
+
+// The open call needs room for so many receipts on each of three lines, and there is that much.
+fn needs(
+    rt: &impl Abort,
+    node: &Node,
+    bank: &mut SoloBank<AnyWords>,
+    request: Request,
+    want: [usize; 3],
+)
+    requires node { node.now.lines ≡ 3 }
+    requires bank { length bank.old.wholes.items ≡ 3 }
+    ensures { bank.new ≡ bank.old }
+{
+    let need = [node.need(bank, 0), node.need(bank, 1), node.need(bank, 2)];
+    same_at(rt, &request, &need, &want);
+    let [zero, one, two] = want;
+    let enough = bank.room(0) >= zero && bank.room(1) >= one && bank.room(2) >= two;
+    same_at(rt, &request, &enough, &true);
+}
+
+// The request begins, needs so much room, and after its end none.
+fn needs_until_its_end(
+    rt: &impl Abort,
+    node: &mut Node,
+    bank: &mut SoloBank<AnyWords>,
+    request: Request,
+    want: [usize; 3],
+) -> Result<(), Fail>
+    requires node { (node.old.id ≡ bank.old.node) × (node.old.lines ≡ 3) }
+    requires bank { length bank.old.wholes.items ≡ 3 }
+    ensures node { (node.new.id ≡ bank.new.node) × (node.new.lines ≡ 3) }
+    ensures bank { length bank.new.wholes.items ≡ 3 }
+{
+    same_at(rt, &request, &node.begin(bank, request), &Ok(()));
+    needs(rt, node, bank, request, want);
+    ended(node, bank).ok_or("no end")?;
+    needs(rt, node, bank, request, [0; 3]);
+    Ok(())
+}
+
+#[test]
+fn calls_need_room_on_their_line_and_the_victims(rt: HostRuntime) -> Result<(), Fail> {
+    let mut node = made(rt.alloc(), 0, 1)?;
+    let lent = opened(rt.alloc(), 1, 3, Line::ZERO)?;
+    let mut bank = of_three(lent, &node)?;
+    for (request, want) in NEEDS {
+        needs_until_its_end(&rt, &mut node, &mut bank, request, want)?;
+    }
     Ok(())
 }

@@ -6,7 +6,7 @@ use crate::checks::{same, same_at};
 use sci_cache::{Node, NodeRefusal, Request};
 use sci_core::{AnyWords, Line};
 use sci_ops::Answer;
-use sci_port::SoloBank;
+use sci_port::{Bank, SoloBank};
 use sci_words::NodeId;
 use std::alloc::Global;
 use std::process::Abort;
@@ -63,10 +63,22 @@ pub(super) fn seated(alloc: Global, line: Line) -> Result<(Node, SoloBank<AnyWor
     Ok((node, bank))
 }
 
-// The request is refused with this, and whether a call is open stays as it was.
-fn refuses(rt: &impl Abort, node: &mut Node, request: Request, refusal: NodeRefusal, open: bool) {
-    same_at(rt, &request, &node.begin(request), &Err(refusal));
-    same_at(rt, &request, &node.open(), &open);
+// The request is refused with this, and whether a call is open stays as it was, and how much room there is.
+fn refuses(
+    rt: &impl Abort,
+    node: &mut Node,
+    bank: &mut SoloBank<AnyWords>,
+    request: Request,
+    refusal: NodeRefusal,
+)
+    requires node { (node.old.id ≡ bank.old.node) × (node.old.lines ≡ 1) }
+    requires bank { length bank.old.wholes.items ≡ 1 }
+    ensures node { (node.new.id ≡ bank.new.node) × (node.new.lines ≡ 1) }
+    ensures bank { length bank.new.wholes.items ≡ 1 }
+{
+    let stood = (node.open(), bank.room(0));
+    same_at(rt, &request, &node.begin(bank, request), &Err(refusal));
+    same_at(rt, &request, &(node.open(), bank.room(0)), &stood);
 }
 
 // Requests of a node of one line, and their refusals.
@@ -104,13 +116,15 @@ fn requests_and_turns_are_refused(rt: HostRuntime) -> Result<(), Fail> {
     let (mut node, mut bank) = seated(rt.alloc(), Line::ZERO)?;
     same(&rt, &node.turn(&mut bank), &Err(NodeRefusal::NoCall));
     for (request, refusal) in REFUSED {
-        refuses(&rt, &mut node, request, refusal, false);
+        refuses(&rt, &mut node, &mut bank, request, refusal);
     }
+    assert!(rt; !node.open());
     lists(&rt, rt.alloc(), &node, &[])?;
     let load = Request::Load { line: 0 };
-    same(&rt, &node.begin(load), &Ok(()));
+    same(&rt, &node.begin(&mut bank, load), &Ok(()));
+    assert!(rt; node.open());
     for request in [load, STORE_OF_BOTH] {
-        refuses(&rt, &mut node, request, NodeRefusal::CallOpen, true);
+        refuses(&rt, &mut node, &mut bank, request, NodeRefusal::CallOpen);
     }
     lists(&rt, rt.alloc(), &node, &[0])
 }
@@ -262,7 +276,7 @@ fn calls_that_wait_are_refused(rt: HostRuntime) -> Result<(), Fail> {
         ends(&rt, &mut node, &mut bank, request, end);
     }
     let evict = Request::Evict { line: 0 };
-    same(&rt, &node.begin(evict), &Ok(()));
+    same(&rt, &node.begin(&mut bank, evict), &Ok(()));
     ends(&rt, &mut node, &mut bank, evict, Err(NodeRefusal::CallOpen));
     Ok(())
 }

@@ -1,18 +1,18 @@
 //! A ring with its two nodes in threads of their own.
 ghost use Rattle.std.specs.Prelude.{◌≡◌, ◌+◌, ◌↔◌, Err, length, IfOk, IfErr, vec_len};
-ghost use Rattle.sci_work.specs.Ended.{AreClosed, HaveNodes};
+ghost use Rattle.sci_work.specs.Ended.{AreClosed, AreKept, HaveNodes};
 ghost use Rattle.sci_work.specs.Hands.{AtEach};
 ghost use Rattle.sci_work.specs.Ring.{FitsRing, IsRingRun, IsRingSize};
 ghost use Rattle.sci_work.specs.Starts.{ComesInRun, ComesInStart};
 
 use crate::facts::RingFact;
 use crate::gates::Gate;
+use crate::keeping::{ClosedMemory, Keeping};
 use crate::lines::{closed, opened};
 use crate::programs::Program;
 use crate::refusals::WorkRefusal;
 use crate::rings::limits::is_ring_size;
 use crate::starting::run_all;
-use sci_core::Closed;
 use std::alloc::Global;
 use std::sync::Wait;
 use std::thread::Threads;
@@ -38,43 +38,48 @@ fn passed<R: Threads + Wait + Sync, G: Gate>(
     source: &[u64],
     lines: u16,
     capacity: u16,
+    keeping: Keeping,
     gate: &G,
-) -> Result<(Vec<u64>, Vec<Closed>), WorkRefusal>
+) -> Result<(Vec<u64>, ClosedMemory), WorkRefusal>
     requires { IsRingSize (length source.now) lines }
     ensures items { IfOk result (λ r. r.0.items ≡ source.now) }
-    ensures closed { IfOk result (λ r. AreClosed (FitsRing source.now lines) (lines + 1) r.1.items) }
-    ensures nodes { IfOk result (λ r. HaveNodes 2 r.1.items) }
+    ensures closed { IfOk result (λ r. AreClosed (FitsRing source.now lines) (lines + 1) r.1.lines.items) }
+    ensures nodes { IfOk result (λ r. HaveNodes 2 r.1.lines.items) }
+    ensures kept { IfOk result (λ r. AreKept keeping 2 r.1) }
     ensures err { IfErr result (ComesInStart (Program.Ring source.entry lines)) }
 {
     let (shared, hands) = opened(alloc, 2, lines + 1, RingFact::new(source, lines))?;
     let program = Program::Ring { source, lines };
-    let (hands, shares) = run_all(rt, alloc, gate, &shared, hands, program, capacity)?;
-    let all = closed(alloc, shared, hands)?;
+    let (hands, shares) = run_all(rt, alloc, gate, &shared, hands, program, keeping, capacity)?;
+    let all = closed(alloc, shared, keeping, hands)?;
     let items = last_share(source, shares);
     Ok((items, all))
 }
 
 /// Passes the items of a list, 0 to 100,000, in order from one node to another over 1 to 1,023 lines, each node in a thread of
-/// its own. Gives the items as they came out, and the closed lines, with that behind the ring's. A node's table names up to
-/// 1,024 lines. It may wait for ever. The refusals: 22 for a number outside these limits; then that of the lower node whose
-/// refusal isn't 25: 7, 11, 19, 20 where the gate held a call back to its limit, and 26 where the node's thread couldn't be
-/// started. A refused growth outside the nodes is 7.
+/// its own. Gives the items as they came out, and the closed lines, with that behind the ring's. Where all is kept, the receipts of
+/// each node come with the lines, and are one history of each: one of each read and up to two of each write, of 144 bytes each. A
+/// node's table names up to 1,024 lines. It may wait for ever. The refusals: 22 for a number outside these limits; then that of the
+/// lower node whose refusal isn't 25: 7, 11, 19, 20 where the gate held a call back to its limit, and 26 where the node's thread
+/// couldn't be started. A refused growth outside the nodes is 7.
 pub fn ring<R: Threads + Wait + Sync, G: Gate>(
     rt: &R,
     alloc: Global,
     source: &[u64],
     lines: u16,
     capacity: u16,
+    keeping: Keeping,
     gate: &G,
-) -> Result<(Vec<u64>, Vec<Closed>), WorkRefusal>
+) -> Result<(Vec<u64>, ClosedMemory), WorkRefusal>
     ensures limits { (result ≡ Err WorkRefusal.BadSettings) ↔ (IsRingRun (length source.now) lines capacity → ⊥) }
     ensures items { IfOk result (λ r. r.0.items ≡ source.now) }
-    ensures closed { IfOk result (λ r. AreClosed (FitsRing source.now lines) (lines + 1) r.1.items) }
-    ensures nodes { IfOk result (λ r. HaveNodes 2 r.1.items) }
+    ensures closed { IfOk result (λ r. AreClosed (FitsRing source.now lines) (lines + 1) r.1.lines.items) }
+    ensures nodes { IfOk result (λ r. HaveNodes 2 r.1.lines.items) }
+    ensures kept { IfOk result (λ r. AreKept keeping 2 r.1) }
     ensures err { IfErr result ComesInRun }
 {
     if !is_ring_size(source.len(), lines) || capacity == 0 || capacity > 1024 {
         return Err(WorkRefusal::BadSettings);
     }
-    passed(rt, alloc, source, lines, capacity, gate)
+    passed(rt, alloc, source, lines, capacity, keeping, gate)
 }

@@ -31,7 +31,7 @@ pub(crate) fn worked<R: Wait, G: Gate, B: Bank>(
     requires ring { IsRing (B.Keep.fits (B.keep bank.old)) source.now lines }
     ensures share { IfOk result (λ share. number ≡ 1 → share.items ≡ source.now) }
     ensures err { IfErr result ComesInWork }
-    ensures worked { HasWorked B.way B.keep B.at_step B.gives B.readies B.told bank.old node.new bank.new }
+    ensures worked { HasWorked node.old.keeps B.way B.keep B.at_step B.gives B.readies B.told bank.old node.new bank.new }
 {
     if number == 0 {
         produced(rt, door, node, bank, source, lines)?;

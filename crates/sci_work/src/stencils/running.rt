@@ -1,6 +1,6 @@
 //! A stencil with each node in a thread of its own.
 ghost use Rattle.std.specs.Prelude.{◌≡◌, ◌*◌, ◌/◌, ◌<◌, ◌≤◌, ◌↔◌, Err, length, IfOk, IfErr, IsTrue, vec_len};
-ghost use Rattle.sci_work.specs.Ended.{AreClosed, AreClosedOf, HaveNodes};
+ghost use Rattle.sci_work.specs.Ended.{AreClosed, AreClosedOf, AreKept, AreKeptOf, HaveNodes};
 ghost use Rattle.sci_work.specs.Hands.{AtEach, IsHandOf};
 ghost use Rattle.sci_work.specs.Plain.{plain};
 ghost use Rattle.sci_work.specs.Shares.{IsShare};
@@ -9,6 +9,7 @@ ghost use Rattle.sci_work.specs.Stencil.{FitsStencil, IsStencilSize};
 
 use crate::facts::StencilFact;
 use crate::gates::Gate;
+use crate::keeping::{ClosedMemory, Keeping};
 use crate::lines::{closed, opened};
 use crate::programs::Program;
 use crate::refusals::WorkRefusal;
@@ -16,7 +17,7 @@ use crate::seating::Hand;
 use crate::starting::run_all;
 use crate::stencils::gathering::gathered;
 use crate::stencils::worker::Work;
-use sci_core::{Closed, Keeps};
+use sci_core::Keeps;
 use sci_fine::FineLine;
 use std::alloc::Global;
 use std::sync::Wait;
@@ -41,20 +42,22 @@ fn ended<K: Keeps>(
     alloc: Global,
     work: Work<'_>,
     lines: Vec<FineLine<K>>,
+    keeping: Keeping,
     hands: Vec<Hand<K>>,
     shares: Vec<Vec<u64>>,
-) -> Result<(Vec<u64>, Vec<Closed>), WorkRefusal>
+) -> Result<(Vec<u64>, ClosedMemory), WorkRefusal>
     requires whole { length work.cells.now ≡ 7 * work.tiles }
     requires nodes { (0 < work.nodes) × (vec_len shares ≡ work.nodes) }
     requires shares { AtEach (λ k share. IsShare (plain work.cells.now work.phases) work.nodes k work.tiles share.items) shares.items }
-    requires hands { AtEach (λ k hand. IsHandOf lines.items k hand.items) hands.items }
+    requires hands { AtEach (λ k hand. IsHandOf keeping lines.items k hand.items) hands.items }
     ensures cells { IfOk result (λ r. r.0.items ≡ plain work.entry.cells.now work.entry.phases) }
-    ensures closed { IfOk result (λ r. AreClosedOf K.fits lines.items r.1.items) }
+    ensures closed { IfOk result (λ r. AreClosedOf K.fits lines.items r.1.lines.items) }
+    ensures kept { IfOk result (λ r. AreKeptOf keeping lines.items r.1) }
     ensures err { IfErr result (λ e. e ≡ WorkRefusal.OutOfMemory) }
 {
     let cells = gathered(alloc, &shares, work)?;
-    let lines = closed(alloc, lines, hands)?;
-    Ok((cells, lines))
+    let memory = closed(alloc, lines, keeping, hands)?;
+    Ok((cells, memory))
 }
 
 // The cells after the last phase, and the lines as they are closed.
@@ -62,32 +65,36 @@ fn run<R: Threads + Wait + Sync, G: Gate>(
     rt: &R,
     alloc: Global,
     work: Work<'_>,
+    keeping: Keeping,
     capacity: u16,
     gate: &G,
-) -> Result<(Vec<u64>, Vec<Closed>), WorkRefusal>
+) -> Result<(Vec<u64>, ClosedMemory), WorkRefusal>
     requires whole { length work.cells.now ≡ 7 * work.tiles }
     requires tiles { (0 < work.tiles) × (work.tiles ≤ 512) }
     requires phases { work.phases ≤ 1000000 }
     requires nodes { (0 < work.nodes) × (work.nodes ≤ 64) }
     ensures cells { IfOk result (λ r. r.0.items ≡ plain work.entry.cells.now work.entry.phases) }
-    ensures closed { IfOk result (λ r. AreClosed (FitsStencil work.entry.cells.now work.entry.phases) (2 * work.entry.tiles) r.1.items) }
-    ensures nodes { IfOk result (λ r. HaveNodes work.entry.nodes r.1.items) }
+    ensures closed { IfOk result (λ r. AreClosed (FitsStencil work.entry.cells.now work.entry.phases) (2 * work.entry.tiles) r.1.lines.items) }
+    ensures nodes { IfOk result (λ r. HaveNodes work.entry.nodes r.1.lines.items) }
+    ensures kept { IfOk result (λ r. AreKept keeping work.entry.nodes r.1) }
     ensures err { IfErr result (ComesInStart (Program.Stencil work.entry)) }
 {
     let fact = StencilFact::new(work.cells, work.phases);
     let (lines, hands) = opened(alloc, work.nodes, 2 * work.tiles, fact)?;
     let program = Program::Stencil(work);
-    let (hands, shares) = run_all(rt, alloc, gate, &lines, hands, program, capacity)?;
-    ended(alloc, work, lines, hands, shares)
+    let (hands, shares) = run_all(rt, alloc, gate, &lines, hands, program, keeping, capacity)?;
+    ended(alloc, work, lines, keeping, hands, shares)
 }
 
 /// Takes cells, in 1 to 512 whole tiles of seven, 0 to 1,000,000 phases on: in each phase a cell becomes the sum of itself and
 /// its two neighbours, modulo 2^64, with 0 outside. Of 1 to 64 nodes, each in a thread of its own, node k works on the tiles
 /// whose number modulo the nodes is k, with a table of at most `capacity` lines, 1 to 1,024. Gives the cells after the last
 /// phase, and the closed lines, exact sharing lists, two for each tile: line 2t + q is all zeros, or for some phase p, which is q
-/// modulo 2, its word 0 is p + 1 and its words 1 to 7 are tile t after that phase. It may wait for ever. The refusals: 22 for a
-/// number outside these limits; then that of the lowest node whose refusal isn't 25: 7, 11, 19, 20 where the gate held a call
-/// back to its limit, and 26 where the node's thread couldn't be started. A refused growth outside the nodes is 7.
+/// modulo 2, its word 0 is p + 1 and its words 1 to 7 are tile t after that phase. Where all is kept, the receipts of each node come
+/// with the lines, and are one history of each: one of each read and up to two of each write, of 144 bytes each. It may wait for
+/// ever. The refusals: 22 for a number outside these limits; then that of the lowest node whose refusal isn't 25: 7, 11, 19, 20 where
+/// the gate held a call back to its limit, and 26 where the node's thread couldn't be started. A refused growth outside the nodes
+/// is 7.
 pub fn stencil<R: Threads + Wait + Sync, G: Gate>(
     rt: &R,
     alloc: Global,
@@ -95,12 +102,14 @@ pub fn stencil<R: Threads + Wait + Sync, G: Gate>(
     phases: u64,
     nodes: u16,
     capacity: u16,
+    keeping: Keeping,
     gate: &G,
-) -> Result<(Vec<u64>, Vec<Closed>), WorkRefusal>
+) -> Result<(Vec<u64>, ClosedMemory), WorkRefusal>
     ensures limits { (result ≡ Err WorkRefusal.BadSettings) ↔ (IsStencilSize (length cells.now) phases nodes capacity → ⊥) }
     ensures cells { IfOk result (λ r. r.0.items ≡ plain cells.now phases) }
-    ensures closed { IfOk result (λ r. AreClosed (FitsStencil cells.now phases) (2 * (length cells.now / 7)) r.1.items) }
-    ensures nodes { IfOk result (λ r. HaveNodes nodes r.1.items) }
+    ensures closed { IfOk result (λ r. AreClosed (FitsStencil cells.now phases) (2 * (length cells.now / 7)) r.1.lines.items) }
+    ensures nodes { IfOk result (λ r. HaveNodes nodes r.1.lines.items) }
+    ensures kept { IfOk result (λ r. AreKept keeping nodes r.1) }
     ensures err { IfErr result ComesInRun }
 {
     if !is_stencil_size(cells.len(), phases, nodes, capacity) {
@@ -113,5 +122,5 @@ pub fn stencil<R: Threads + Wait + Sync, G: Gate>(
         tiles,
         nodes,
     };
-    run(rt, alloc, work, capacity, gate)
+    run(rt, alloc, work, keeping, capacity, gate)
 }

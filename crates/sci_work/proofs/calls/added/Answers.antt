@@ -9,7 +9,7 @@ use Rattle.sci_work.proofs.calls.added.Goals as goal
 pub returns-in_err-enter : goal.returns-in_err-enter
 returns-in_err-enter g c =
     let r = c.from_residual in
-    record { err = passed_on r.result _ _ r.ensures.1 c.in_err-enter.ensures; worked = worked_not c.requires.ready; added = IfOk-from_err r.result _ r.ensures.0 }
+    record { err = passed_on r.result _ _ r.ensures.1 c.in_err-enter.ensures; worked = worked_not c.requires.ready; added = λ yes. IfOk-from_err r.result _ r.ensures.0 }
 
 pub returns-in-Ok : goal.returns-in-Ok
 returns-in-Ok g c =
@@ -17,7 +17,7 @@ returns-in-Ok g c =
     record {
       err = tt;
       worked = worked_still ready (still_called c.args.node.now (Request.Add c.args.line 0 1) c.args.bank.now _ c.add-answer.new.bank c.add-answer.new.self ended (may_call ready));
-      added = added_one (g.B.Keep.Keeps.fits (g.B.Bank.keep c.args.bank.now) c.args.line) c.args.line (ended.kept ready.idle) ended.content ended.waits.1;
+      added = λ yes. added_one (g.B.Keep.Keeps.fits (g.B.Bank.keep c.args.bank.now) c.args.line) c.args.line (ended.kept yes ready.idle) ended.content ended.waits.1;
     }
 
 pub returns-in-Err : goal.returns-in-Err
@@ -26,7 +26,7 @@ returns-in-Err g c =
     record {
       err = c.refused.ensures.comes;
       worked = worked_still ready (still_called c.args.node.now (Request.Add c.args.line 0 1) c.args.bank.now _ c.add-answer.new.bank c.add-answer.new.self ended (may_call ready));
-      added = tt;
+      added = λ yes. tt;
     }
 
 pub add-answer-requires : goal.add-answer-requires

@@ -6,6 +6,8 @@ use Rattle.sci_core.specs.Closed.{ClosedLine}
 use Rattle.sci_work.specs.Ended.{HaveNodes, IsCountSize}
 use Rattle.sci_work.specs.Starts.{ComesInStart}
 use Rattle.sci_work.specs.declared.programs.Program.{Program}
+use Rattle.sci_work.specs.declared.refusals.WorkRefusal.{WorkRefusal}
+use Rattle.sci_work.proofs.Closing.{one_history}
 use Rattle.sci_work.proofs.Refusing.{in_count}
 use Rattle.sci_work.proofs.Residual.{passed_on}
 use Rattle.sci_work.proofs.counting.count.Goals as goal
@@ -16,35 +18,58 @@ returns-then-not-is_count_size g c = record {
   total = tt;
   ok = tt;
   nodes = tt;
+  kept = tt;
   err = tt;
 }
 
-pub returns-in_err-closed : goal.returns-in_err-closed
-returns-in_err-closed g c =
+pub returns-in_err-one : goal.returns-in_err-one
+returns-in_err-one g c =
     let r = c.from_residual in let size : IsCountSize c.args.nodes c.args.adds c.args.capacity = c.if-not-is_count_size.ensures.0 refl in
-    let comes = c.in_err-closed.ensures.err in
+    let comes = c.in_err-one.ensures.err in
     record {
       limits = ((λ e _. subst (λ z. IfErr z (ComesInStart (Program.Count c.args.adds))) e (passed_on r.result _ _ r.ensures.1 comes)), λ no. absurd (no size));
       total = IfOk-from_err r.result _ r.ensures.0;
       ok = IfOk-from_err r.result _ r.ensures.0;
       nodes = IfOk-from_err r.result _ r.ensures.0;
+      kept = IfOk-from_err r.result _ r.ensures.0;
       err = passed_on r.result _ _ r.ensures.1 (in_count c.args.adds _ comes);
     }
 
-pub returns-in_default : goal.returns-in_default
-returns-in_default g c =
-    let size : IsCountSize c.args.nodes c.args.adds c.args.capacity = c.if-not-is_count_size.ensures.0 refl in
-    record { limits = ((λ e _. cc), λ no. absurd (no size)); total = tt; ok = tt; nodes = tt; err = tt }
+pub returns-in_err-lines : goal.returns-in_err-lines
+returns-in_err-lines g c =
+    let r = c.from_residual-in_err-lines in let size : IsCountSize c.args.nodes c.args.adds c.args.capacity = c.if-not-is_count_size.ensures.0 refl in
+    record {
+      limits = ((λ e _. let comes = subst (λ z. IfErr z (λ x. x ≡ WorkRefusal.OutOfMemory)) e (passed_on r.result _ _ r.ensures.1 refl) in cc), λ no. absurd (no size));
+      total = IfOk-from_err r.result _ r.ensures.0;
+      ok = IfOk-from_err r.result _ r.ensures.0;
+      nodes = IfOk-from_err r.result _ r.ensures.0;
+      kept = IfOk-from_err r.result _ r.ensures.0;
+      err = passed_on r.result _ _ r.ensures.1 tt;
+    }
+
+pub returns-in_err-receipts : goal.returns-in_err-receipts
+returns-in_err-receipts g c =
+    let r = c.from_residual-in_err-receipts in let size : IsCountSize c.args.nodes c.args.adds c.args.capacity = c.if-not-is_count_size.ensures.0 refl in
+    record {
+      limits = ((λ e _. let comes = subst (λ z. IfErr z (λ x. x ≡ WorkRefusal.OutOfMemory)) e (passed_on r.result _ _ r.ensures.1 refl) in cc), λ no. absurd (no size));
+      total = IfOk-from_err r.result _ r.ensures.0;
+      ok = IfOk-from_err r.result _ r.ensures.0;
+      nodes = IfOk-from_err r.result _ r.ensures.0;
+      kept = IfOk-from_err r.result _ r.ensures.0;
+      err = passed_on r.result _ _ r.ensures.1 tt;
+    }
 
 pub returns : goal.returns
 returns g c =
     let size : IsCountSize c.args.nodes c.args.adds c.args.capacity = c.if-not-is_count_size.ensures.0 refl in
-    let closed = c.in_ok-closed.closed in let told = c.in_ok-closed.ensures in
-    let one = c.in-Ok.ensures.items ∙ ap (λ (l : List ClosedLine). l ++ closed ∷ []) c.new-lines.ensures.items in
+    let made = c.in_ok-one.one in let closed = made.closed in let told = c.in_ok-one.ensures in
+    let one = c.push_reserved.ensures.items ∙ ap (λ (l : List ClosedLine). l ++ closed ∷ []) c.in_ok-lines.ensures.items in
+    let lists = c.push_reserved-2.ensures.items ∙ ap (λ (l : List _). l ++ made.receipts ∷ []) c.in_ok-receipts.ensures.items in
     record {
       limits = ((λ e _. cc), λ no. absurd (no size));
       total = ap (λ l. slice_index l.words 0) c.value.ensures.value ∙ told.total;
       ok = (closed, one, told.ok, ap (λ l. slice_index l.words 0) c.value.ensures.value);
       nodes = subst (λ (z : List _). HaveNodes c.args.nodes z) (sym one) (All-cons (λ (x : ClosedLine). length x.tags ≡ c.args.nodes) closed [] told.nodes (All-nil _));
+      kept = one_history c.args.nodes closed made.receipts _ one lists told.history;
       err = tt;
     }

@@ -1,16 +1,20 @@
-use Rattle.std.proofs.Common.{◌≡◌, ◌∷◌, [], ℕ, List, refl, sym, subst, ◌∙◌, arith, vec_len}
+use Rattle.std.proofs.Common.{◌≡◌, ◌∷◌, [], ℕ, List, refl, ap, sym, subst, ◌∙◌, arith, vec_len}
 use Rattle.std.proofs.lemmas.Result.{IfOk-from_err, IfOk-weaker, IfErr-weaker}
 use mathlib.Core.Option.{some-ne-none}
+use Rattle.sci_core.specs.declared.lines.Line.{Line}
 use Rattle.sci_core.specs.declared.keeps.AnyWords.{AnyWords}
 use Rattle.sci_fine.specs.Banks.{IsLine}
+use Rattle.sci_work.specs.declared.keeping.Keeping.{Keeping}
+use Rattle.sci_work.specs.Ended.{lists_in}
 use Rattle.sci_work.specs.Hands.{AtEach, IsHandOf}
 use Rattle.sci_work.specs.Starts.{AreParts}
 use Rattle.sci_work.specs.declared.programs.Program.{Program}
+use Rattle.sci_work.proofs.Closing.{line_history}
 use Rattle.sci_work.proofs.Dealing.{as_many}
 use Rattle.sci_work.proofs.Handed.{all_counted, none_written}
 use Rattle.sci_work.proofs.Opening.{parts_of}
 use Rattle.sci_work.proofs.Refusing.{of_memory}
-use Rattle.sci_work.proofs.Residual.{passed_on}
+use Rattle.sci_work.proofs.Residual.{all_ok, passed_on}
 use Rattle.sci_work.proofs.Seated.{at_more, count_of}
 use Rattle.sci_work.proofs.Totals.{total_of}
 use Rattle.sci_work.proofs.counting.counted.Goals as goal
@@ -36,7 +40,7 @@ run_all-requires-after_bounds g c κs within =
 
 pub gathered-requires : goal.gathered-requires
 gathered-requires g c =
-    subst (λ (z : List _). AtEach (λ k hand. IsHandOf z k hand.items) c.in_ok-hands-2.hands.items) c.from_ref.ensures.value c.in_ok-hands-2.ensures.ok.hands_are
+    subst (λ (z : List _). AtEach (λ k hand. IsHandOf Keeping.All z k hand.items) c.in_ok-hands-2.hands.items) c.from_ref.ensures.value c.in_ok-hands-2.ensures.ok.hands_are
 
 pub finished-requires : goal.finished-requires
 finished-requires g c = c.in_ok-seats.ensures.ok
@@ -46,10 +50,12 @@ returns g c =
     let ended = c.finished in let run = c.in_ok-hands-2.ensures.ok in let hands = c.in_ok-hands-2.hands in let seats = c.in_ok-seats.seats in let held = c.in_ok-seats.ensures.held in
     let len : vec_len c.in_ok-hands.hands ≡ c.args.nodes = c.in_ok-hands.ensures.len ∙ c.in_ok-line.ensures.len in
     record {
-      ok = IfOk-weaker ended.result _ _ (λ closed h. h.exact) ended.ensures.ok;
-      total = IfOk-weaker ended.result _ _ (λ closed h. total_of c.args.adds c.in_ok-line.line seats.items closed c.args.nodes (as_many hands.items seats.items held ∙ (sym (count_of hands) ∙ run.hand_count ∙ len))
-          c.in_ok-line.ensures.line.nodes_are c.in_ok-line.ensures.opening (all_counted c.args.adds hands.items seats.items held run.end) h) ended.ensures.history;
-      nodes = IfOk-weaker ended.result _ _ (λ closed h. h.nodes ∙ c.in_ok-line.ensures.line.nodes_are) ended.ensures.ok;
+      ok = IfOk-weaker ended.result _ _ (λ one h. h.exact) ended.ensures.ok;
+      total = IfOk-weaker ended.result _ _ (λ one h. total_of c.args.adds c.in_ok-line.line seats.items one.closed c.args.nodes (as_many hands.items seats.items held ∙ (sym (count_of hands) ∙ run.hand_count ∙ len))
+          c.in_ok-line.ensures.line.nodes_are (ap (λ (o : Line). o.words) c.in_ok-line.ensures.opening) (all_counted c.args.adds hands.items seats.items held (run.end refl)) h) (ended.ensures.history refl);
+      nodes = IfOk-weaker ended.result _ _ (λ one h. h.nodes ∙ c.in_ok-line.ensures.line.nodes_are) ended.ensures.ok;
+      history = all_ok ended.result _ _ _ _ (λ one count own h. line_history c.in_ok-line.line seats.items one.closed (lists_in one.receipts) c.args.nodes c.in_ok-line.ensures.line.nodes_are c.in_ok-line.ensures.opening count own h)
+          ended.ensures.nodes ended.ensures.own (ended.ensures.history refl);
       err = IfErr-weaker ended.result _ _ (of_memory (Program.Count c.args.adds)) ended.ensures.err;
     }
 
@@ -60,6 +66,7 @@ returns-in_err-line g c =
       ok = IfOk-from_err r.result _ r.ensures.0;
       total = IfOk-from_err r.result _ r.ensures.0;
       nodes = IfOk-from_err r.result _ r.ensures.0;
+      history = IfOk-from_err r.result _ r.ensures.0;
       err = passed_on r.result _ _ r.ensures.1 (of_memory (Program.Count c.args.adds) _ c.in_err-line.ensures.err);
     }
 
@@ -70,6 +77,7 @@ returns-in_err-hands g c =
       ok = IfOk-from_err r.result _ r.ensures.0;
       total = IfOk-from_err r.result _ r.ensures.0;
       nodes = IfOk-from_err r.result _ r.ensures.0;
+      history = IfOk-from_err r.result _ r.ensures.0;
       err = passed_on r.result _ _ r.ensures.1 (of_memory (Program.Count c.args.adds) _ c.in_err-hands.ensures.err);
     }
 
@@ -80,6 +88,7 @@ returns-in_err-hands-2 g c =
       ok = IfOk-from_err r.result _ r.ensures.0;
       total = IfOk-from_err r.result _ r.ensures.0;
       nodes = IfOk-from_err r.result _ r.ensures.0;
+      history = IfOk-from_err r.result _ r.ensures.0;
       err = passed_on r.result _ _ r.ensures.1 c.in_err-hands-2.ensures.err;
     }
 
@@ -90,5 +99,6 @@ returns-in_err-seats g c =
       ok = IfOk-from_err r.result _ r.ensures.0;
       total = IfOk-from_err r.result _ r.ensures.0;
       nodes = IfOk-from_err r.result _ r.ensures.0;
+      history = IfOk-from_err r.result _ r.ensures.0;
       err = passed_on r.result _ _ r.ensures.1 (of_memory (Program.Count c.args.adds) _ c.in_err-seats.ensures.err);
     }

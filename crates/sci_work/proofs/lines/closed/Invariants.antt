@@ -1,7 +1,11 @@
-use Rattle.std.proofs.Common.{◌≡◌, ℕ, ◌+◌, ◌≤◌, reverse, vec_items, vec_len, vec_capacity}
+use Rattle.std.proofs.Common.{◌≡◌, ℕ, ◌+◌, ◌≤◌, [], length, reverse, vec_items, vec_len, vec_capacity}
 use mathlib.Core.Option.{some}
 use lib.ListN.{get_elem?}
-use Rattle.sci_work.specs.Ended.{IsClosedOf}
+use Rattle.sci_core.specs.Closed.{value_of}
+use Rattle.sci_port.specs.Receipts.{IsWhole}
+use Rattle.sci_fine.specs.Kept.{list_at}
+use Rattle.sci_work.specs.declared.keeping.Keeping.{Keeping}
+use Rattle.sci_work.specs.Ended.{IsClosedOf, lists_in}
 use Rattle.sci_work.specs.Hands.{AtEach, IsHandOf}
 use Rattle.sci_work.proofs.lines.closed.Given as goal
 
@@ -11,6 +15,12 @@ invariant-loop g l = record {
   len : vec_len l.all ≡ l.counter;
   room : vec_len l.fn.lines ≤ vec_capacity l.all;
   same : (k : ℕ) (x : _) → get_elem? (vec_items l.rest) k ≡ some x → get_elem? (vec_items l.fn.lines) k ≡ some x;
-  hands : AtEach (λ k hand. IsHandOf (vec_items l.rest) k (vec_items hand)) (vec_items l.hands);
+  hands : AtEach (λ k hand. IsHandOf l.fn.keeping (vec_items l.rest) k (vec_items hand)) (vec_items l.hands);
+  lists : l.fn.keeping ≡ Keeping.All → vec_len l.receipts ≡ l.counter;
+  lists_room : l.fn.keeping ≡ Keeping.All → vec_len l.fn.lines ≤ vec_capacity l.receipts;
+  none : l.fn.keeping ≡ Keeping.Nothing → vec_items l.receipts ≡ [];
+  nodes : l.fn.keeping ≡ Keeping.All → (k : ℕ) (x : _) (v : _) → get_elem? (vec_items l.fn.lines) (k + vec_len l.rest) ≡ some x → get_elem? (reverse (vec_items l.receipts)) k ≡ some v → length (lists_in v) ≡ x.terms.nodes;
+  histories : l.fn.keeping ≡ Keeping.All → (k : ℕ) (x : _) (c : _) (v : _) → get_elem? (vec_items l.fn.lines) (k + vec_len l.rest) ≡ some x → get_elem? (reverse (vec_items l.all)) k ≡ some c → get_elem? (reverse (vec_items l.receipts)) k ≡ some v
+      → IsWhole x.terms.nodes x.terms.opening (value_of c) (λ j. list_at (lists_in v) j);
   each : (k : ℕ) (x : _) (c : _) → get_elem? (vec_items l.fn.lines) (k + vec_len l.rest) ≡ some x → get_elem? (reverse (vec_items l.all)) k ≡ some c → IsClosedOf g.K.Keeps.fits x c;
 }

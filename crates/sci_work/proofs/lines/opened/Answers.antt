@@ -2,7 +2,9 @@ use Rattle.std.proofs.Common.{◌≡◌, ◌++◌, ◌∷◌, ℕ, ◌+◌, ◌�
 use Rattle.std.proofs.lemmas.Result.{IfOk-from_err}
 use mathlib.Core.Option.{some, some-ne-none}
 use lib.ListN.{get_elem?}
+use Rattle.sci_core.specs.State.{blank}
 use Rattle.sci_fine.specs.Banks.{IsLine}
+use Rattle.sci_work.specs.declared.keeping.Keeping.{Keeping}
 use Rattle.sci_work.specs.Hands.{IsHandOf}
 use Rattle.sci_work.proofs.Residual.{passed_on}
 use Rattle.sci_work.proofs.Seated.{at_more}
@@ -17,8 +19,9 @@ loop-number-preserved g c =
       room = subst (λ (z : ℕ). c.args.count ≤ z) (sym more.capacity) i.room;
       lines = at_more (IsLine c.args.nodes c.args.keep) c.loop-number.lines.items c.push_reserved.new.self.items c.in_ok-line.line more.items i.lines
           (subst (λ (k : ℕ). IsLine c.args.nodes c.args.keep k c.in_ok-line.line) at made.line);
+      zeros = at_more (λ k x. x.terms.opening ≡ blank) c.loop-number.lines.items c.push_reserved.new.self.items c.in_ok-line.line more.items i.zeros made.opening;
       len = c.in_ok-hands-2.ensures.len ∙ i.len;
-      hands = λ k x e. subst (λ (z : List _). IsHandOf z k (vec_items x)) (ap (λ (z : List _). z ++ c.in_ok-line.line ∷ []) c.deref.ensures.value ∙ sym more.items) (c.in_ok-hands-2.ensures.each k x e);
+      hands = λ k x e. subst (λ (z : List _). IsHandOf Keeping.All z k (vec_items x)) (ap (λ (z : List _). z ++ c.in_ok-line.line ∷ []) c.deref.ensures.value ∙ sym more.items) (c.in_ok-hands-2.ensures.each k x e);
     }
 
 pub loop-number-init : goal.loop-number-init
@@ -28,8 +31,9 @@ loop-number-init g c =
       count = made.len;
       room = omega (arith, made.capacity, c.from.ensures);
       lines = λ k x e. absurd (some-ne-none x (sym (subst (λ (z : List _). get_elem? z k ≡ some x) made.items e)));
+      zeros = λ k x e. absurd (some-ne-none x (sym (subst (λ (z : List _). get_elem? z k ≡ some x) made.items e)));
       len = c.in_ok-hands.ensures.len;
-      hands = λ k x e. subst (λ (z : List _). IsHandOf z k (vec_items x)) (sym made.items) (c.in_ok-hands.ensures.each k x e);
+      hands = λ k x e. subst (λ (z : List _). IsHandOf Keeping.All z k (vec_items x)) (sym made.items) (c.in_ok-hands.ensures.each k x e);
     }
 
 pub zeroed-requires : goal.zeroed-requires
@@ -39,13 +43,13 @@ pub extended-requires : goal.extended-requires
 extended-requires g c = record {
   count = c.in_ok-line.ensures.len ∙ sym c.loop-number.invariant.len;
   seats = c.in_ok-line.ensures.seats;
-  hands = λ k x e. subst (λ (z : List _). IsHandOf z k (vec_items x)) (sym c.deref.ensures.value) (c.loop-number.invariant.hands k x e);
+  hands = λ k x e. subst (λ (z : List _). IsHandOf Keeping.All z k (vec_items x)) (sym c.deref.ensures.value) (c.loop-number.invariant.hands k x e);
 }
 
 pub returns : goal.returns
 returns g c =
     let i = c.loop-number.invariant in
-    record { count = omega (arith, i.count, c.loop-number-test.false, c.loop-number.auto.number-end); lines = i.lines; len = i.len; hands = i.hands; err = tt }
+    record { count = omega (arith, i.count, c.loop-number-test.false, c.loop-number.auto.number-end); lines = i.lines; zeros = i.zeros; len = i.len; hands = i.hands; err = tt }
 
 pub returns-in_err-lines : goal.returns-in_err-lines
 returns-in_err-lines g c =
@@ -53,6 +57,7 @@ returns-in_err-lines g c =
     record {
       count = IfOk-from_err r.result _ r.ensures.0;
       lines = IfOk-from_err r.result _ r.ensures.0;
+      zeros = IfOk-from_err r.result _ r.ensures.0;
       len = IfOk-from_err r.result _ r.ensures.0;
       hands = IfOk-from_err r.result _ r.ensures.0;
       err = passed_on r.result _ _ r.ensures.1 refl;
@@ -64,6 +69,7 @@ returns-in_err-hands g c =
     record {
       count = IfOk-from_err r.result _ r.ensures.0;
       lines = IfOk-from_err r.result _ r.ensures.0;
+      zeros = IfOk-from_err r.result _ r.ensures.0;
       len = IfOk-from_err r.result _ r.ensures.0;
       hands = IfOk-from_err r.result _ r.ensures.0;
       err = passed_on r.result _ _ r.ensures.1 c.in_err-hands.ensures.err;
@@ -75,6 +81,7 @@ returns-in_err-line g c =
     record {
       count = IfOk-from_err r.result _ r.ensures.0;
       lines = IfOk-from_err r.result _ r.ensures.0;
+      zeros = IfOk-from_err r.result _ r.ensures.0;
       len = IfOk-from_err r.result _ r.ensures.0;
       hands = IfOk-from_err r.result _ r.ensures.0;
       err = passed_on r.result _ _ r.ensures.1 c.in_err-line.ensures.err;
@@ -86,6 +93,7 @@ returns-in_err-hands-2 g c =
     record {
       count = IfOk-from_err r.result _ r.ensures.0;
       lines = IfOk-from_err r.result _ r.ensures.0;
+      zeros = IfOk-from_err r.result _ r.ensures.0;
       len = IfOk-from_err r.result _ r.ensures.0;
       hands = IfOk-from_err r.result _ r.ensures.0;
       err = passed_on r.result _ _ r.ensures.1 c.in_err-hands-2.ensures.err;

@@ -1,4 +1,4 @@
-use Rattle.std.proofs.Common.{◌≡◌, ◌<◌, ℕ, arith, refl, sym, subst}
+use Rattle.std.proofs.Common.{◌≡◌, ◌<◌, ℕ, arith, refl, sym, subst, ◌∙◌}
 use Rattle.std.proofs.lemmas.Result.{IfOk-from_err}
 use Rattle.sci_ops.specs.declared.goals.Goal.{Goal}
 use Rattle.sci_ops.specs.declared.goals.Write.{Write}
@@ -10,7 +10,7 @@ use Rattle.sci_work.proofs.Worked.{worked_not, worked_then}
 use Rattle.sci_work.proofs.programs.counted.Goals as goal
 
 pub loop-init : goal.loop-init
-loop-init g c = record { worked = worked_not c.requires.ready; added = added_none (g.B.Bank.told c.args.bank.now 0).list }
+loop-init g c = record { worked = worked_not c.requires.ready; added = λ yes. added_none (g.B.Bank.told c.args.bank.now 0).list }
 
 pub added-requires-clause-ready : goal.added-requires-clause-ready
 added-requires-clause-ready g c κs within = c.loop.invariant.worked.ready
@@ -23,7 +23,7 @@ added-requires-clause-fits g c κs within = subst (λ k. StoresFitting (g.B.Keep
 
 pub loop-preserved : goal.loop-preserved
 loop-preserved g c =
-    record { worked = worked_then c.loop.invariant.worked c.added.ensures.worked; added = added_more c.loop.invariant.added c.in_ok-added.ensures.added refl }
+    record { worked = worked_then c.loop.invariant.worked c.added.ensures.worked; added = λ yes. added_more (c.loop.invariant.added yes) (c.in_ok-added.ensures.added (c.loop.invariant.worked.same_keeps ∙ yes)) refl }
 
 pub returns-in_err-added : goal.returns-in_err-added
 returns-in_err-added g c =
@@ -31,7 +31,7 @@ returns-in_err-added g c =
     record {
       err = passed_on r.result _ _ r.ensures.1 c.in_err-added.ensures.err;
       worked = worked_then c.loop.invariant.worked c.added.ensures.worked;
-      added = IfOk-from_err r.result _ r.ensures.0;
+      added = λ yes. IfOk-from_err r.result _ r.ensures.0;
     }
 
 pub returns : goal.returns
@@ -40,5 +40,5 @@ returns g c =
     record {
       err = tt;
       worked = c.loop.invariant.worked;
-      added = subst (λ (n : ℕ). HasAdded n (g.B.Bank.told c.args.bank.now 0).list (g.B.Bank.told c.loop.bank 0).list) all c.loop.invariant.added;
+      added = λ yes. subst (λ (n : ℕ). HasAdded n (g.B.Bank.told c.args.bank.now 0).list (g.B.Bank.told c.loop.bank 0).list) all (c.loop.invariant.added yes);
     }

@@ -34,12 +34,12 @@ returns-in_err-counted-in-Count g c =
       share = IfOk-from_err r.result _ r.ensures.0;
       err = passed_on r.result _ _ r.ensures.1 (part_of_call c.args.program _ c.in_err-counted-in-Count.ensures.err);
       worked = e.worked;
-      written = IfOk-from_err r.result _ r.ensures.0;
+      written = λ yes. IfOk-from_err r.result _ r.ensures.0;
     }
 
 pub returns-in_ok-counted-in-Count-clause-written : goal.returns-in_ok-counted-in-Count-clause-written
 returns-in_ok-counted-in-Count-clause-written g c =
-    subst (λ p. HasWritten p (g.B.Bank.told c.args.bank.now 0).list (g.B.Bank.told c.counted.new.bank 0).list) (sym c.in-Count.is) c.in_ok-counted-in-Count.ensures.added
+    λ yes. subst (λ p. HasWritten p (g.B.Bank.told c.args.bank.now 0).list (g.B.Bank.told c.counted.new.bank 0).list) (sym c.in-Count.is) (c.in_ok-counted-in-Count.ensures.added yes)
 
 pub returns-in_ok-counted-in-Count-clause-share : goal.returns-in_ok-counted-in-Count-clause-share
 returns-in_ok-counted-in-Count-clause-share g c = subst (λ p. IsShareOf p c.args.number (vec_items c.new.result)) (sym c.in-Count.is) tt
@@ -57,7 +57,7 @@ returns-in-Ring g c =
       share = subst (λ p. IfOk c.worked.result (λ s. IsShareOf p c.args.number s.items)) is e.share;
       err = part_of_worked c.worked.result c.args.program (subst Awaits is tt) e.err;
       worked = e.worked;
-      written = on_ok c.worked.result (subst (λ p. HasWritten p (g.B.Bank.told c.args.bank.now 0).list (g.B.Bank.told c.worked.new.bank 0).list) is tt);
+      written = λ yes. on_ok c.worked.result (subst (λ p. HasWritten p (g.B.Bank.told c.args.bank.now 0).list (g.B.Bank.told c.worked.new.bank 0).list) is tt);
     }
 
 pub returns-in-Stencil : goal.returns-in-Stencil
@@ -67,5 +67,5 @@ returns-in-Stencil g c =
       share = subst (λ p. IfOk c.worked-in-Stencil.result (λ s. IsShareOf p c.args.number s.items)) is e.share;
       err = part_of_worked c.worked-in-Stencil.result c.args.program (subst Awaits is tt) e.err;
       worked = e.worked;
-      written = on_ok c.worked-in-Stencil.result (subst (λ p. HasWritten p (g.B.Bank.told c.args.bank.now 0).list (g.B.Bank.told c.worked-in-Stencil.new.bank 0).list) is tt);
+      written = λ yes. on_ok c.worked-in-Stencil.result (subst (λ p. HasWritten p (g.B.Bank.told c.args.bank.now 0).list (g.B.Bank.told c.worked-in-Stencil.new.bank 0).list) is tt);
     }

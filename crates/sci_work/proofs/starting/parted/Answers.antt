@@ -4,6 +4,7 @@ use Rattle.std.specs.Result.{OnOk}
 use Rattle.std.specs.Vec.Iter.{into_iter_items, into_iter_len}
 use mathlib.Core.Option.{some, some-ne-none}
 use lib.ListN.{get_elem?}
+use Rattle.sci_work.specs.declared.keeping.Keeping.{Keeping}
 use Rattle.sci_work.specs.Hands.{IsHandOf}
 use Rattle.sci_work.specs.Programs.{IsShareOf}
 use Rattle.sci_work.specs.Starts.{Ends, IsPartDone}
@@ -22,10 +23,10 @@ loop-one-init g c =
       left = λ k x e.
           let h = c.requires.done k x (subst (λ (z : List _). get_elem? z k ≡ some x) all.0 e) in
           let at : k ≡ k + vec_len c.in_ok-hands.hands = omega (arith, made.len.0) in
-          subst (λ (z : ℕ). IsPartDone c.args.lines.now c.args.program z (vec_items x.hand) x.share) at h;
+          subst (λ (z : ℕ). IsPartDone c.args.keeping c.args.lines.now c.args.program z (vec_items x.hand) x.share) at h;
       ended = λ k x e. c.requires.ended k x (subst (λ (z : List _). get_elem? z k ≡ some x) all.0 e);
       hands = λ k x e. absurd (some-ne-none x (sym (subst (λ (z : List _). get_elem? z k ≡ some x) made.empty.0 e)));
-      end = λ k x e. absurd (some-ne-none x (sym (subst (λ (z : List _). get_elem? z k ≡ some x) made.empty.0 e)));
+      end = λ all k x e. absurd (some-ne-none x (sym (subst (λ (z : List _). get_elem? z k ≡ some x) made.empty.0 e)));
       shares = λ k x e. absurd (some-ne-none x (sym (subst (λ (z : List _). get_elem? z k ≡ some x) made.empty.1 e)));
     }
 
@@ -40,18 +41,18 @@ loop-one-preserved g c =
     let more = c.push_reserved.ensures in let shared = c.push_reserved-in-loop-one.ensures in
     let here = count_of c.loop-one.hands in
     let there = sym i.same ∙ count_of c.loop-one.shares in
-    let f = at_first (λ k one. IsPartDone c.args.lines.now c.args.program k (vec_items one.hand) one.share) (into_iter_items c.loop-one.one-iterator) (into_iter_items c.next.new.self) c.in-Some.one (vec_len c.loop-one.hands) step.0 i.left in
+    let f = at_first (λ k one. IsPartDone c.args.keeping c.args.lines.now c.args.program k (vec_items one.hand) one.share) (into_iter_items c.loop-one.one-iterator) (into_iter_items c.next.new.self) c.in-Some.one (vec_len c.loop-one.hands) step.0 i.left in
     record {
       rest = gone_over (vec_len c.loop-one.hands) _ (into_iter_len c.loop-one.one-iterator) _ (vec_len c.args.done) i.rest step.1 more.len;
       same = shared.len ∙ ap (λ (n : ℕ). n + 1) i.same ∙ sym more.len;
       room = subst (λ (n : ℕ). vec_len c.args.done ≤ n) (sym more.capacity) i.room;
       share_room = subst (λ (n : ℕ). vec_len c.args.done ≤ n) (sym shared.capacity) i.share_room;
-      left = λ k x e. subst (λ (z : ℕ). IsPartDone c.args.lines.now c.args.program (k + z) (vec_items x.hand) x.share) (sym more.len) (f.1 k x e);
+      left = λ k x e. subst (λ (z : ℕ). IsPartDone c.args.keeping c.args.lines.now c.args.program (k + z) (vec_items x.hand) x.share) (sym more.len) (f.1 k x e);
       ended = (at_first (λ k one. IsOk one.share) (into_iter_items c.loop-one.one-iterator) (into_iter_items c.next.new.self) c.in-Some.one 0 step.0 i.ended).1;
-      hands = at_more (λ k hand. IsHandOf c.args.lines.now k (vec_items hand)) c.loop-one.hands.items c.push_reserved.new.self.items one.hand more.items i.hands
-          (subst (λ (z : ℕ). IsHandOf c.args.lines.now z (vec_items one.hand)) here f.0.hand);
-      end = at_more (λ k hand. Ends c.args.program (vec_items hand)) c.loop-one.hands.items c.push_reserved.new.self.items one.hand more.items i.end
-          (subst (λ r. OnOk r (Ends c.args.program (vec_items one.hand))) c.in-Ok.is f.0.ends);
+      hands = at_more (λ k hand. IsHandOf c.args.keeping c.args.lines.now k (vec_items hand)) c.loop-one.hands.items c.push_reserved.new.self.items one.hand more.items i.hands
+          (subst (λ (z : ℕ). IsHandOf c.args.keeping c.args.lines.now z (vec_items one.hand)) here f.0.hand);
+      end = λ all. at_more (λ k hand. Ends c.args.program (vec_items hand)) c.loop-one.hands.items c.push_reserved.new.self.items one.hand more.items (i.end all)
+          (subst (λ r. OnOk r (Ends c.args.program (vec_items one.hand))) c.in-Ok.is (f.0.ends all));
       shares = at_more (λ k share. IsShareOf c.args.program k (vec_items share)) c.loop-one.shares.items c.push_reserved-in-loop-one.new.self.items c.in-Ok.share shared.items i.shares
           (subst (λ (z : ℕ). IsShareOf c.args.program z (vec_items c.in-Ok.share)) there (subst (λ r. IfOk r (λ s. IsShareOf c.args.program (vec_len c.loop-one.hands) s.items)) c.in-Ok.is f.0.share_is));
     }

@@ -1,6 +1,8 @@
 use Rattle.std.proofs.Common.{◌≢◌, ◌<◌, ◌≤◌, Option, IfSome, ℕ, ap, sym, subst, ◌∙◌}
 use Rattle.sci_port.specs.Banks.{BankWay}
+use Rattle.sci_port.specs.KeepsAll.{as_it_was}
 use Rattle.sci_port.proofs.KeepsAll.{readied_then}
+use Rattle.sci_ops.specs.declared.goals.Goal.{Goal}
 use Rattle.sci_cache.specs.Called.{IsReadyFor}
 use Rattle.sci_cache.specs.Requests.{line_of, goal_of}
 use Rattle.sci_cache.specs.Nodes.{IsLine}
@@ -9,11 +11,11 @@ use Rattle.sci_cache.proofs.Keeping.{stays_readied}
 use Rattle.sci_cache.proofs.Reserved.{more_room, ready_out_by}
 use Rattle.sci_cache.proofs.node.Node.enter.Goals as goal
 
-pub reserve_at-requires : goal.reserve_at-requires
-reserve_at-requires g c = record { line = subst (λ (k : ℕ). c.line-line.result < k) (sym c.requires.lines) (subst (λ (l : ℕ). l < c.args.self.now.lines) (sym c.line-line.ensures) (has_line c.args.self.now c.args.request.now c.requires.accepted)) }
+pub returns-then-not-self-clause-readied : goal.returns-then-not-self-clause-readied
+returns-then-not-self-clause-readied g c = as_it_was
 
-pub put_in-requires : goal.put_in-requires
-put_in-requires g c =
+pub put_in_with_room-requires : goal.put_in_with_room-requires
+put_in_with_room-requires g c =
     let s = stays_readied g.B.Bank.way g.B.Bank.nodes_on g.B.Bank.keep g.B.Bank.readies g.B.Bank.at_step g.B.Bank.told g.met.B.Bank.readied c.reserve_at.ensures.readied in
     record {
       lines = ap (λ (w : BankWay). w.lines) s.same_way ∙ c.requires.lines;
@@ -21,13 +23,13 @@ put_in-requires g c =
     }
 
 pub returns-in_err-victim-clause-readied : goal.returns-in_err-victim-clause-readied
-returns-in_err-victim-clause-readied g c = readied_then c.reserve_at.ensures.readied c.put_in.ensures.readied
+returns-in_err-victim-clause-readied g c = readied_then c.reserve_at.ensures.readied c.put_in_with_room.ensures.readied
 
 pub aim_at-requires : goal.aim_at-requires
 aim_at-requires g c =
     let n = c.args.self.now in
     let r = c.args.request.now in
-    let s = stays_readied g.B.Bank.way g.B.Bank.nodes_on g.B.Bank.keep g.B.Bank.readies g.B.Bank.at_step g.B.Bank.told g.met.B.Bank.readied (readied_then c.reserve_at.ensures.readied c.put_in.ensures.readied) in
+    let s = stays_readied g.B.Bank.way g.B.Bank.nodes_on g.B.Bank.keep g.B.Bank.readies g.B.Bank.at_step g.B.Bank.told g.met.B.Bank.readied (readied_then c.reserve_at.ensures.readied c.put_in_with_room.ensures.readied) in
     let lines = ap (λ (w : BankWay). w.lines) s.same_way ∙ c.requires.lines in
     let e = c.in_ok-victim.ensures in
     record {
@@ -36,16 +38,19 @@ aim_at-requires g c =
       apart = subst (λ (l : ℕ). IfSome c.in_ok-victim.victim (λ x. l ≢ x)) (sym c.line-line.ensures) (subst (λ (o : Option ℕ). IfSome o (λ x. line_of r ≢ x)) (sym e.victim) (victim_apart n r));
     }
 
-pub returns : goal.returns
-returns g c =
+pub returns-clause-readied : goal.returns-clause-readied
+returns-clause-readied g c = readied_then (readied_then c.reserve_at.ensures.readied c.put_in_with_room.ensures.readied) c.aim_at.ensures.readied
+
+pub returns-clause-ready : goal.returns-clause-ready
+returns-clause-ready g c = λ keeps.
     let r = c.args.request.now in
     let e = c.in_ok-victim.ensures in
     let a = c.aim_at.ensures in
     let told = g.B.Bank.told in
     let first = c.reserve_at.new.bank in
-    let second = c.put_in.new.bank in
+    let second = c.put_in_with_room.new.bank in
     let third = c.aim_at.new.bank in
-    let s = stays_readied g.B.Bank.way g.B.Bank.nodes_on g.B.Bank.keep g.B.Bank.readies g.B.Bank.at_step told g.met.B.Bank.readied c.put_in.ensures.readied in
+    let s = stays_readied g.B.Bank.way g.B.Bank.nodes_on g.B.Bank.keep g.B.Bank.readies g.B.Bank.at_step told g.met.B.Bank.readied e.readied in
     let t = stays_readied g.B.Bank.way g.B.Bank.nodes_on g.B.Bank.keep g.B.Bank.readies g.B.Bank.at_step told g.met.B.Bank.readied a.readied in
     let l = c.line-line.result in
     let here : IsReadyFor (goal_of r) (told third l) = record {
@@ -53,13 +58,6 @@ returns g c =
       room = subst (λ (k : ℕ). k ≤ (told third l).room) c.need.ensures (more_room c.need.result (told first l).room (told second l).room (told third l).room c.in_ok-reserve_at.ensures.room (s.grows l) (t.grows l));
     } in
     record {
-      victim = e.victim;
-      inside = e.inside;
-      used = e.used;
-      same = tt;
-      same_node = e.same_node;
-      readied = readied_then (readied_then c.reserve_at.ensures.readied c.put_in.ensures.readied) a.readied;
-      kept = tt;
-      ready = subst (λ (k : ℕ). IsReadyFor (goal_of r) (told third k)) c.line-line.ensures here;
-      ready_out = ready_out_by c.in_ok-victim.victim (told second) (told third) a.out e.room t.grows;
+      line = subst (λ (k : ℕ). IsReadyFor (goal_of r) (told third k)) c.line-line.ensures here;
+      exit = subst (λ (o : Option ℕ). IfSome o (λ w. IsReadyFor Goal.Evict (told third w))) e.victim (ready_out_by c.in_ok-victim.victim (told second) (told third) a.out e.room t.grows);
     }

@@ -8,6 +8,7 @@ use Rattle.sci_ops.specs.Operation.{Operation}
 use Rattle.sci_ops.specs.Table.{after_turn}
 use Rattle.sci_ops.proofs.Ending.Falls.{alone_at_rest, bound_at_rest}
 use Rattle.sci_ops.proofs.Ending.Turning.{turns}
+use Rattle.sci_ops.proofs.Last.{last_of}
 use Rattle.sci_ops.proofs.Less.{takes_less}
 use Rattle.sci_ops.proofs.SoFar.{goes_so_far, none_so_far, still_given}
 use Rattle.sci_ops.proofs.Staged.{stores_on}
@@ -68,6 +69,7 @@ returns-in-Done g c =
       op = c.in-Done.ensures.op ∙ ap (λ (x : Operation). after_turn x (Turn.Done c.in-Done.answer)) i.same_op;
       rest = h.1.1;
       kept = λ given. let k = i.kept given in let t = c.in-Done.ensures.kept k.0 in goes_so_far c.args.self.now c.turns.self _ _ _ (Turn.Done c.in-Done.answer) i.same_op k.1 t.writes t.extends;
+      last = λ given. last_of c.args.self.now c.turns.self c.in-Done.answer _ c.turns.solo.receipts.now c.turn.new.port.receipts.now i.same_op c.requires.begins (i.kept given).0 c.in-Done.ensures.last;
       same_way = c.in-Done.ensures.same_way ∙ i.same_way;
       same_fact = c.in-Done.ensures.same_fact ∙ i.same_fact;
     }

@@ -41,7 +41,7 @@ invariant_of-self g c =
     let place : c.from-place.result ≡ c.args.node = c.from-place.ensures ∙ c.get.ensures.value in
     let near : c.from-place.result < c.self.inside.size.nodes = subst (λ (i : ℕ). i < c.self.inside.size.nodes) (sym place) (subst (λ (x : Banked _). c.args.node < x.size.nodes) (sym c.self.view_is) c.requires.node) in
     turned_set g.B.Bank.way g.B.Bank.nodes_on g.B.Bank.keep g.B.Keep.Keeps.fits v c.self.invariant c.from-place.result c.index_mut.result.now near c.index_mut.ensures.value
-    c.turn_over.new.bank c.turn_over.ensures.same_way c.turn_over.ensures.same_nodes c.turn_over.ensures.same_fact c.index_mut-2.result.now c.turn_over.new.node c.index_mut-2.ensures.value c.turn_over.ensures.same_node.id c.turn_over.ensures.same_node.lines
+    c.turn_over.new.bank c.turn_over.ensures.same_way c.turn_over.ensures.same_nodes c.turn_over.ensures.same_fact c.index_mut-2.result.now c.turn_over.new.node c.index_mut-2.ensures.value c.turn_over.ensures.same_node
 
 pub returns-clause-turned : goal.returns-clause-turned
 returns-clause-turned g c =

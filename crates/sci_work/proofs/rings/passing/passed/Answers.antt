@@ -5,7 +5,7 @@ use Rattle.sci_work.specs.Ring.{FitsRing}
 use Rattle.sci_work.specs.Starts.{AreParts}
 use Rattle.sci_work.specs.declared.facts.ring.RingFact.{RingFact}
 use Rattle.sci_work.specs.declared.programs.Program.{Program}
-use Rattle.sci_work.proofs.Closing.{closed_under, nodes_under}
+use Rattle.sci_work.proofs.Closing.{closed_under, kept_under, nodes_under}
 use Rattle.sci_work.proofs.Items.{is_ring}
 use Rattle.sci_work.proofs.Opening.{parts_of}
 use Rattle.sci_work.proofs.Refusing.{of_memory}
@@ -31,14 +31,18 @@ returns-clause-items g c = c.last_share-items.ensures
 
 pub returns-clause-closed : goal.returns-clause-closed
 returns-clause-closed g c =
-    let fact = c.new.result in let made = c.in_ok-shared in let lines = c.args.lines in let all = c.in_ok-all.all.items in
+    let fact = c.new.result in let made = c.in_ok-shared in let lines = c.args.lines in let all = c.in_ok-all.all.lines.items in
     let size : length made.shared.items ≡ lines + 1 = omega (arith, made.ensures.count, made.shared.ok) in
     let ended = closed_under fits_of 2 fact (lines + 1) made.shared.items all size made.ensures.lines c.in_ok-all.ensures.ok in
     subst (λ (s : List _). AreClosed (FitsRing s lines) (lines + 1) all) (ap (λ z. z.now) c.new.ensures.source)
     (subst (λ (l : _). AreClosed (FitsRing fact.source.now l) (lines + 1) all) c.new.ensures.lines ended)
 
 pub returns-clause-nodes : goal.returns-clause-nodes
-returns-clause-nodes g c = nodes_under fits_of 2 c.new.result c.in_ok-shared.shared.items c.in_ok-all.all.items c.in_ok-shared.ensures.lines c.in_ok-all.ensures.ok
+returns-clause-nodes g c = nodes_under fits_of 2 c.new.result c.in_ok-shared.shared.items c.in_ok-all.all.lines.items c.in_ok-shared.ensures.lines c.in_ok-all.ensures.ok
+
+pub returns-clause-kept : goal.returns-clause-kept
+returns-clause-kept g c = let made = c.in_ok-shared in
+    kept_under fits_of c.args.keeping 2 c.new.result made.shared.items c.in_ok-all.all made.ensures.lines made.ensures.zeros c.in_ok-all.ensures.ok c.in_ok-all.ensures.kept
 
 pub returns-in_err-shared : goal.returns-in_err-shared
 returns-in_err-shared g c =
@@ -47,6 +51,7 @@ returns-in_err-shared g c =
       items = IfOk-from_err r.result _ r.ensures.0;
       closed = IfOk-from_err r.result _ r.ensures.0;
       nodes = IfOk-from_err r.result _ r.ensures.0;
+      kept = IfOk-from_err r.result _ r.ensures.0;
       err = passed_on r.result _ _ r.ensures.1 (of_memory (Program.Ring c.args.source c.args.lines) _ c.in_err-shared.ensures.err);
     }
 
@@ -57,6 +62,7 @@ returns-in_err-hands g c =
       items = IfOk-from_err r.result _ r.ensures.0;
       closed = IfOk-from_err r.result _ r.ensures.0;
       nodes = IfOk-from_err r.result _ r.ensures.0;
+      kept = IfOk-from_err r.result _ r.ensures.0;
       err = passed_on r.result _ _ r.ensures.1 c.in_err-hands.ensures.err;
     }
 
@@ -67,5 +73,6 @@ returns-in_err-all g c =
       items = IfOk-from_err r.result _ r.ensures.0;
       closed = IfOk-from_err r.result _ r.ensures.0;
       nodes = IfOk-from_err r.result _ r.ensures.0;
+      kept = IfOk-from_err r.result _ r.ensures.0;
       err = passed_on r.result _ _ r.ensures.1 (of_memory (Program.Ring c.args.source c.args.lines) _ c.in_err-all.ensures.err);
     }

@@ -6,8 +6,9 @@ use Rattle.sci_work.specs.Ended.{AreClosed}
 use Rattle.sci_work.specs.Hands.{IsHandOf}
 use Rattle.sci_work.specs.Starts.{AreParts}
 use Rattle.sci_work.specs.Stencil.{FitsStencil}
-use Rattle.sci_work.proofs.Closing.{closed_under, nodes_under}
+use Rattle.sci_work.proofs.Closing.{closed_under, kept_under, nodes_under}
 use Rattle.sci_work.proofs.Opening.{parts_of}
+use Rattle.sci_work.proofs.Residual.{both_ok}
 use Rattle.sci_work.proofs.Sharing.{is_work}
 use Rattle.sci_work.proofs.Showing.{zeros_fit}
 use Rattle.sci_work.proofs.stencils.running.run.Goals as goal
@@ -31,16 +32,20 @@ pub ended-requires-clause-shares : goal.ended-requires-clause-shares
 ended-requires-clause-shares g c k x at tile j low mine small = c.in_ok-hands.ensures.ok.shares_are k x at tile j low mine small
 
 pub ended-requires-clause-hands : goal.ended-requires-clause-hands
-ended-requires-clause-hands g c k x at = subst (λ (ls : List _). IsHandOf ls k x.items) c.deref.ensures.value (c.in_ok-hands.ensures.ok.hands_are k x at)
+ended-requires-clause-hands g c k x at = subst (λ (ls : List _). IsHandOf c.args.keeping ls k x.items) c.deref.ensures.value (c.in_ok-hands.ensures.ok.hands_are k x at)
 
 pub returns-clause-closed : goal.returns-clause-closed
 returns-clause-closed g c =
     let work = c.args.work in let fact = c.new-fact.result in let made = c.in_ok-lines.ensures in
     IfOk-weaker c.ended.result _ _ (λ r done.
-    let closed = closed_under says work.nodes fact (2 * work.tiles) c.in_ok-lines.lines.items r.1.items (omega (arith, made.count, c.in_ok-lines.lines.ok)) made.lines done in
-    let cells = subst (λ (xs : List ℕ). AreClosed (FitsStencil xs fact.phases) (2 * work.tiles) r.1.items) (ap (λ (s : _). s.now) c.new-fact.ensures.cells) closed in
-    subst (λ (p : ℕ). AreClosed (FitsStencil work.cells.now p) (2 * work.tiles) r.1.items) c.new-fact.ensures.phases cells) c.ended.ensures.closed
+    let closed = closed_under says work.nodes fact (2 * work.tiles) c.in_ok-lines.lines.items r.1.lines.items (omega (arith, made.count, c.in_ok-lines.lines.ok)) made.lines done in
+    let cells = subst (λ (xs : List ℕ). AreClosed (FitsStencil xs fact.phases) (2 * work.tiles) r.1.lines.items) (ap (λ (s : _). s.now) c.new-fact.ensures.cells) closed in
+    subst (λ (p : ℕ). AreClosed (FitsStencil work.cells.now p) (2 * work.tiles) r.1.lines.items) c.new-fact.ensures.phases cells) c.ended.ensures.closed
 
 pub returns-clause-nodes : goal.returns-clause-nodes
 returns-clause-nodes g c =
-    IfOk-weaker c.ended.result _ _ (λ r done. nodes_under says c.args.work.nodes c.new-fact.result c.in_ok-lines.lines.items r.1.items c.in_ok-lines.ensures.lines done) c.ended.ensures.closed
+    IfOk-weaker c.ended.result _ _ (λ r done. nodes_under says c.args.work.nodes c.new-fact.result c.in_ok-lines.lines.items r.1.lines.items c.in_ok-lines.ensures.lines done) c.ended.ensures.closed
+
+pub returns-clause-kept : goal.returns-clause-kept
+returns-clause-kept g c =
+    both_ok c.ended.result _ _ _ (λ r done kept. kept_under says c.args.keeping c.args.work.nodes c.new-fact.result c.in_ok-lines.lines.items r.1 c.in_ok-lines.ensures.lines c.in_ok-lines.ensures.zeros done kept) c.ended.ensures.closed c.ended.ensures.kept
