@@ -1,5 +1,5 @@
 -- Work of a node of which its receipts keep all.
-use Rattle.std.proofs.Common.{◌≡◌, ◌≢◌, inl, inr, ℕ, ◌≤◌, ◌<◌, Bool, true, false, nat_eq, if◌then◌else◌, Option, Some, None, Ok, Err, List, [], ◌++◌, refl, sym, ap, subst, ◌∙◌, arith, append-nil}
+use Rattle.std.proofs.Common.{◌≡◌, ◌≢◌, inl, inr, ℕ, ◌≤◌, Bool, true, false, nat_eq, if◌then◌else◌, Option, Some, None, Ok, Err, List, [], ◌++◌, refl, sym, ap, subst, ◌∙◌, arith, append-nil}
 use Rattle.std.proofs.lemmas.Bool.{cases_eq}
 use Rattle.sci_core.specs.declared.pending.Pending.{Pending}
 use Rattle.sci_core.specs.declared.receipts.Receipt.{Receipt}
@@ -13,11 +13,11 @@ use Rattle.sci_port.proofs.KeepsAll.{chain_keeps, extends_none, extends_same, ex
 use Rattle.sci_ops.specs.declared.answers.Answer.{Answer}
 use Rattle.sci_ops.specs.declared.answers.Turn.{Turn}
 use Rattle.sci_ops.specs.declared.goals.Goal.{Goal}
-use Rattle.sci_ops.specs.Kept.{IsLastReceipt}
+use Rattle.sci_ops.specs.Kept.{EndsWithAnswer}
 use Rattle.sci_ops.specs.Operation.{Operation}
 use Rattle.sci_ops.specs.Room.{HasNeed, IsProvided, KeepsTurn, adds_towards, need_in, need_towards}
 use Rattle.sci_ops.specs.Table.{after_turn, begun}
-use Rattle.sci_cache.specs.Called.{IsReadyFor, KeepsOn, KeepsRequest, LeavesReceipts}
+use Rattle.sci_cache.specs.Called.{IsReadyFor, KeepsOn, KeepsRequest, LeavesReceipts, most_needed}
 use Rattle.sci_cache.specs.declared.calls.OpenCall.{OpenCall}
 use Rattle.sci_cache.specs.declared.refusals.NodeRefusal.{NodeRefusal}
 use Rattle.sci_cache.specs.declared.requests.Request.{Request}
@@ -87,20 +87,23 @@ module _ {U K : Type 0} (way : U → BankWay) (nodes_on : U → ℕ → ℕ) (ke
 
 -- ---- what is ready is provided
 
-need_by : (goal : Goal) (b : Bool) (room : ℕ) → need_towards goal false ≤ room → need_towards goal b ≤ room
+need_by : (goal : Goal) (b : Bool) (room : ℕ) → most_needed goal ≤ room → need_towards goal b ≤ room
 need_by Goal.Load b room h = h
 need_by (Goal.Write write) true room h = omega (arith, h)
-need_by (Goal.Write write) false room h = h
+need_by (Goal.Write write) false room h = omega (arith, h)
 need_by Goal.Evict true room h = omega arith
-need_by Goal.Evict false room h = h
+need_by Goal.Evict false room h = omega (arith, h)
 
-need_idle : (goal : Goal) (s : ReceiptList) → need_towards goal false ≤ s.room → need_in goal Pending.Idle s ≤ s.room
-need_idle Goal.Load s h = h
-need_idle (Goal.Write write) s h = need_by (Goal.Write write) (last_passed s.list) s.room h
-need_idle Goal.Evict s h = need_by Goal.Evict (last_passed s.list) s.room h
+need_ready : (goal : Goal) (p : Pending) (s : ReceiptList) → most_needed goal ≤ s.room → need_in goal p s ≤ s.room
+need_ready Goal.Load p s h = h
+need_ready (Goal.Write write) (Pending.Holding word line) s h = h
+need_ready (Goal.Write write) p s h = need_by (Goal.Write write) (last_passed s.list) s.room h
+need_ready Goal.Evict (Pending.Holding word line) s h = h
+need_ready Goal.Evict p s h = need_by Goal.Evict (last_passed s.list) s.room h
 
-pub ready_need : (goal : Goal) (p : Pending) (s : ReceiptList) → IsReadyFor goal s → p ≡ Pending.Idle → HasNeed goal p s
-ready_need goal p s h idle = record { mark = h.mark; room = subst (λ (q : Pending). need_in goal q s ≤ s.room) (sym idle) (need_idle goal s h.room) }
+-- in whichever pending step
+pub ready_need : (goal : Goal) (p : Pending) (s : ReceiptList) → IsReadyFor goal s → HasNeed goal p s
+ready_need goal p s h = record { mark = h.mark; room = need_ready goal p s h.room }
 
 -- ---- one piece of work after another
 
@@ -219,6 +222,9 @@ module _ {U : Type 0} (gives : U → ℕ → Call → U → Type 0) (readies : U
       pub still_at_work : GoesOn turn → IsAtWork goal line a v
       still_at_work on = record { on = nothing_added kept_line others_line work (adds_none goal turn on); need = goes_need kept_line others_line work on }
 
+      pub extends_on : Extends (told u line).list (told v line).list
+      extends_on = extends_by kept_line others_line work line
+
       pub worked_on : adds_towards goal turn ≡ [] → KeepsOn gives readies told a v
       worked_on none = nothing_added kept_line others_line work none
 
@@ -238,7 +244,7 @@ module _ {U : Type 0} (gives : U → ℕ → Call → U → Type 0) (readies : U
   pub refused_keeps : (e : NodeRefusal) → KeepsOn gives readies told u v → KeepsRequest gives readies told r u (Err e) v
   refused_keeps e h = record { all = h.all; writes = λ m. h.writes m ∙ sym (append-nil (writes_in (told u m).list)); last = tt; extends = h.extends }
 
-  pub answered_keeps : (answer : Answer) → HasWorked gives readies step told (goal_of r) (line_of r) (Turn.Done answer) u v → IsLastReceipt (goal_of r) answer (told v (line_of r)).list → KeepsRequest gives readies told r u (Ok answer) v
+  pub answered_keeps : (answer : Answer) → HasWorked gives readies step told (goal_of r) (line_of r) (Turn.Done answer) u v → EndsWithAnswer (goal_of r) answer (told u (line_of r)).list (told v (line_of r)).list → KeepsRequest gives readies told r u (Ok answer) v
   answered_keeps answer h last = record { all = h.all; writes = h.writes; last = last; extends = h.extends }
 
 -- a bank readied for a request, unless its node keeps no receipts, from which its turns have run so far

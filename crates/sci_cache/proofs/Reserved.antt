@@ -4,7 +4,7 @@ use Rattle.std.proofs.lemmas.Bool.{cases_eq}
 use Rattle.sci_port.specs.Readying.{ChangesAt, Reserves}
 use Rattle.sci_port.specs.ReceiptList.{ReceiptList}
 use Rattle.sci_ops.specs.declared.goals.Goal.{Goal}
-use Rattle.sci_cache.specs.Called.{IsReadyFor, IsSameButRoom}
+use Rattle.sci_cache.specs.Called.{IsReadyFor, IsSameButRoom, most_needed}
 
 pub on_ok : {T E : Type 0} {P : Type 0} (r : Result T E) → (is_ok r ≡ true → P) → OnOk r P
 on_ok (Ok x) h = h refl
@@ -27,7 +27,7 @@ either_way (Ok x) h k = h
 either_way (Err e) h k = k
 
 -- there is room for the eviction of a line that is put out, and its mark is set
-pub ready_out_by : (v : Option ℕ) (before after : ℕ → ReceiptList) → IfSome v (λ w. (after w).passing ≡ true) → IfSome v (λ w. 1 ≤ (before w).room) → ((w : ℕ) → (before w).room ≤ (after w).room) → IfSome v (λ w. IsReadyFor Goal.Evict (after w))
+pub ready_out_by : (v : Option ℕ) (before after : ℕ → ReceiptList) → IfSome v (λ w. (after w).passing ≡ true) → IfSome v (λ w. most_needed Goal.Evict ≤ (before w).room) → ((w : ℕ) → (before w).room ≤ (after w).room) → IfSome v (λ w. IsReadyFor Goal.Evict (after w))
 ready_out_by None before after mark room grows = tt
 ready_out_by (Some w) before after mark room grows = let more = grows w in record { mark = mark; room = omega (arith, room, more) }
 

@@ -1,5 +1,5 @@
 -- A turn over the port to one line of a bank, as the bank sees it.
-use Rattle.std.proofs.Common.{◌≡◌, ◌≢◌, ℕ, Option, Some, None, List, [], ◌∷◌, ◌++◌, refl, sym, ap, subst, ◌∙◌}
+use Rattle.std.proofs.Common.{◌≡◌, ℕ, Option, Some, None, List, [], ◌∷◌, ◌++◌, refl, ap, subst, ◌∙◌}
 use Rattle.sci_core.specs.declared.pending.Pending.{Pending}
 use Rattle.sci_core.specs.declared.lines.Line.{Line}
 use Rattle.sci_core.specs.declared.events.Event.{Event}
@@ -13,13 +13,12 @@ use Rattle.sci_port.specs.ReceiptList.{HasRoomFor, ReceiptList}
 use Rattle.sci_ops.specs.declared.answers.Answer.{Answer}
 use Rattle.sci_ops.specs.declared.answers.Turn.{Turn}
 use Rattle.sci_ops.specs.declared.goals.Goal.{Goal}
-use Rattle.sci_ops.specs.declared.goals.Write.{Write}
-use Rattle.sci_ops.specs.Answers.{IsAnswer, ChainTo, Answers, AnswersAt}
+use Rattle.sci_ops.specs.Answers.{IsAnswer, ChainTo, AnswersAt}
 use Rattle.sci_ops.specs.Kept.{KeepsAnswer}
 use Rattle.sci_ops.specs.Operation.{Operation}
-use Rattle.sci_ops.specs.Plan.{Plan, Follows, Takes}
+use Rattle.sci_ops.specs.Plan.{Takes}
 use Rattle.sci_ops.specs.Room.{IsProvided, KeepsTurn, adds}
-use Rattle.sci_ops.specs.Table.{after_turn, turn_in, turn_of}
+use Rattle.sci_ops.specs.Table.{after_turn, turn_of}
 use Rattle.sci_cache.specs.Nodes.{IsAnswerTo, ShowsAnswerTo}
 
 -- what no call on the line changes, no chain of them does

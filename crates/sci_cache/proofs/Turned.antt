@@ -8,6 +8,7 @@ use Rattle.sci_ops.specs.declared.goals.Goal.{Goal}
 use Rattle.sci_ops.specs.declared.answers.Answer.{Answer}
 use Rattle.sci_ops.specs.declared.answers.Turn.{Turn}
 use Rattle.sci_ops.specs.Answers.{AnswersAt, ChainTo, IsAnswer}
+use Rattle.sci_ops.specs.Kept.{KeepsAnswer}
 use Rattle.sci_ops.specs.Operation.{Operation}
 use Rattle.sci_ops.specs.Plan.{Takes, LoadsAtMost}
 use Rattle.sci_ops.specs.Room.{IsProvided, KeepsTurn}
@@ -15,7 +16,7 @@ use Rattle.sci_ops.specs.Table.{turn_of}
 use Rattle.sci_cache.specs.declared.calls.OpenCall.{OpenCall}
 use Rattle.sci_cache.specs.declared.refusals.NodeRefusal.{NodeRefusal}
 use Rattle.sci_cache.specs.Called.{KeepsTurnOf}
-use Rattle.sci_cache.specs.Nodes.{NodeState, TurnsAt, TurnsBy, line_by, op_by, shown_by, call_after, residents_after, taken_by, node_state, LeavesBy, ShowsAnswerTo, IsSameNode, IsLine, IsSoundCall, IsIdleBut}
+use Rattle.sci_cache.specs.Nodes.{NodeState, TurnsAt, TurnsBy, line_by, op_by, shown_by, call_after, residents_after, node_after, taken_by, node_state, LeavesBy, ShowsAnswerTo, IsSameNode, IsLine, IsSoundCall, IsIdleBut}
 use Rattle.sci_cache.specs.Residents.{without}
 
 -- what an eviction answers
@@ -75,17 +76,23 @@ module _ {U : Type 0} (gives : U → ℕ → Call → U → Type 0) (step : U �
       (subst (λ (x : Option OpenCall). TurnsBy gives step n x u (Ok shown) v m) (sym calls) turns)
 
 -- what it keeps of the receipts on the line at work
-module _ {U : Type 0} (gives : U → ℕ → Call → U → Type 0) (step : U → ℕ → Pending) (told : U → ℕ → ReceiptList) (c : OpenCall) (u v : U) (t : Turn) where
+module _ {U : Type 0} (gives : U → ℕ → Call → U → Type 0) (step : U → ℕ → Pending) (told : U → ℕ → ReceiptList) (n now : NodeState) (view : n ≡ now) (c : OpenCall) (u v : U) (t : Turn) where
   abbrev KeptBy : Operation → ℕ → Type 0
   KeptBy o line = IsProvided o.goal o.answer (step u line) (told u line) → KeepsTurn (λ s call r. gives s line call r) (λ s. told s line) o u t v (step v line)
 
-  pub kept_by : (o : Operation) (w : Option ℕ) (shown : Turn) → c.victim ≡ w → o ≡ op_by w c.op → KeptBy o (line_by w c.line) → shown ≡ shown_by w t → KeepsTurnOf gives step told c u shown v
-  kept_by o w shown victim op kept shows =
+  abbrev LastBy : Operation → ℕ → Type 0
+  LastBy o line = KeepsAnswer o t (told u line) (told v line)
+
+  pub kept_by : (o : Operation) (w : Option ℕ) (shown : Turn) (m : NodeState) → c.victim ≡ w → o ≡ op_by w c.op → KeptBy o (line_by w c.line) → LastBy o (line_by w c.line) → shown ≡ shown_by w t → m ≡ record n { residents = residents_after c w t n.residents; call = call_after c w t } → KeepsTurnOf gives step told now c u shown v m
+  kept_by o w shown m victim op kept last shows node =
       let with_op : KeptBy (op_by w c.op) (line_by w c.line) = subst (λ (x : Operation). KeptBy x (line_by w c.line)) op kept in
+      let last_op : LastBy (op_by w c.op) (line_by w c.line) = subst (λ (x : Operation). LastBy x (line_by w c.line)) op last in
       record {
         turn = t;
         shows = shows ∙ ap (λ (x : Option ℕ). shown_by x t) (sym victim);
+        node = subst (λ (k : NodeState). m ≡ node_after k c t) view (node ∙ ap (λ (x : Option ℕ). record n { residents = residents_after c x t n.residents; call = call_after c x t }) (sym victim));
         kept = subst (λ (x : Option ℕ). KeptBy (op_by x c.op) (line_by x c.line)) (sym victim) with_op;
+        last = subst (λ (x : Option ℕ). LastBy (op_by x c.op) (line_by x c.line)) (sym victim) last_op;
       }
 
 -- a turn that goes on leaves the node as it is
@@ -138,7 +145,7 @@ line_inside lines line None h k = h
 line_inside lines line (Some x) h k = k
 
 module _ (n now : NodeState) (view : n ≡ now) (c : OpenCall) (calls : n.call ≡ Some c) where
-  call_now : now.call ≡ Some c
+  pub call_now : now.call ≡ Some c
   call_now = ap (λ (k : NodeState). k.call) (sym view) ∙ calls
 
   pub of_call : (P : OpenCall → Type 0) → P c → IfSome now.call P

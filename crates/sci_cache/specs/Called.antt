@@ -1,36 +1,48 @@
 -- What a call of a node that waits for its end has come to. This project's profile.
-use Rattle.std.specs.Prelude.{◌≡◌, ◌≢◌, ℕ, ◌≤◌, Bool, true, false, nat_eq, if◌then◌else◌, List, [], ◌++◌, Option, Some, None, Result, Ok, Err, IfOk, IfSome}
+use Rattle.std.specs.Prelude.{◌≡◌, ◌≢◌, ℕ, suc, ◌≤◌, Bool, true, false, nat_eq, if◌then◌else◌, List, [], ◌++◌, Option, Some, None, Result, Ok, Err, IfOk, IfSome}
 use Rattle.sci_core.specs.declared.pending.Pending.{Pending}
 use Rattle.sci_core.specs.declared.receipts.Receipt.{Receipt}
-use Rattle.sci_core.specs.declared.receipts.Receipt.TheVariants.{Read, Wrote}
 use Rattle.sci_port.specs.declared.calls.Call.{Call}
 use Rattle.sci_port.specs.Banks.{BankWay}
-use Rattle.sci_port.specs.KeepsAll.{Extends, IsLast, IsReadied, KeepsAll, writes_in}
+use Rattle.sci_port.specs.KeepsAll.{Extends, IsReadied, KeepsAll, writes_in}
 use Rattle.sci_port.specs.Readying.{Readying}
 use Rattle.sci_port.specs.ReceiptList.{ReceiptList}
 use Rattle.sci_ops.specs.declared.answers.Answer.{Answer}
 use Rattle.sci_ops.specs.declared.answers.Turn.{Turn}
 use Rattle.sci_ops.specs.declared.goals.Goal.{Goal}
-use Rattle.sci_ops.specs.Kept.{IsLastReceipt}
-use Rattle.sci_ops.specs.Room.{IsProvided, KeepsTurn, adds_towards, is_passing, need_of, need_towards}
+use Rattle.sci_ops.specs.Kept.{EndsWithAnswer, KeepsAnswer}
+use Rattle.sci_ops.specs.Room.{HasNeed, IsProvided, KeepsTurn, adds_towards, is_passing, need_of, need_towards}
 use Rattle.sci_ops.specs.Table.{begun}
 use Rattle.sci_cache.specs.declared.calls.OpenCall.{OpenCall}
 use Rattle.sci_cache.specs.declared.refusals.NodeRefusal.{NodeRefusal}
 use Rattle.sci_cache.specs.declared.requests.Request.{Request}
 use Rattle.sci_cache.specs.Requests.{line_of, goal_of}
-use Rattle.sci_cache.specs.Nodes.{NodeState, IsAnswerTo, IsIdleBut, IsSameNode, LeavesIdle, Runs, Waits, line_by, op_by, shown_by}
+use Rattle.sci_cache.specs.Nodes.{NodeState, IsAnswerTo, IsIdleBut, IsSameNode, LeavesIdle, Runs, Waits, line_by, node_after, op_by, shown_by, victim_with}
 
 -- the line is that of the victim
 abbrev pub is_victim : Option ℕ → ℕ → Bool
 is_victim None line = false
 is_victim (Some victim) line = nat_eq victim line
 
--- a turn of an open call: where what is at work has what it needs of its line's receipts, the turn keeps them
-pub record KeepsTurnOf {U : Type 0} (gives : U → ℕ → Call → U → Type 0) (step : U → ℕ → Pending) (told : U → ℕ → ReceiptList) (c : OpenCall) (u : U) (shown : Turn) (v : U) : Type 0 where
+-- a turn of an open call, from the node n to m: where what is at work has what it needs of its line's receipts, the turn keeps them; and where
+-- there is room, what ends it is its line's last receipt
+pub record KeepsTurnOf {U : Type 0} (gives : U → ℕ → Call → U → Type 0) (step : U → ℕ → Pending) (told : U → ℕ → ReceiptList) (n : NodeState) (c : OpenCall) (u : U) (shown : Turn) (v : U) (m : NodeState) : Type 0 where
   pub turn : Turn
   pub shows : shown ≡ shown_by c.victim turn
+  pub node : m ≡ node_after n c turn
   pub kept : IsProvided (op_by c.victim c.op).goal (op_by c.victim c.op).answer (step u (line_by c.victim c.line)) (told u (line_by c.victim c.line))
       → KeepsTurn (λ s call t. gives s (line_by c.victim c.line) call t) (λ s. told s (line_by c.victim c.line)) (op_by c.victim c.op) u turn v (step v (line_by c.victim c.line))
+  pub last : KeepsAnswer (op_by c.victim c.op) turn (told u (line_by c.victim c.line)) (told v (line_by c.victim c.line))
+
+-- an open call has what it needs of its lines' receipts: its operation on its own line, and an exit on its victim's, which is another
+pub record HasNeeds (c : OpenCall) (step : ℕ → Pending) (told : ℕ → ReceiptList) : Type 0 where
+  pub line : IsProvided c.op.goal c.op.answer (step c.line) (told c.line)
+  pub exit : IfSome c.victim (λ w. HasNeed Goal.Evict (step w) (told w))
+  pub apart : IfSome c.victim (λ w. c.line ≢ w)
+
+abbrev pub IsProvidedFor : Option OpenCall → (ℕ → Pending) → (ℕ → ReceiptList) → Type 0
+IsProvidedFor None step told = Unit {0}
+IsProvidedFor (Some c) step told = HasNeeds c step told
 
 -- what a request that has ended so adds to the node's writes on a line: on its own line its answer, if it wrote
 abbrev pub adds_on : Request → Result Answer NodeRefusal → ℕ → List Receipt
@@ -54,10 +66,15 @@ abbrev pub LeavesBut : {U : Type 0} → (U → ℕ → ReceiptList) → NodeRefu
 LeavesBut told NodeRefusal.OutOfMemory u v = (line : ℕ) → IsSameButRoom (told u line) (told v line)
 LeavesBut told refusal u v = v ≡ u
 
+-- for how many receipts there has to be room until the end at most, in whichever pending step an operation finds its node
+abbrev pub most_needed : Goal → ℕ
+most_needed Goal.Load = need_towards Goal.Load false
+most_needed goal = suc (need_towards goal false)
+
 -- the mark is set for the goal, and there is room for as many receipts as it needs at most
 pub record IsReadyFor (goal : Goal) (s : ReceiptList) : Type 0 where
   pub mark : s.passing ≡ is_passing goal
-  pub room : need_towards goal false ≤ s.room
+  pub room : most_needed goal ≤ s.room
 
 -- the receipts are ready for a request, and for the exit of the line that it puts out, if there is one
 pub record AreReadyFor (request : Request) (victim : Option ℕ) (told : ℕ → ReceiptList) : Type 0 where
@@ -66,7 +83,7 @@ pub record AreReadyFor (request : Request) (victim : Option ℕ) (told : ℕ →
 
 -- there is room for the receipts of a request already, or its node keeps none
 abbrev pub HasNoNeed : Bool → Request → ReceiptList → Type 0
-HasNoNeed keeps request s = keeps ≡ true → need_towards (goal_of request) false ≤ s.room
+HasNoNeed keeps request s = keeps ≡ true → most_needed (goal_of request) ≤ s.room
 
 -- for how many receipts an open call needs room on a line: what its operation needs on its own, and an exit on its victim's
 abbrev pub need_on : Option OpenCall → (ℕ → Pending) → (ℕ → ReceiptList) → ℕ → ℕ
@@ -82,22 +99,28 @@ pub record KeepsOn {U : Type 0} (gives : U → ℕ → Call → U → Type 0) (r
   pub extends : (line : ℕ) → Extends (told u line).list (told v line).list
 
 -- a request that has ended so found room for the receipt of each of its calls. Of writes it added its own answer alone, an answer is the
--- last receipt of its line, and what stood in a list stands there
+-- last receipt of its line, behind what stood there, and what stood in a list stands there
 pub record KeepsRequest {U : Type 0} (gives : U → ℕ → Call → U → Type 0) (readies : U → ℕ → Readying → U → Type 0) (told : U → ℕ → ReceiptList) (request : Request) (u : U) (result : Result Answer NodeRefusal) (v : U) : Type 0 where
   pub all : KeepsAll gives readies told u v
   pub writes : (line : ℕ) → writes_in (told v line).list ≡ writes_in (told u line).list ++ adds_on request result line
-  pub last : IfOk result (λ answer. IsLastReceipt (goal_of request) answer (told v (line_of request)).list)
+  pub last : IfOk result (λ answer. EndsWithAnswer (goal_of request) answer (told u (line_of request)).list (told v (line_of request)).list)
   pub extends : (line : ℕ) → Extends (told u line).list (told v line).list
+
+-- from bank u to v the receipts on the lines of neither a request of node n nor the exit of the line that it puts out stay
+abbrev pub LeavesOthers : {U : Type 0} → (U → ℕ → ReceiptList) → NodeState → Request → U → U → Type 0
+LeavesOthers told n request u v = (m : ℕ) → m ≢ line_of request → IfSome (victim_with n request) (λ w. m ≢ w) → told v m ≡ told u m
 
 -- a request of node n over the bank u has ended so, with the bank v and the node m. Once room for its receipts was reserved, unless
 -- the node keeps none, it was accepted and took turns, or was refused. The answer is one to it. The request's line is left Idle, and
--- so are the others, where they were. The node and the bank are the same: of the same lines of as many nodes, under the same fact
+-- so are the others, where they were; their receipts stay. The node and the bank are the same: of the same lines of as many nodes, under
+-- the same fact
 pub record HasCalled {U K : Type 0} (way : U → BankWay) (nodes_on : U → ℕ → ℕ) (keep : U → K) (fits : K → ℕ → List ℕ → Type 0) (gives : U → ℕ → Call → U → Type 0) (readies : U → ℕ → Readying → U → Type 0) (step : U → ℕ → Pending) (told : U → ℕ → ReceiptList) (n : NodeState) (request : Request) (u : U) (result : Result Answer NodeRefusal) (v : U) (m : NodeState) : Type 0 where
   pub ready : U
   pub readied : IsReadied readies u ready
   pub waits : Waits gives step n request ready result v m
   pub refused : LeavesReceipts told result u v
-  pub kept : n.keeps ≡ true → ((line : ℕ) → step u line ≡ Pending.Idle) → KeepsRequest gives readies told request u result v
+  pub kept : n.keeps ≡ true → KeepsRequest gives readies told request u result v
+  pub others : LeavesOthers told n request u v
   pub unready : n.keeps ≡ false → ready ≡ u
   pub content : IfOk result (λ answer. IsAnswerTo (fits (keep u) (line_of request)) (goal_of request) answer)
   pub idle : LeavesIdle result (step v (line_of request))
@@ -112,7 +135,7 @@ pub record HasCalled {U K : Type 0} (way : U → BankWay) (nodes_on : U → ℕ 
 pub record HasMadeWay {U K : Type 0} (way : U → BankWay) (nodes_on : U → ℕ → ℕ) (keep : U → K) (gives : U → ℕ → Call → U → Type 0) (readies : U → ℕ → Readying → U → Type 0) (step : U → ℕ → Pending) (told : U → ℕ → ReceiptList) (victim : Option ℕ) (u v : U) : Type 0 where
   pub runs : (n : NodeState) (c : OpenCall) → n.id ≡ (way u).node → n.call ≡ Some c → c.victim ≡ victim → Runs gives step n u (record n { call = Some record c { victim = None } }) v
   pub rest : ((line : ℕ) → step u line ≡ Pending.Idle) → (line : ℕ) → step v line ≡ Pending.Idle
-  pub kept : ((line : ℕ) → step u line ≡ Pending.Idle) → IfSome victim (λ line. IsReadyFor Goal.Evict (told u line)) → KeepsOn gives readies told u v
+  pub kept : IfSome victim (λ line. IsReadyFor Goal.Evict (told u line)) → KeepsOn gives readies told u v
   pub others : (m : ℕ) → IfSome victim (λ line. m ≢ line) → told v m ≡ told u m
   pub same_way : way v ≡ way u
   pub same_nodes : (line : ℕ) → nodes_on v line ≡ nodes_on u line

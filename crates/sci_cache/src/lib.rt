@@ -2,6 +2,7 @@
 #![tactic(auto)]
 
 mod calls;
+mod laws;
 mod node;
 mod ports;
 mod readying;
@@ -11,6 +12,7 @@ mod tables;
 mod waiting;
 
 pub use calls::OpenCall;
+pub use laws::requests_are_kept;
 pub use node::Node;
 pub use ports::turn_at;
 pub use refusals::NodeRefusal;

@@ -3,7 +3,7 @@ ghost use Rattle.std.specs.Prelude.{◌≡◌, ◌≢◌, ◌<◌, ◌≤◌, �
 ghost use Rattle.sci_port.specs.KeepsAll.{IsReadied};
 ghost use Rattle.sci_ops.specs.Change.{StoresFitting};
 ghost use Rattle.sci_ops.specs.declared.goals.Goal.{Goal};
-ghost use Rattle.sci_cache.specs.Called.{AreReadyFor, HasNoNeed, IsSameButRoom, KeepsTurnOf, LeavesBut, need_on};
+ghost use Rattle.sci_cache.specs.Called.{AreReadyFor, HasNoNeed, IsProvidedFor, IsSameButRoom, KeepsTurnOf, LeavesBut, LeavesOthers, most_needed, need_on};
 ghost use Rattle.sci_cache.specs.declared.refusals.NodeRefusal.{NodeRefusal};
 ghost use Rattle.sci_cache.specs.Requests.{line_of, goal_of, is_evict};
 ghost use Rattle.sci_cache.specs.Residents.{is_resident};
@@ -122,7 +122,9 @@ impl Node {
         ensures succeeds { refusal_of self.old request ≡ None → (is_evict request ≡ true) ⊎ (is_resident (line_of request) self.old.residents ≡ true) → HasNoNeed self.old.keeps request (B.told bank.old (line_of request)) → IsOk result }
         ensures readied { IsReadied B.readies bank.old bank.new }
         ensures kept { IfErr result (λ e. LeavesBut B.told e bank.old bank.new) }
-        ensures ready { self.old.keeps ≡ true → OnOk result (AreReadyFor request (victim_with self.old request) (B.told bank.new)) }
+        ensures provided { self.old.keeps ≡ true → OnOk result (IsProvidedFor self.new.call (B.at_step bank.new) (B.told bank.new)) }
+        ensures needs { self.old.keeps ≡ true → OnOk result ((m : ℕ) → need_on self.new.call (B.at_step bank.new) (B.told bank.new) m ≤ (B.told bank.new m).room) }
+        ensures others { LeavesOthers B.told self.old request bank.old bank.new }
         ensures unready { self.old.keeps ≡ false → bank.new ≡ bank.old }
         ensures same_way { B.way bank.new ≡ B.way bank.old }
         ensures same_nodes { (m : ℕ) → B.nodes_on bank.new m ≡ B.nodes_on bank.old m }
@@ -196,13 +198,14 @@ impl Node {
         ensures readied { IsReadied B.readies bank.old bank.new }
         ensures kept { OnErr result ((m : ℕ) → IsSameButRoom (B.told bank.old m) (B.told bank.new m)) }
         ensures ready { self.old.keeps ≡ true → OnOk result (AreReadyFor request.now (victim_with self.old request.now) (B.told bank.new)) }
+        ensures others { LeavesOthers B.told self.old request.now bank.old bank.new }
         ensures unready { self.old.keeps ≡ false → bank.new ≡ bank.old }
     {
         if !self.keeps {
             return self.put_in(request);
         }
         let line = request.line();
-        reserve_at(bank, line, request.need())?;
+        reserve_at(bank, line, request.most_needed())?;
         let victim = self.put_in_with_room(bank, request)?;
         aim_at(bank, line, request.passes(), victim);
         Ok(victim)
@@ -225,7 +228,8 @@ impl Node {
         ensures succeeds { (is_evict request.now ≡ true) ⊎ (is_resident (line_of request.now) self.old.residents ≡ true) → IsOk result }
         ensures readied { IsReadied B.readies bank.old bank.new }
         ensures same_receipts { (m : ℕ) → IsSameButRoom (B.told bank.old m) (B.told bank.new m) }
-        ensures room { IfOk result (λ v. IfSome v (λ w. 1 ≤ (B.told bank.new w).room)) }
+        ensures room { IfOk result (λ v. IfSome v (λ w. most_needed Goal.Evict ≤ (B.told bank.new w).room)) }
+        ensures others { LeavesOthers B.told self.old request.now bank.old bank.new }
     {
         if request.is_evict() {
             return Ok(None);
@@ -284,30 +288,31 @@ impl Node {
         ensures same_nodes { (m : ℕ) → B.nodes_on bank.new m ≡ B.nodes_on bank.old m }
         ensures same_fact { B.keep bank.new ≡ B.keep bank.old }
         ensures others { IfSome self.old.call (λ c. (m : ℕ) → m ≢ line_by c.victim c.line → B.at_step bank.new m ≡ B.at_step bank.old m) }
-        ensures kept { IfSome self.old.call (λ c. IfOk result (λ shown. KeepsTurnOf B.gives B.at_step B.told c bank.old shown bank.new)) }
+        ensures kept { IfSome self.old.call (λ c. IfOk result (λ shown. KeepsTurnOf B.gives B.at_step B.told self.old c bank.old shown bank.new self.new)) }
+        ensures provided { IsProvidedFor self.old.call (B.at_step bank.old) (B.told bank.old) → IsProvidedFor self.new.call (B.at_step bank.new) (B.told bank.new) }
         ensures other_receipts { IfSome self.old.call (λ c. (m : ℕ) → m ≢ line_by c.victim c.line → B.told bank.new m ≡ B.told bank.old m) }
     {
         let Some(call) = &self.call else {
             return Err(NodeRefusal::NoCall);
         };
         let line = call.line;
-        let mut op = call.op;
         if let Some(victim) = call.victim {
-            let mut evict = Op::evict();
-            let turn = turn_at(bank, victim, &mut evict);
+            let turn = turn_at(bank, victim, &Op::evict());
             let Turn::Done(_) = turn else {
                 return Ok(turn);
             };
+            let op = call.op;
             let victim = None;
             self.call = Some(OpenCall { line, op, victim });
             return Ok(Turn::Moved);
         }
-        let turn = turn_at(bank, line, &mut op);
+        let turn = turn_at(bank, line, &call.op);
         let Turn::Done(_) = turn else {
             return Ok(turn);
         };
+        let goal = call.op.goal();
         self.call = None;
-        let Goal::Evict = op.goal() else {
+        let Goal::Evict = goal else {
             return Ok(turn);
         };
         take_out(&mut self.table, line);

@@ -1,7 +1,8 @@
 //! Room for receipts and the mark, before a request's turns.
 ghost use Rattle.std.specs.Prelude.{◌≡◌, ◌≢◌, ◌<◌, ◌≤◌, ℕ, true, IfSome, IsOk, OnOk};
 ghost use Rattle.sci_port.specs.KeepsAll.{IsReadied};
-ghost use Rattle.sci_cache.specs.Called.{IsSameButRoom};
+ghost use Rattle.sci_ops.specs.declared.goals.Goal.{Goal};
+ghost use Rattle.sci_cache.specs.Called.{IsSameButRoom, most_needed};
 ghost use Rattle.sci_cache.specs.Nodes.{IsLine};
 
 use sci_port::Bank;
@@ -16,6 +17,7 @@ pub(crate) fn reserve_at<B: Bank>(bank: &mut B, line: LineNo, n: usize) -> Resul
     ensures room { OnOk result (n ≤ (B.told bank.new line).room) }
     ensures enough { n ≤ (B.told bank.old line).room → IsOk result }
     ensures same { (m : ℕ) → IsSameButRoom (B.told bank.old m) (B.told bank.new m) }
+    ensures others { (m : ℕ) → m ≢ line → B.told bank.new m ≡ B.told bank.old m }
 {
     if n <= bank.room(line) {
         return Ok(());
@@ -23,18 +25,22 @@ pub(crate) fn reserve_at<B: Bank>(bank: &mut B, line: LineNo, n: usize) -> Resul
     bank.reserve(line, n)
 }
 
+/// For how many receipts an exit needs room at most: that of a line that is still held, and that of the way.
+const EXIT: usize = 2;
+
 /// The same for the eviction of a line that is put out, where there is one.
 #[inline(always)]
 pub(crate) fn reserve_out<B: Bank>(bank: &mut B, victim: Option<LineNo>) -> Result<(), AllocError>
     requires line { IsLine (B.way bank.old).lines victim }
     ensures readied { IsReadied B.readies bank.old bank.new }
-    ensures room { OnOk result (IfSome victim (λ w. 1 ≤ (B.told bank.new w).room)) }
+    ensures room { OnOk result (IfSome victim (λ w. most_needed Goal.Evict ≤ (B.told bank.new w).room)) }
     ensures same { (m : ℕ) → IsSameButRoom (B.told bank.old m) (B.told bank.new m) }
+    ensures others { (m : ℕ) → IfSome victim (λ w. m ≢ w) → B.told bank.new m ≡ B.told bank.old m }
 {
     let Some(victim) = victim else {
         return Ok(());
     };
-    reserve_at(bank, victim, 1)
+    reserve_at(bank, victim, EXIT)
 }
 
 /// Sets the mark for a request's line, and for the eviction of the line that it puts out.
@@ -46,6 +52,7 @@ pub(crate) fn aim_at<B: Bank>(bank: &mut B, line: LineNo, passing: bool, victim:
     ensures readied { IsReadied B.readies bank.old bank.new }
     ensures mark { (B.told bank.new line).passing ≡ passing }
     ensures out { IfSome victim (λ w. (B.told bank.new w).passing ≡ true) }
+    ensures others { (m : ℕ) → m ≢ line → IfSome victim (λ w. m ≢ w) → B.told bank.new m ≡ B.told bank.old m }
 {
     bank.aim(line, passing);
     let Some(victim) = victim else {

@@ -26,10 +26,10 @@ fn leave<B: Bank, R: Wait>(rt: &R, bank: &mut B, victim: LineNo)
     requires line { victim < (B.way bank.old).lines }
     ensures { HasMadeWay B.way B.nodes_on B.keep B.gives B.readies B.at_step B.told (Some victim) bank.old bank.new }
 {
-    let mut op = Op::evict();
+    let op = Op::evict();
     let backoff = Backoff::new();
     for _ in rt.forever() {
-        match turn_at(bank, victim, &mut op) {
+        match turn_at(bank, victim, &op) {
             Turn::Done(_) => return,
             Turn::Moved => backoff.reset(),
             Turn::Waiting => backoff.snooze(),
@@ -72,12 +72,10 @@ impl Node {
         };
         make_way(rt, bank, victim);
         let line = request.line();
-        let Ok(mut op) = request.op() else {
-            unreachable!()
-        };
+        let Ok(op) = request.op() else { unreachable!() };
         let backoff = Backoff::new();
         for _ in rt.forever() {
-            match turn_at(bank, line, &mut op) {
+            match turn_at(bank, line, &op) {
                 Turn::Done(Answer::Spent) => return Err(NodeRefusal::StampsSpent),
                 Turn::Done(answer) => {
                     self.close(&request);

@@ -22,7 +22,7 @@ use Rattle.sci_ops.specs.declared.goals.Write.{Write}
 use Rattle.sci_ops.specs.declared.answers.Answer.{Answer}
 use Rattle.sci_ops.specs.declared.answers.Turn.{Turn}
 use Rattle.sci_ops.specs.declared.answers.End.{End}
-use Rattle.sci_ops.specs.Answers.{shows_line, makes_invalid, HasStamp, IsAnswer, ChainTo, Answers, AnswersAt}
+use Rattle.sci_ops.specs.Answers.{Answers, AnswersAt, ChainTo, EndsWithStamp, HasStamp, IsAnswer, makes_invalid, shows_line}
 use Rattle.sci_ops.specs.Change.{change}
 use Rattle.sci_ops.specs.Operation.{Operation}
 use Rattle.sci_ops.specs.Plan.{Plan, own, mem, tag, exchange, ends, ended, Follows, Takes}
@@ -208,7 +208,13 @@ module _ {S : Type 0} (gives : S → Call → S → Type 0) (at_step : S → Pen
   towards goal i s t a [] k chain h = absurd (spoken (speaks goal i (at_step s) k) s t a [] refl chain h)
   towards goal i s t a (c ∷ cs) k chain h = record { calls = c ∷ cs; chain = spoken (speaks goal i (at_step s) k) s t a (c ∷ cs) refl chain h; follows = h }
 
-  pub answers_at : (op : Operation) (i : ℕ) (s t : S) (turn : Turn) → HasStamp (at_step s) → Takes gives (turn_in op.goal i (at_step s)) s turn t → AnswersAt gives at_step op i s turn t
+  answers_at : (op : Operation) (i : ℕ) (s t : S) (turn : Turn) → HasStamp (at_step s) → Takes gives (turn_in op.goal i (at_step s)) s turn t → AnswersAt gives at_step op i s turn t
   answers_at op i s t (Turn.Done a) k takes = λ e. towards op.goal i s t a takes.calls k takes.chain takes.follows
   answers_at op i s t Turn.Moved k takes = tt
   answers_at op i s t Turn.Waiting k takes = tt
+
+  -- the same of any turn that finds a stamp where it ends
+  pub answers_by : (op : Operation) (i : ℕ) (s t : S) (turn : Turn) → EndsWithStamp turn (at_step s) → Takes gives (turn_in op.goal i (at_step s)) s turn t → AnswersAt gives at_step op i s turn t
+  answers_by op i s t (Turn.Done a) k takes = answers_at op i s t (Turn.Done a) (k a refl) takes
+  answers_by op i s t Turn.Moved k takes = tt
+  answers_by op i s t Turn.Waiting k takes = tt

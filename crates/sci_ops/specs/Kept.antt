@@ -2,7 +2,7 @@
 use Rattle.std.specs.Prelude.{◌≡◌, ℕ, ◌<◌, false, None, List, [], ◌∷◌, ◌++◌}
 use Rattle.sci_core.specs.declared.receipts.Receipt.{Receipt}
 use Rattle.sci_core.specs.declared.receipts.Receipt.TheVariants.{Read, Wrote}
-use Rattle.sci_port.specs.KeepsAll.{IsLast}
+use Rattle.sci_port.specs.KeepsAll.{Extends, IsNewLast}
 use Rattle.sci_port.specs.ReceiptList.{ReceiptList}
 use Rattle.sci_ops.specs.declared.goals.Goal.{Goal}
 use Rattle.sci_ops.specs.declared.answers.Answer.{Answer}
@@ -27,8 +27,9 @@ abbrev pub KeepsAnswer : Operation → Turn → ReceiptList → ReceiptList → 
 KeepsAnswer op (Turn.Done answer) r q = op.answer ≡ None → 0 < r.room → IsAimedAt op.goal r → AppendsAnswer op.goal answer r.list q.list
 KeepsAnswer op turn r q = Unit {0}
 
--- an answer is the last receipt: of a load the line that it saw, of a write the words that it replaced, those that it wrote, their stamp
-abbrev pub IsLastReceipt : Goal → Answer → List Receipt → Type 0
-IsLastReceipt Goal.Load (Answer.Seen words stamp) list = IsLast (Read words stamp) list
-IsLastReceipt (Goal.Write write) (Answer.Wrote old stamp) list = IsLast (Wrote old (change write old) stamp) list
-IsLastReceipt goal answer list = Unit {0}
+-- behind what stood there before an operation and what came on its way, its answer is the last receipt. An eviction, and a write that
+-- found the stamp spent, have none
+abbrev pub EndsWithAnswer : Goal → Answer → List Receipt → List Receipt → Type 0
+EndsWithAnswer Goal.Load (Answer.Seen words stamp) before after = IsNewLast before (Read words stamp) after
+EndsWithAnswer (Goal.Write write) (Answer.Wrote old stamp) before after = IsNewLast before (Wrote old (change write old) stamp) after
+EndsWithAnswer goal answer before after = Extends before after

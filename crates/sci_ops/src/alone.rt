@@ -4,7 +4,7 @@ ghost use Rattle.sci_core.specs.Whole.{nodes_of, state_of};
 ghost use Rattle.sci_port.specs.Way.{way_to};
 ghost use Rattle.sci_ops.specs.Alone.{IsAtRest, Ends};
 ghost use Rattle.sci_ops.specs.Change.{StoresFitting};
-ghost use Rattle.sci_ops.specs.Kept.{IsLastReceipt};
+ghost use Rattle.sci_ops.specs.Kept.{EndsWithAnswer};
 ghost use Rattle.sci_ops.specs.Room.{IsProvided, KeepsSoFar};
 ghost use Rattle.sci_ops.specs.Table.{after_turn};
 
@@ -57,7 +57,7 @@ impl Op {
 
     /// Takes turns until the operation ends, where every node is Idle and no turn was taken yet: at most three for each
     /// node, and sixteen. Each turn is counted as one step. Where the mark is set for the goal and there is the room that the operation
-    /// needs (`need`), of writes the receipts have one more, if it wrote, what stood there stands, and the answer Seen or Wrote is the last.
+    /// needs (`need`), of writes the receipts have one more, if it wrote, what stood there stands, and the answer Seen or Wrote is the last, behind it.
     pub fn alone<K: Keeps, L: Ledger>(&mut self, solo: &mut Solo<K>, steps: &mut Steps<L>) -> Answer
         requires fits { StoresFitting (K.fits solo.old.whole.now.keep solo.old.whole.now.number) self.old.goal }
         requires begins { self.old.answer ≡ None }
@@ -67,7 +67,7 @@ impl Op {
         ensures op { self.new ≡ after_turn self.old (Turn.Done result) }
         ensures rest { IsAtRest (state_of solo.new.whole.now) }
         ensures kept { IsProvided self.old.goal self.old.answer ((state_of solo.old.whole.now).steps solo.old.node) solo.old.receipts.now → KeepsSoFar self.old solo.old.receipts.now (Turn.Done result) solo.new.receipts.now }
-        ensures last { IsProvided self.old.goal self.old.answer ((state_of solo.old.whole.now).steps solo.old.node) solo.old.receipts.now → IsLastReceipt self.old.goal result solo.new.receipts.now.list }
+        ensures last { IsProvided self.old.goal self.old.answer ((state_of solo.old.whole.now).steps solo.old.node) solo.old.receipts.now → EndsWithAnswer self.old.goal result solo.old.receipts.now.list solo.new.receipts.now.list }
         ensures same_way { way_to solo.new.whole.ghost_name solo.new.whole.now solo.new.node ≡ way_to solo.old.whole.ghost_name solo.old.whole.now solo.old.node }
         ensures same_fact { solo.new.whole.now.keep ≡ solo.old.whole.now.keep }
     {

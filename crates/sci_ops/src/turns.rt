@@ -62,31 +62,31 @@ fn out_end(goal: Goal) -> End
 }
 
 /// One turn towards a goal, by the node's pending step.
-pub fn turn_towards<P: Port>(port: &mut P, goal: Goal) -> Turn
-    requires fits { StoresFitting (P.Keep.fits (P.keep port.old) (P.way port.old).number) goal }
-    ensures calls { Takes P.gives (turn_in goal (P.way port.old).node (P.at_step port.old)) port.old result port.new }
+pub fn turn_towards<P: Port>(port: &mut P, goal: &Goal) -> Turn
+    requires fits { StoresFitting (P.Keep.fits (P.keep port.old) (P.way port.old).number) goal.now }
+    ensures calls { Takes P.gives (turn_in goal.now (P.way port.old).node (P.at_step port.old)) port.old result port.new }
     ensures stamp { EndsWithStamp result (P.at_step port.old) }
 {
     match port.stage() {
-        Stage::Idle => idle(port, goal),
-        Stage::Holding { .. } => exchange(port, Event::Unhold, seen_end(goal)),
-        Stage::Queueing { forw } => queueing(port, goal, forw),
+        Stage::Idle => idle(port, *goal),
+        Stage::Holding { .. } => exchange(port, Event::Unhold, seen_end(*goal)),
+        Stage::Queueing { forw } => queueing(port, *goal, forw),
         Stage::Fetching { .. } | Stage::WritingBack => go_on(port, Event::ReturnMemory),
         Stage::InQueue {
             forw,
             dirty,
             has_copy,
-        } => in_queue(port, goal, forw, dirty, has_copy),
+        } => in_queue(port, *goal, forw, dirty, has_copy),
         Stage::Copying { .. } => go_on(port, Event::ReturnCopy),
-        Stage::Ready { .. } => exchange(port, Event::Settle, seen_end(goal)),
+        Stage::Ready { .. } => exchange(port, Event::Settle, seen_end(*goal)),
         Stage::Converting { turned, .. } => converting(port, turned),
-        Stage::Purging { .. } => purging(port, goal),
+        Stage::Purging { .. } => purging(port, *goal),
         Stage::Advancing { .. } => go_on(port, Event::Advance),
         Stage::Clearing { .. } => go_on(port, Event::Clear),
         Stage::Leaving { dirty, .. } => leaving(port, dirty),
         Stage::Promoted { .. } => promoted(port),
-        Stage::Parted { .. } => exchange(port, Event::Left, out_end(goal)),
+        Stage::Parted { .. } => exchange(port, Event::Left, out_end(*goal)),
         Stage::Rolling { told, .. } => rolling(port, told),
-        Stage::Unlinked { .. } => exchange(port, Event::Rolled, out_end(goal)),
+        Stage::Unlinked { .. } => exchange(port, Event::Rolled, out_end(*goal)),
     }
 }

@@ -1,5 +1,5 @@
 -- Receipts that stay in their list, and work of which they keep all, one piece after another.
-use Rattle.std.proofs.Common.{◌≡◌, ℕ, ◌+◌, Bool, true, false, cond, Some, None, List, [], ◌∷◌, ◌++◌, refl, sym, ap, subst, ◌∙◌}
+use Rattle.std.proofs.Common.{◌≡◌, ◌⊎◌, inl, inr, ⊎_elim, ℕ, ◌+◌, Bool, true, false, Some, None, List, [], ◌∷◌, ◌++◌, refl, sym, ap, subst, ◌∙◌, append-nil}
 use Rattle.std.proofs.lemmas.List.{append_assoc}
 use Rattle.sci_core.specs.declared.events.Event.{Event}
 use Rattle.sci_core.specs.declared.lines.Line.{Line}
@@ -9,7 +9,7 @@ use Rattle.sci_core.specs.declared.receipts.Receipt.{Receipt}
 use Rattle.sci_core.specs.declared.receipts.Receipt.TheVariants.{Read, Passed, Wrote}
 use Rattle.sci_port.specs.declared.calls.Call.{Call}
 use Rattle.sci_port.specs.declared.calls.Call.TheVariants.{MemWas, Own, Stepped, TagWas}
-use Rattle.sci_port.specs.KeepsAll.{Extends, IsLast, IsReadied, KeepsAll, RoomyChain, as_it_was, before_passed, keeps_call, keeps_none, keeps_ready, readied_on, unpassed, writes_in}
+use Rattle.sci_port.specs.KeepsAll.{Extends, HasBehind, HasInPlace, IsReadied, KeepsAll, RoomyChain, as_it_was, keeps_call, keeps_none, keeps_ready, readied_on, writes_in}
 use Rattle.sci_port.specs.KeepsTo.{is_passed}
 use Rattle.sci_port.specs.Readying.{Readying}
 use Rattle.sci_port.specs.ReceiptList.{Appends, ReceiptList, Receives, Replaces, Settles, Writes, last_passed}
@@ -21,65 +21,102 @@ writes_both (Read words stamp ∷ a) b = writes_both a b
 writes_both (Passed words stamp ∷ a) b = writes_both a b
 writes_both (Wrote before words stamp ∷ a) b = ap (λ (l : List Receipt). Wrote before words stamp ∷ l) (writes_both a b)
 
--- what doesn't end with a Passed stays whole
-stays_first : (r : Receipt) (l : List Receipt) → is_passed r ≡ false → before_passed r l ≡ r ∷ l
-stays_first r [] h = ap (λ (b : Bool). cond b [] (r ∷ [])) h
-stays_first r (s ∷ l) h = refl
+-- where two lists make one that ends with a receipt, the second is empty, or ends with it
+abbrev EndsIn : List Receipt → List Receipt → List Receipt → Receipt → Type 0
+EndsIn a m front last = ((m ≡ []) × (a ≡ front ++ last ∷ [])) ⊎ ((more : List Receipt) × (m ≡ more ++ last ∷ []) × (front ≡ a ++ more))
 
-before_more : (r : Receipt) (u m : List Receipt) → unpassed (u ++ m) ≡ u ++ unpassed m → unpassed (before_passed r u ++ m) ≡ before_passed r u ++ unpassed m
-before_more (Passed words stamp) [] m h = refl
-before_more (Read words stamp) [] m h = stays_first (Read words stamp) (unpassed m) refl
-before_more (Wrote before words stamp) [] m h = stays_first (Wrote before words stamp) (unpassed m) refl
-before_more r (s ∷ u) m h = ap (before_passed r) h
-
-unpassed_more : (a m : List Receipt) → unpassed (unpassed a ++ m) ≡ unpassed a ++ unpassed m
-unpassed_more [] m = refl
-unpassed_more (r ∷ a) m = before_more r (unpassed a) m (unpassed_more a m)
-
-unpassed_end : (a : List Receipt) (last : Receipt) → is_passed last ≡ true → unpassed (a ++ last ∷ []) ≡ unpassed a
-unpassed_end [] last h = ap (λ (b : Bool). cond b [] (last ∷ [])) h
-unpassed_end (r ∷ a) last h = ap (before_passed r) (unpassed_end a last h)
+ends_in : (a m front : List Receipt) (last : Receipt) → a ++ m ≡ front ++ last ∷ [] → EndsIn a m front last
+ends_in [] m front last e = inr (front, e, refl)
+ends_in (x ∷ []) [] [] last e = inl (refl, e)
+ends_in (x ∷ []) (y ∷ m) [] last e = absurd (let z : y ∷ m ≡ [] = cc in cc)
+ends_in (x ∷ y ∷ a) m [] last e = absurd (let z : y ∷ (a ++ m) ≡ [] = cc in cc)
+ends_in (x ∷ a) m (y ∷ front) last e =
+    let tail : a ++ m ≡ front ++ last ∷ [] = cc in
+    let head : x ≡ y = cc in
+    ⊎_elim (λ h. inl (h.0, (λ i. head i ∷ h.1 i))) (λ h. inr (h.0, h.1, (λ i. sym head i ∷ h.2 i))) (ends_in a m front last tail)
 
 -- a list extends itself
-first_more : (r : Receipt) (u m : List Receipt) → (more : List Receipt) × (r ∷ (u ++ m) ≡ before_passed r u ++ more)
-first_more (Passed words stamp) [] m = (Passed words stamp ∷ m, refl)
-first_more (Read words stamp) [] m = (m, refl)
-first_more (Wrote before words stamp) [] m = (m, refl)
-first_more r (s ∷ u) m = (m, refl)
-
 pub extends_none : (a : List Receipt) → Extends a a
-extends_none [] = record { more = []; is = refl }
-extends_none (r ∷ a) =
-    let h = extends_none a in
-    let f = first_more r (unpassed a) h.more in
-    record { more = f.0; is = ap (λ (l : List Receipt). r ∷ l) h.is ∙ f.1 }
+extends_none a = inl (record { more = []; is = sym (append-nil a) })
 
 -- more behind it extends it
 pub extends_more : (a m : List Receipt) → Extends a (a ++ m)
-extends_more a m =
-    let h = extends_none a in
-    record { more = h.more ++ m; is = ap (λ (l : List Receipt). l ++ m) h.is ∙ append_assoc (unpassed a) h.more m }
+extends_more a m = inl (record { more = m; is = refl })
 
--- so does another in the place of a Passed at its end
-pub extends_replaced : (a : List Receipt) (last r : Receipt) → is_passed last ≡ true → Extends (a ++ last ∷ []) (a ++ r ∷ [])
-extends_replaced a last r h =
-    let k = extends_more a (r ∷ []) in
-    record { more = k.more; is = k.is ∙ ap (λ (l : List Receipt). l ++ k.more) (sym (unpassed_end a last h)) }
+-- so does another Passed in the place of one at its end
+pub extends_replaced : (a : List Receipt) (last r : Receipt) → is_passed last ≡ true → is_passed r ≡ true → Extends (a ++ last ∷ []) (a ++ r ∷ [])
+extends_replaced a last r was by = inr (record { front = a; last = last; by = r; more = []; was = refl; was_passed = was; is_passed_by = by; is = refl })
 
 -- and what extends an extension
-pub extends_then : {a b c : List Receipt} → Extends a b → Extends b c → Extends a c
-extends_then {a} h k = record {
-  more = unpassed h.more ++ k.more;
-  is = k.is ∙ ap (λ (l : List Receipt). unpassed l ++ k.more) h.is ∙ ap (λ (l : List Receipt). l ++ k.more) (unpassed_more a h.more) ∙ append_assoc (unpassed a) (unpassed h.more) k.more;
-}
+module _ {a b c : List Receipt} where
+  behind_behind : HasBehind a b → HasBehind b c → Extends a c
+  behind_behind h k = inl (record { more = h.more ++ k.more; is = k.is ∙ ap (λ (l : List Receipt). l ++ k.more) h.is ∙ append_assoc a h.more k.more })
+
+  behind_in_place : HasBehind a b → HasInPlace b c → Extends a c
+  behind_in_place h k = ⊎_elim
+      (λ e. inr (record {
+        front = k.front;
+        last = k.last;
+        by = k.by;
+        more = k.more;
+        was = e.1;
+        was_passed = k.was_passed;
+        is_passed_by = k.is_passed_by;
+        is = k.is;
+      }))
+      (λ e. inl (record { more = e.0 ++ k.by ∷ k.more; is = k.is ∙ ap (λ (l : List Receipt). l ++ k.by ∷ k.more) e.2 ∙ append_assoc a e.0 (k.by ∷ k.more) }))
+      (ends_in a h.more k.front k.last (sym h.is ∙ k.was))
+
+  in_place_behind : HasInPlace a b → HasBehind b c → Extends a c
+  in_place_behind h k = inr (record {
+    front = h.front;
+    last = h.last;
+    by = h.by;
+    more = h.more ++ k.more;
+    was = h.was;
+    was_passed = h.was_passed;
+    is_passed_by = h.is_passed_by;
+    is = k.is ∙ ap (λ (l : List Receipt). l ++ k.more) h.is ∙ append_assoc h.front (h.by ∷ h.more) k.more;
+  })
+
+  -- the Passed that is replaced now is the one that took the place before, or stands behind it
+  replaced_again : (h : HasInPlace a b) (k : HasInPlace b c) (between : List Receipt) → h.by ∷ h.more ≡ between ++ k.last ∷ [] → k.front ≡ h.front ++ between → Extends a c
+  replaced_again h k [] e f = inr (record {
+    front = h.front;
+    last = h.last;
+    by = k.by;
+    more = k.more;
+    was = h.was;
+    was_passed = h.was_passed;
+    is_passed_by = k.is_passed_by;
+    is = k.is ∙ ap (λ (l : List Receipt). l ++ k.by ∷ k.more) (f ∙ append-nil h.front);
+  })
+  replaced_again h k (r ∷ between) e f = inr (record {
+    front = h.front;
+    last = h.last;
+    by = r;
+    more = between ++ k.by ∷ k.more;
+    was = h.was;
+    was_passed = h.was_passed;
+    is_passed_by = let same : h.by ≡ r = cc in ap is_passed (sym same) ∙ h.is_passed_by;
+    is = k.is ∙ ap (λ (l : List Receipt). l ++ k.by ∷ k.more) f ∙ append_assoc h.front (r ∷ between) (k.by ∷ k.more);
+  })
+
+  in_place_in_place : HasInPlace a b → HasInPlace b c → Extends a c
+  in_place_in_place h k = ⊎_elim
+      (λ e. absurd (let none = e.0 in cc))
+      (λ e. replaced_again h k e.0 e.1 e.2)
+      (ends_in h.front (h.by ∷ h.more) k.front k.last (sym h.is ∙ k.was))
+
+  pub extends_then : Extends a b → Extends b c → Extends a c
+  extends_then (inl h) (inl k) = behind_behind h k
+  extends_then (inl h) (inr k) = behind_in_place h k
+  extends_then (inr h) (inl k) = in_place_behind h k
+  extends_then (inr h) (inr k) = in_place_in_place h k
 
 -- the same list extends
 pub extends_same : (a b : List Receipt) → b ≡ a → Extends a b
 extends_same a b e = subst (λ (l : List Receipt). Extends a l) (sym e) (extends_none a)
-
--- a receipt behind others is the last
-pub last_behind : (a b : List Receipt) (r : Receipt) → b ≡ a ++ r ∷ [] → IsLast r b
-last_behind a b r e = record { front = a; is = e }
 
 -- a call leaves what stood in a list there
 module _ (s t : ReceiptList) where
@@ -92,13 +129,13 @@ module _ (s t : ReceiptList) where
   appended_further : (r : Receipt) → Appends s r t → Further
   appended_further r a = subst (λ (l : List Receipt). Extends s.list l) (sym a.list) (extends_more s.list (r ∷ []))
 
-  replaced_further : (r : Receipt) → Replaces s r t → Further
-  replaced_further r a = subst (λ (z : List Receipt × List Receipt). Extends z.0 z.1) (λ i. (sym a.was i, sym a.list i)) (extends_replaced a.before a.last r a.passed)
+  replaced_further : (r : Receipt) → is_passed r ≡ true → Replaces s r t → Further
+  replaced_further r by a = subst (λ (z : List Receipt × List Receipt). Extends z.0 z.1) (λ i. (sym a.was i, sym a.list i)) (extends_replaced a.before a.last r a.passed by)
 
   settled_further : (passing last : Bool) (line : Line) → Settles passing last s line t → Further
   settled_further false last line a = appended_further (Read line.words line.stamp) a
   settled_further true false line a = appended_further (Passed line.words line.stamp) a
-  settled_further true true line a = replaced_further (Passed line.words line.stamp) a
+  settled_further true true line a = replaced_further (Passed line.words line.stamp) refl a
 
   written_further : (p : Pending) (words : List ℕ) → Writes p words s t → Further
   written_further (Pending.Purging line seen) words a = appended_further (Wrote line.words words (line.stamp + 1)) a

@@ -1,5 +1,5 @@
 -- A node's work of which its receipts keep all. This project's profile.
-use Rattle.std.specs.Prelude.{◌≡◌, ℕ, cond, List, [], ◌∷◌, ◌++◌}
+use Rattle.std.specs.Prelude.{◌≡◌, ◌⊎◌, ℕ, true, cond, List, [], ◌∷◌, ◌++◌}
 use Rattle.sci_core.specs.declared.receipts.Receipt.{Receipt}
 use Rattle.sci_core.specs.Legal.{is_write}
 use Rattle.sci_port.specs.declared.calls.Call.{Call}
@@ -12,24 +12,31 @@ abbrev pub writes_in : List Receipt → List Receipt
 writes_in [] = []
 writes_in (r ∷ rs) = cond (is_write r) (r ∷ writes_in rs) (writes_in rs)
 
--- receipts without what is only passed at their end
-abbrev pub before_passed : Receipt → List Receipt → List Receipt
-before_passed r [] = cond (is_passed r) [] (r ∷ [])
-before_passed r (s ∷ rs) = r ∷ s ∷ rs
-
-abbrev pub unpassed : List Receipt → List Receipt
-unpassed [] = []
-unpassed (r ∷ rs) = before_passed r (unpassed rs)
-
--- what stood in a list stands in front in a later one, but for the Passed at its end, which another may have replaced
-pub record Extends (before after : List Receipt) : Type 0 where
+-- what stood in a list stands in front in a later one
+pub record HasBehind (before after : List Receipt) : Type 0 where
   pub more : List Receipt
-  pub is : after ≡ unpassed before ++ more
+  pub is : after ≡ before ++ more
 
--- the receipt is the last
-pub record IsLast (receipt : Receipt) (list : List Receipt) : Type 0 where
+-- the same, but another Passed stands in the place of one at its end
+pub record HasInPlace (before after : List Receipt) : Type 0 where
   pub front : List Receipt
-  pub is : list ≡ front ++ receipt ∷ []
+  pub last : Receipt
+  pub by : Receipt
+  pub more : List Receipt
+  pub was : before ≡ front ++ last ∷ []
+  pub was_passed : is_passed last ≡ true
+  pub is_passed_by : is_passed by ≡ true
+  pub is : after ≡ front ++ by ∷ more
+
+-- one of these
+abbrev pub Extends : List Receipt → List Receipt → Type 0
+Extends before after = HasBehind before after ⊎ HasInPlace before after
+
+-- the receipt is the last, behind what stood there
+pub record IsNewLast (before : List Receipt) (receipt : Receipt) (after : List Receipt) : Type 0 where
+  pub front : List Receipt
+  pub extends : Extends before front
+  pub is : after ≡ front ++ receipt ∷ []
 
 -- calls of a port, one after another, each of which finds room for its receipt
 abbrev pub RoomyChain : {S : Type 0} → (S → Call → S → Type 0) → (S → ReceiptList) → S → List Call → S → Type 0

@@ -188,7 +188,7 @@ impl Receipts {
     }
 
     // The node was given the line.
-    #[inline(never)]
+    #[inline(always)]
     fn read(&mut self, line: Line)
         requires { 0 < self.old.room }
         ensures { Appends self.old (Read line.words line.stamp) self.new }
@@ -198,7 +198,7 @@ impl Receipts {
     }
 
     // The node settled with the line.
-    #[inline(never)]
+    #[inline(always)]
     fn settled(&mut self, line: Line)
         requires { replaces self.old ≡ false → 0 < self.old.room }
         ensures { Settles self.old.passing (last_passed self.old.list) self.old line self.new }
@@ -214,7 +214,7 @@ impl Receipts {
     }
 
     // The node wrote these words over the line.
-    #[inline(never)]
+    #[inline(always)]
     fn wrote(&mut self, before: Line, words: [u64; 8])
         requires room { 0 < self.old.room }
         requires counts { before.stamp < 18446744073709551615 }

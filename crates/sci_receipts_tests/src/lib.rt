@@ -9,3 +9,4 @@ mod kept;
 mod memory;
 #[cfg(test)]
 mod own;
+pub mod plain;

@@ -234,8 +234,7 @@ fn load_turn<B: Bank>(bank: &mut B, line: LineNo) -> Turn
     ensures same_way { B.way bank.new ≡ B.way bank.old }
     ensures same_nodes { (m : ℕ) → B.nodes_on bank.new m ≡ B.nodes_on bank.old m }
 {
-    let mut load = Op::load();
-    turn_at(bank, line, &mut load)
+    turn_at(bank, line, &Op::load())
 }
 
 /// One turn of a load on the line by the node that the bank is seated at, and what passed.

@@ -27,3 +27,4 @@ pub mod Fed
 pub mod ReadRanges
 pub mod LogFollows
 pub mod LineHistories
+pub mod LinesLeft

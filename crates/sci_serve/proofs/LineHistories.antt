@@ -1,60 +1,38 @@
 -- The histories of closed lines.
-use Rattle.std.proofs.Common.{◌≡◌, ℕ, zero, suc, ◌+◌, ◌<◌, ◌≤◌, List, [], ◌∷◌, ◌++◌, length, get_or, drop, map, refl, sym, ap, subst, ◌∙◌, arith, append_assoc, append-nil}
+use Rattle.std.proofs.Common.{◌≡◌, ℕ, zero, suc, ◌+◌, ◌<◌, ◌≤◌, List, [], ◌∷◌, ◌++◌, length, get_or, drop, map, All, refl, sym, ap, subst, ◌∙◌, arith, append_assoc, append-nil}
 use Rattle.std.proofs.lemmas.List.{drop_more}
 use Rattle.std.specs.Global.{Vec}
-use mathlib.Core.Option.{some, some-injective, some-ne-none}
+use mathlib.Core.Option.{some}
 use lib.ListN.{get_elem?}
 use Rattle.sci_core.specs.declared.lines.Line.{Line}
 use Rattle.sci_core.specs.declared.receipts.Receipt.{Receipt}
 use Rattle.sci_core.specs.Closed.{ClosedLine, value_of}
 use Rattle.sci_core.specs.State.{blank}
 use Rattle.sci_histories.specs.Histories.{HasSizes, LineReceipts}
-use Rattle.sci_work.specs.Ended.{IsLineHistory, lists_in}
-use Rattle.sci_serve.specs.Histories.{AreHistoriesOf, IsHistoryOf, histories_from, history_from}
+use Rattle.sci_histories.specs.Rules.{IsLegalLine}
+use Rattle.sci_work.specs.Ended.{AreHistories, lists_in}
+use Rattle.sci_serve.specs.Histories.{histories_from, history_from}
 
-of_line : (nodes : ℕ) (c : ClosedLine) (lists : List (List Receipt)) → IsLineHistory nodes c lists → IsHistoryOf nodes c (history_from c lists)
-of_line nodes c lists is = record { opening = refl; closing = refl; lists = is.count; legal = is.whole.legal }
-
-count_of : (cs : List ClosedLine) (vs : List (Vec (Vec Receipt))) → length vs ≡ length cs → length (histories_from cs (map lists_in vs)) ≡ length cs
-count_of [] vs same = refl
+count_of : (cs : List ClosedLine) (ls : List (List (List Receipt))) → length ls ≡ length cs → length (histories_from cs ls) ≡ length cs
+count_of [] ls same = refl
 count_of (c ∷ cs) [] same = absurd (omega (arith, same))
-count_of (c ∷ cs) (v ∷ vs) same =
-    let fewer : length vs ≡ length cs = omega (arith, same) in
-    let rest = count_of cs vs fewer in
+count_of (c ∷ cs) (l ∷ ls) same =
+    let fewer : length ls ≡ length cs = omega (arith, same) in
+    let rest = count_of cs ls fewer in
     omega (arith, rest)
 
-each_of : (nodes : ℕ) (cs : List ClosedLine) (vs : List (Vec (Vec Receipt)))
-    → ((k : ℕ) (c : ClosedLine) (v : Vec (Vec Receipt)) → get_elem? cs k ≡ some c → get_elem? vs k ≡ some v → IsLineHistory nodes c (lists_in v))
-    → (k : ℕ) (c : ClosedLine) (h : LineReceipts) → get_elem? cs k ≡ some c → get_elem? (histories_from cs (map lists_in vs)) k ≡ some h → IsHistoryOf nodes c h
-each_of nodes [] vs all k c h ec eh = absurd (some-ne-none c (sym ec))
-each_of nodes (d ∷ cs) [] all k c h ec eh = absurd (some-ne-none h (sym eh))
-each_of nodes (d ∷ cs) (v ∷ vs) all zero c h ec eh =
-    subst (λ (x : LineReceipts). IsHistoryOf nodes c x) (some-injective (history_from d (lists_in v)) h eh)
-    (subst (λ (x : ClosedLine). IsHistoryOf nodes x (history_from d (lists_in v))) (some-injective d c ec) (of_line nodes d (lists_in v) (all 0 d v refl refl)))
-each_of nodes (d ∷ cs) (v ∷ vs) all (suc k) c h ec eh = each_of nodes cs vs (λ j x y ex ey. all (suc j) x y ex ey) k c h ec eh
+each_of : (P : LineReceipts → Type 0) (cs : List ClosedLine) (ls : List (List (List Receipt)))
+    → ((k : ℕ) (c : ClosedLine) (l : List (List Receipt)) → get_elem? cs k ≡ some c → get_elem? ls k ≡ some l → P (history_from c l))
+    → (k : ℕ) (d : LineReceipts) → k < length (histories_from cs ls) → P (get_or (histories_from cs ls) k d)
+each_of P [] ls all k d low = absurd (omega (arith, low))
+each_of P (c ∷ cs) [] all k d low = absurd (omega (arith, low))
+each_of P (c ∷ cs) (l ∷ ls) all zero d low = all 0 c l refl refl
+each_of P (c ∷ cs) (l ∷ ls) all (suc k) d low = each_of P cs ls (λ j x y ex ey. all (suc j) x y ex ey) k d (omega (arith, low))
 
--- receipts that are the lines' histories make them
-pub histories_are : (nodes : ℕ) (cs : List ClosedLine) (vs : List (Vec (Vec Receipt))) → length vs ≡ length cs
-    → ((k : ℕ) (c : ClosedLine) (v : Vec (Vec Receipt)) → get_elem? cs k ≡ some c → get_elem? vs k ≡ some v → IsLineHistory nodes c (lists_in v))
-    → AreHistoriesOf nodes cs (histories_from cs (map lists_in vs))
-histories_are nodes cs vs same all = record { count = count_of cs vs same; each = each_of nodes cs vs all }
-
-at_line : {A : Type 0} (xs : List A) (k : ℕ) (d : A) → k < length xs → (x : A) × (get_elem? xs k ≡ some x) × (get_or xs k d ≡ x)
-at_line [] k d low = absurd (omega (arith, low))
-at_line (x ∷ xs) zero d low = (x, refl, refl)
-at_line (x ∷ xs) (suc k) d low = at_line xs k d (omega (arith, low))
-
-some_at : {A : Type 0} (xs : List A) (k : ℕ) → k < length xs → (x : A) × (get_elem? xs k ≡ some x)
-some_at [] k low = absurd (omega (arith, low))
-some_at (x ∷ xs) zero low = (x, refl)
-some_at (x ∷ xs) (suc k) low = some_at xs k (omega (arith, low))
-
--- so each has a list of each node
-pub have_lists : (nodes : ℕ) (cs : List ClosedLine) (hs : List LineReceipts) → AreHistoriesOf nodes cs hs → (k : ℕ) (d : LineReceipts) → k < length hs → length (get_or hs k d).lists ≡ nodes
-have_lists nodes cs hs are k d low =
-    let (h, here, is) = at_line hs k d low in
-    let (c, there) = some_at cs k (subst (λ (n : ℕ). k < n) are.count low) in
-    subst (λ (x : LineReceipts). length x.lists ≡ nodes) (sym is) (are.each k c h there here).lists
+-- receipts that are the lines' histories are legal ones
+pub legal_of : (fits : ℕ → List ℕ → Type 0) (nodes : ℕ) (cs : List ClosedLine) (ls : List (List (List Receipt)))
+    → AreHistories fits nodes cs ls → All IsLegalLine (histories_from cs ls)
+legal_of fits nodes cs ls are = λ k d low. each_of IsLegalLine cs ls (λ j c l ec el. (are.each j c l ec el).whole.legal) k d low
 
 no_more : {A : Type 0} (xs : List A) → length xs ≡ 0 → xs ≡ []
 no_more [] e = refl
@@ -99,11 +77,12 @@ made c value lists all holds same =
     history_of v ls = record { opening = blank; closing = v; lists = ls }
 
 -- a whole history is of them
-pub sizes : (nodes : ℕ) (cs : List ClosedLine) (hs ls : List LineReceipts) → ls ≡ hs → AreHistoriesOf nodes cs hs → 1 ≤ nodes → nodes ≤ 64 → 1 ≤ length cs → length cs ≤ 1024 → HasSizes (record { nodes = nodes; lines = ls })
-sizes nodes cs hs ls same are any few one most =
-    let count = are.count in
+pub sizes : (fits : ℕ → List ℕ → Type 0) (nodes : ℕ) (cs : List ClosedLine) (ls : List (List (List Receipt))) (hs : List LineReceipts)
+    → hs ≡ histories_from cs ls → AreHistories fits nodes cs ls → (1 ≤ nodes) × (nodes ≤ 64) × (1 ≤ length cs) × (length cs ≤ 1024) → HasSizes (record { nodes = nodes; lines = hs })
+sizes fits nodes cs ls hs same are (any, few, one, most) =
+    let count = count_of cs ls are.count in
     subst (λ (z : List LineReceipts). HasSizes (record { nodes = nodes; lines = z })) (sym same) (record {
       nodes = (any, omega (arith, few));
       lines = (omega (arith, count, one), omega (arith, count, most));
-      each = λ k d low. have_lists nodes cs hs are k d low;
+      each = λ k d low. each_of (λ h. length h.lists ≡ nodes) cs ls (λ j c l ec el. (are.each j c l ec el).count) k d low;
     })

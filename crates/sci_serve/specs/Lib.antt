@@ -9,6 +9,7 @@ pub mod Settings
 pub mod Verdicts
 pub mod Followed
 pub mod Works
+pub mod Worked
 pub mod Talked
 pub mod Races
 pub mod Explained

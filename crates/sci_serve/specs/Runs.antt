@@ -1,18 +1,18 @@
 -- What a workload comes to, and what the command `run` writes of it. This project's profile.
-use Rattle.std.specs.Prelude.{◌≡◌, ℕ, ◌+◌, ◌*◌, ◌/◌, ◌%◌, ◌^◌, ◌<◌, ◌≤◌, List, [], ◌++◌, length, take, codes, Some, Bool, IsUtf8, if◌then◌else◌}
+use Rattle.std.specs.Prelude.{◌≡◌, ℕ, ◌+◌, ◌*◌, ◌/◌, ◌%◌, ◌^◌, ◌≤◌, List, [], ◌++◌, length, codes, Some, Bool, IsUtf8, if◌then◌else◌}
 use Rattle.sci_core.specs.Closed.{ClosedLine}
-use Rattle.sci_script.specs.declared.refusals.ScriptRefusal.TheVariants.{OutOfMemory, BadCommand, BadNumber, NotDone, WriteFailed}
+use Rattle.sci_script.specs.declared.refusals.ScriptRefusal.TheVariants.{OutOfMemory}
 use Rattle.sci_words.specs.declared.layouts.Layout.TheVariants.{Two}
 use Rattle.sci_dump.specs.Text.{dump_text}
 use Rattle.sci_work.specs.declared.refusals.WorkRefusal.{WorkRefusal}
-use Rattle.sci_work.specs.Ended.{AreClosed, HaveNodes, IsCounted, IsCountSize}
+use Rattle.sci_work.specs.Ended.{AreClosed, HaveNodes, IsCounted, IsCountSize, any_words}
 use Rattle.sci_work.specs.Plain.{plain}
 use Rattle.sci_work.specs.Ring.{FitsRing, IsRingRun}
 use Rattle.sci_work.specs.Stencil.{FitsStencil, IsStencilSize}
 use Rattle.sci_serve.specs.declared.settings.Settings.{Settings}
 use Rattle.sci_serve.specs.declared.settings.Settings.TheVariants.{Stencil, Ring, Count}
 use Rattle.sci_serve.specs.declared.faults.SimFault.{SimFault}
-use Rattle.sci_serve.specs.declared.faults.SimFault.TheVariants.{CannotRead, CannotWrite, InputTooLong, Refused, NoDump, Unlawful, NoRun}
+use Rattle.sci_serve.specs.declared.faults.SimFault.TheVariants.{Refused, NoRun}
 use Rattle.sci_serve.specs.Settings.{settings_of}
 use Rattle.sci_serve.specs.Works.{list_line, count_line}
 
@@ -35,6 +35,12 @@ abbrev pub nodes_of : Settings → ℕ
 nodes_of (Stencil nodes capacity phases cells dump) = nodes
 nodes_of (Ring lines capacity items dump) = 2
 nodes_of (Count nodes adds capacity dump) = nodes
+
+-- what is known of the words of each line of these settings
+abbrev pub fits_of : Settings → ℕ → List ℕ → Type 0
+fits_of (Stencil nodes capacity phases cells dump) = FitsStencil cells phases
+fits_of (Ring lines capacity items dump) = FitsRing items lines
+fits_of (Count nodes adds capacity dump) = λ k. any_words
 
 -- the lines of these settings as their work leaves them
 abbrev pub AreLeftBy : Settings → List ClosedLine → Type 0

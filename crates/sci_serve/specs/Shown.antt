@@ -1,5 +1,6 @@
 -- What the commands `run` and `history` write, and where they fail. This project's profile.
-use Rattle.std.specs.Prelude.{◌≡◌, ℕ, ◌<◌, ◌≤◌, List, [], length, take}
+use Rattle.std.specs.Prelude.{◌≡◌, ℕ, ◌<◌, ◌≤◌, List, [], length, take, Option, IfSome}
+use Rattle.std.specs.Io.KnownBytes.{Appends}
 use Rattle.sci_script.specs.declared.refusals.ScriptRefusal.TheVariants.{OutOfMemory, BadCommand, BadNumber, NotDone, WriteFailed}
 use Rattle.sci_work.specs.declared.refusals.WorkRefusal.{WorkRefusal}
 use Rattle.sci_serve.specs.declared.settings.Settings.{Settings}
@@ -38,16 +39,10 @@ StopsPrinting shown (NoDump n) input written = ⊥
 StopsPrinting shown Unlawful input written = ⊥
 StopsPrinting shown (NoRun refusal) input written = IsDeclined refusal input × (written ≡ [])
 
--- the command `run`
-abbrev pub Runs : List ℕ → List ℕ → Type 0
-Runs input text = Prints Shown.Result input text
+-- what is printed of the input was written, behind what was there
+abbrev pub IsPrinted : Shown → Option (List ℕ) → Option (List ℕ) → Option (List ℕ) → Type 0
+IsPrinted shown input before after = IfSome input (λ i. (text : List ℕ) × Prints shown i text × Appends before after text)
 
-abbrev pub StopsRun : SimFault → List ℕ → List ℕ → Type 0
-StopsRun e input written = StopsPrinting Shown.Result e input written
-
--- the command `history`
-abbrev pub Histories : List ℕ → List ℕ → Type 0
-Histories input text = Prints Shown.History input text
-
-abbrev pub StopsHistory : SimFault → List ℕ → List ℕ → Type 0
-StopsHistory e input written = StopsPrinting Shown.History e input written
+-- and so was what is written where the command fails
+abbrev pub IsStopped : Shown → SimFault → Option (List ℕ) → Option (List ℕ) → Option (List ℕ) → Type 0
+IsStopped shown e input before after = IfSome input (λ i. (written : List ℕ) × StopsPrinting shown e i written × Appends before after written)

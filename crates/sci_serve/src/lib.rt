@@ -26,6 +26,7 @@ mod settings;
 mod talking;
 mod verdicts;
 mod wholly;
+mod workloads;
 mod works;
 
 pub use checking::serve_check;

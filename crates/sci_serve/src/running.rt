@@ -1,10 +1,11 @@
 //! The commands `run` and `history`, from the bytes of settings to the text of the workload's result, or of its lines' histories.
 
-ghost use Rattle.std.specs.Prelude.{◌≤◌, ℕ, List, [], length, string_bytes, IfOk, OnOk, IfErr, IfSome};
-ghost use Rattle.std.specs.Io.KnownBytes.{Appends, IsAtEnd};
+ghost use Rattle.std.specs.Prelude.{◌≤◌, [], length, string_bytes, IfOk, OnOk, IfErr};
+ghost use Rattle.std.specs.Io.KnownBytes.{IsAtEnd};
 ghost use Rattle.sci_serve.specs.Input.{IsToldInTime};
 ghost use Rattle.sci_serve.specs.Runs.{AreWithin, ComesInRun};
-ghost use Rattle.sci_serve.specs.Shown.{Histories, IsShownOf, Prints, Runs, StopsHistory, StopsPrinting, StopsRun};
+ghost use Rattle.sci_serve.specs.Shown.{IsPrinted, IsShownOf, IsStopped, Prints, StopsPrinting};
+ghost use Rattle.sci_serve.specs.declared.running.Shown.TheVariants as shows;
 
 use crate::faults::SimFault;
 use crate::histories::history_of;
@@ -68,10 +69,8 @@ fn serve_shown<T: Threads + Wait + Sync, G: Gate, R: Read, W: Write>(
     reader: &mut R,
     writer: &mut W,
 ) -> Result<(), SimFault>
-    ensures ok { OnOk result (IfSome (R.remaining reader.old) (λ input. (text : List ℕ) × Prints shown input text
-        × Appends (W.contents writer.old) (W.contents writer.new) text)) }
-    ensures err { IfErr result (λ e. IfSome (R.remaining reader.old) (λ input. (written : List ℕ) × StopsPrinting shown e input written
-        × Appends (W.contents writer.old) (W.contents writer.new) written)) }
+    ensures ok { OnOk result (IsPrinted shown (R.remaining reader.old) (W.contents writer.old) (W.contents writer.new)) }
+    ensures err { IfErr result (λ e. IsStopped shown e (R.remaining reader.old) (W.contents writer.old) (W.contents writer.new)) }
     ensures end { OnOk result (IsAtEnd (R.remaining reader.new)) }
     ensures in_time { IfErr result (λ e. IsToldInTime e (R.remaining reader.new)) }
 {
@@ -93,10 +92,8 @@ pub fn serve_run_by<T: Threads + Wait + Sync, G: Gate, R: Read, W: Write>(
     reader: &mut R,
     writer: &mut W,
 ) -> Result<(), SimFault>
-    ensures ok { OnOk result (IfSome (R.remaining reader.old) (λ input. (text : List ℕ) × Runs input text
-        × Appends (W.contents writer.old) (W.contents writer.new) text)) }
-    ensures err { IfErr result (λ e. IfSome (R.remaining reader.old) (λ input. (written : List ℕ) × StopsRun e input written
-        × Appends (W.contents writer.old) (W.contents writer.new) written)) }
+    ensures ok { OnOk result (IsPrinted shows.Result (R.remaining reader.old) (W.contents writer.old) (W.contents writer.new)) }
+    ensures err { IfErr result (λ e. IsStopped shows.Result e (R.remaining reader.old) (W.contents writer.old) (W.contents writer.new)) }
     ensures end { OnOk result (IsAtEnd (R.remaining reader.new)) }
     ensures in_time { IfErr result (λ e. IsToldInTime e (R.remaining reader.new)) }
 {
@@ -110,10 +107,8 @@ pub fn serve_run<T: Threads + Wait + Sync, R: Read, W: Write>(
     reader: &mut R,
     writer: &mut W,
 ) -> Result<(), SimFault>
-    ensures ok { OnOk result (IfSome (R.remaining reader.old) (λ input. (text : List ℕ) × Runs input text
-        × Appends (W.contents writer.old) (W.contents writer.new) text)) }
-    ensures err { IfErr result (λ e. IfSome (R.remaining reader.old) (λ input. (written : List ℕ) × StopsRun e input written
-        × Appends (W.contents writer.old) (W.contents writer.new) written)) }
+    ensures ok { OnOk result (IsPrinted shows.Result (R.remaining reader.old) (W.contents writer.old) (W.contents writer.new)) }
+    ensures err { IfErr result (λ e. IsStopped shows.Result e (R.remaining reader.old) (W.contents writer.old) (W.contents writer.new)) }
     ensures end { OnOk result (IsAtEnd (R.remaining reader.new)) }
     ensures in_time { IfErr result (λ e. IsToldInTime e (R.remaining reader.new)) }
 {
@@ -130,10 +125,8 @@ pub fn serve_history_by<T: Threads + Wait + Sync, G: Gate, R: Read, W: Write>(
     reader: &mut R,
     writer: &mut W,
 ) -> Result<(), SimFault>
-    ensures ok { OnOk result (IfSome (R.remaining reader.old) (λ input. (text : List ℕ) × Histories input text
-        × Appends (W.contents writer.old) (W.contents writer.new) text)) }
-    ensures err { IfErr result (λ e. IfSome (R.remaining reader.old) (λ input. (written : List ℕ) × StopsHistory e input written
-        × Appends (W.contents writer.old) (W.contents writer.new) written)) }
+    ensures ok { OnOk result (IsPrinted shows.History (R.remaining reader.old) (W.contents writer.old) (W.contents writer.new)) }
+    ensures err { IfErr result (λ e. IsStopped shows.History e (R.remaining reader.old) (W.contents writer.old) (W.contents writer.new)) }
     ensures end { OnOk result (IsAtEnd (R.remaining reader.new)) }
     ensures in_time { IfErr result (λ e. IsToldInTime e (R.remaining reader.new)) }
 {
@@ -147,10 +140,8 @@ pub fn serve_history<T: Threads + Wait + Sync, R: Read, W: Write>(
     reader: &mut R,
     writer: &mut W,
 ) -> Result<(), SimFault>
-    ensures ok { OnOk result (IfSome (R.remaining reader.old) (λ input. (text : List ℕ) × Histories input text
-        × Appends (W.contents writer.old) (W.contents writer.new) text)) }
-    ensures err { IfErr result (λ e. IfSome (R.remaining reader.old) (λ input. (written : List ℕ) × StopsHistory e input written
-        × Appends (W.contents writer.old) (W.contents writer.new) written)) }
+    ensures ok { OnOk result (IsPrinted shows.History (R.remaining reader.old) (W.contents writer.old) (W.contents writer.new)) }
+    ensures err { IfErr result (λ e. IsStopped shows.History e (R.remaining reader.old) (W.contents writer.old) (W.contents writer.new)) }
     ensures end { OnOk result (IsAtEnd (R.remaining reader.new)) }
     ensures in_time { IfErr result (λ e. IsToldInTime e (R.remaining reader.new)) }
 {

@@ -54,6 +54,30 @@ pub enum Settings {
     },
 }
 
+impl Settings {
+    ghost use Rattle.sci_serve.specs.Runs.{nodes_of, wants_dump};
+
+    /// How many nodes work.
+    pub(crate) fn nodes(&self) -> u16
+        ensures { result ≡ nodes_of self.now }
+    {
+        match self {
+            Self::Stencil { nodes, .. } | Self::Count { nodes, .. } => *nodes,
+            Self::Ring { .. } => 2,
+        }
+    }
+
+    /// Whether the dump is printed too.
+    pub(crate) fn wants_dump(&self) -> bool
+        ensures { result ≡ wants_dump self.now }
+    {
+        match self {
+            Self::Stencil { dump, .. } | Self::Ring { dump, .. } | Self::Count { dump, .. } =>
+                *dump,
+        }
+    }
+}
+
 #[tactic(auto, unfolding(crate::specs::Settings::settings_for))]
 fn stencil_in(alloc: Global, table: &Table) -> Result<Settings, SettingsRefusal>
     ensures { Gives result (settings_for Work.Stencil (table_view table.now)) }

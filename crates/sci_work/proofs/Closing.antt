@@ -1,24 +1,21 @@
 -- Lines that were closed by their own terms, as lines closed under their one fact.
-use Rattle.std.proofs.Common.{◌≡◌, ℕ, zero, suc, ◌<◌, List, [], ◌∷◌, length, refl, sym, ap, subst, ◌∙◌}
+use Rattle.std.proofs.Common.{◌≡◌, ℕ, zero, suc, ◌<◌, List, [], ◌∷◌, length, map, refl, sym, subst, ◌∙◌}
+use Rattle.std.proofs.lemmas.List.{length-map}
 use Rattle.std.specs.Prelude.{All}
 use Rattle.std.specs.Global.{Vec}
 use mathlib.Core.Option.{some, some-injective, some-ne-none}
 use lib.ListN.{get_elem?}
-use Rattle.sci_core.specs.declared.keeps.Keeps as keeps
 use Rattle.sci_core.specs.declared.lines.Line.{Line}
 use Rattle.sci_core.specs.declared.receipts.Receipt.{Receipt}
 use Rattle.sci_core.specs.Closed.{ClosedLine, IsExactClosed, value_of}
 use Rattle.sci_core.specs.State.{blank}
-use Rattle.sci_port.specs.Receipts.{IsWhole}
 use Rattle.sci_port.proofs.Seated.{at_place}
 use Rattle.sci_fine.specs.declared.line.FineLine.{FineLine}
-use Rattle.sci_fine.specs.declared.seats.Seat.{Seat}
 use Rattle.sci_fine.specs.Banks.{IsLine}
-use Rattle.sci_fine.specs.Kept.{list_at, lists_of}
 use Rattle.sci_fine.proofs.Elements.{inside, each_all}
 use Rattle.sci_work.specs.declared.keeping.ClosedMemory.{ClosedMemory}
 use Rattle.sci_work.specs.declared.keeping.Keeping.{Keeping}
-use Rattle.sci_work.specs.Ended.{AreClosed, AreClosedOf, AreHistories, AreHistoriesOf, AreKept, AreKeptOf, HaveNodes, IsHistoryOf, IsLineHistory, lists_in}
+use Rattle.sci_work.specs.Ended.{AreClosed, AreClosedOf, AreHistories, AreHistoriesOn, AreKept, AreKeptOn, HaveNodes, IsHistoryOn, IsLineHistory, lists_in}
 use Rattle.sci_work.specs.Hands.{AtEach}
 
 -- lines of one fact, numbered from 0
@@ -47,43 +44,44 @@ pub all_exact : (fits : ℕ → List ℕ → Type 0) (count : ℕ) (closed : Lis
 all_exact fits count closed ended = each_all IsExactClosed closed (λ k c at. (ended.each k c at).exact)
 
 -- what is kept, by what was to be kept
-pub kept_by : {K : Type 0} (keeping : Keeping) (lines : List (FineLine K)) (memory : ClosedMemory) → (keeping ≡ Keeping.All → AreHistoriesOf lines memory) → (keeping ≡ Keeping.Nothing → memory.receipts.items ≡ []) → AreKeptOf keeping lines memory
-kept_by Keeping.All lines memory all nothing = all refl
-kept_by Keeping.Nothing lines memory all nothing = nothing refl
+pub kept_by : {K : Type 0} (fits : K → ℕ → List ℕ → Type 0) (keeping : Keeping) (lines : List (FineLine K)) (memory : ClosedMemory) → (keeping ≡ Keeping.All → AreHistoriesOn fits lines memory) → (keeping ≡ Keeping.Nothing → memory.receipts.items ≡ []) → AreKeptOn keeping fits lines memory
+kept_by fits Keeping.All lines memory all nothing = all refl
+kept_by fits Keeping.Nothing lines memory all nothing = nothing refl
 
--- a line of so many nodes, opened with zeros, whose seats' receipts these are
-pub line_history : {K : Type 0} {g : keeps.Ghosts K} (l : FineLine K) (seats : List (Seat K g)) (c : ClosedLine) (lists : List (List Receipt)) (nodes : ℕ)
-    → l.terms.nodes ≡ nodes → l.terms.opening ≡ blank → length lists ≡ l.terms.nodes → lists ≡ lists_of seats → IsHistoryOf l seats c → IsLineHistory nodes c lists
-line_history l seats c lists nodes same zeros count own history = record {
-  count = count ∙ same;
-  whole = subst (λ (z : List (List Receipt)). IsWhole nodes blank (value_of c) (λ j. list_at z j)) (sym own)
-      (subst (λ (n : ℕ). IsWhole n blank (value_of c) (λ j. list_at (lists_of seats) j)) same
-      (subst (λ (o : Line). IsWhole l.terms.nodes o (value_of c) (λ j. list_at (lists_of seats) j)) zeros history));
-}
+-- the history of a line of this number and of so many nodes, opened with zeros under this fact
+pub line_history : {K : Type 0} (fits : K → ℕ → List ℕ → Type 0) (nodes : ℕ) (keep : K) (number : ℕ) (l : FineLine K) (c : ClosedLine) (lists : List (List Receipt))
+    → IsLine nodes keep number l → l.terms.opening ≡ blank → IsHistoryOn fits l c lists → IsLineHistory (fits keep number) nodes blank c lists
+line_history {K} fits nodes keep number l c lists is zeros history =
+    subst (λ (o : Line). IsLineHistory (fits keep number) nodes o c lists) zeros
+    (subst (λ (n : ℕ). IsLineHistory (fits keep number) n l.terms.opening c lists) is.nodes_are
+    (subst (λ (m : ℕ). IsLineHistory (fits keep m) l.terms.nodes l.terms.opening c lists) is.number
+    (subst (λ (f : K). IsLineHistory (fits f l.terms.number) l.terms.nodes l.terms.opening c lists) is.fact history)))
 
--- a memory of that line alone
-pub one_history : (nodes : ℕ) (closed : ClosedLine) (kept : Vec (Vec Receipt)) (memory : ClosedMemory) → memory.lines.items ≡ closed ∷ [] → memory.receipts.items ≡ kept ∷ [] → IsLineHistory nodes closed (lists_in kept) → AreHistories nodes memory
-one_history nodes closed kept memory one lists history = record {
-  count = ap (λ (l : List _). length l) lists ∙ ap (λ (l : List _). length l) (sym one);
-  each = λ k c v at told. places k c v (subst (λ (l : List _). get_elem? l k ≡ some c) one at) (subst (λ (l : List _). get_elem? l k ≡ some v) lists told);
-}
+-- a memory of one line alone
+pub one_history : (fits : ℕ → List ℕ → Type 0) (nodes : ℕ) (closed : ClosedLine) (kept : Vec (Vec Receipt)) (lines : List ClosedLine) (receipts : List (Vec (Vec Receipt))) → lines ≡ closed ∷ [] → receipts ≡ kept ∷ []
+    → IsLineHistory (fits 0) nodes blank closed (lists_in kept) → AreHistories fits nodes lines (map lists_in receipts)
+one_history fits nodes closed kept lines receipts one lists history =
+    subst (λ (z : List ClosedLine × List (Vec (Vec Receipt))). AreHistories fits nodes z.0 (map lists_in z.1)) (λ i. (sym one i, sym lists i)) record { count = refl; each = places }
   where
-    places : (k : ℕ) (c : ClosedLine) (v : Vec (Vec Receipt)) → get_elem? (closed ∷ []) k ≡ some c → get_elem? (kept ∷ []) k ≡ some v → IsLineHistory nodes c (lists_in v)
-    places zero c v at told = subst (λ (x : ClosedLine). IsLineHistory nodes x (lists_in v)) (some-injective closed c at) (subst (λ (x : Vec (Vec Receipt)). IsLineHistory nodes closed (lists_in x)) (some-injective kept v told) history)
-    places (suc k) c v at told = absurd (some-ne-none c (sym at))
+    places : (k : ℕ) (c : ClosedLine) (l : List (List Receipt)) → get_elem? (closed ∷ []) k ≡ some c → get_elem? (lists_in kept ∷ []) k ≡ some l → IsLineHistory (fits k) nodes blank c l
+    places zero c l at told = subst (λ (x : ClosedLine). IsLineHistory (fits 0) nodes blank x l) (some-injective closed c at)
+        (subst (λ (x : List (List Receipt)). IsLineHistory (fits 0) nodes blank closed x) (some-injective (lists_in kept) l told) history)
+    places (suc k) c l at told = absurd (some-ne-none c (sym at))
+
+-- what stands at a place of a mapped list comes of the element there
+read_from : {A B : Type 0} (f : A → B) (xs : List A) (k : ℕ) (y : B) → get_elem? (map f xs) k ≡ some y → (x : A) × (get_elem? xs k ≡ some x) × (f x ≡ y)
+read_from f [] k y at = absurd (some-ne-none y (sym at))
+read_from f (x ∷ xs) zero y at = (x, refl, some-injective (f x) y at)
+read_from f (x ∷ xs) (suc k) y at = read_from f xs k y at
 
 -- what lines of so many nodes, opened with zeros, have kept
 pub kept_under : {K : Type 0} (fits : K → ℕ → List ℕ → Type 0) (keeping : Keeping) (nodes : ℕ) (keep : K) (lines : List (FineLine K)) (memory : ClosedMemory)
-    → AtEach (IsLine nodes keep) lines → AtEach (λ k l. l.terms.opening ≡ blank) lines → AreClosedOf fits lines memory.lines.items → AreKeptOf keeping lines memory → AreKept keeping nodes memory
-kept_under {K} fits Keeping.All nodes keep lines memory are zeros ended kept = record {
-  count = kept.count ∙ sym ended.count;
+    → AtEach (IsLine nodes keep) lines → AtEach (λ k l. l.terms.opening ≡ blank) lines → AreClosedOf fits lines memory.lines.items → AreKeptOn keeping fits lines memory → AreKept keeping (fits keep) nodes memory
+kept_under fits Keeping.All nodes keep lines memory are zeros ended kept = record {
+  count = length-map memory.receipts.items lists_in ∙ kept.count ∙ sym ended.count;
   each = λ k c lists at told.
+      let v = read_from lists_in memory.receipts.items k lists told in
       let l = at_place lines k (subst (λ (n : ℕ). k < n) ended.count (inside memory.lines.items c k at)) in
-      let same : l.0.terms.nodes ≡ nodes = (are k l.0 l.1).nodes_are in
-      record {
-        count = kept.nodes k l.0 lists l.1 told ∙ same;
-        whole = subst (λ (n : ℕ). IsWhole n blank (value_of c) (λ j. list_at (lists_in lists) j)) same
-            (subst (λ (o : Line). IsWhole l.0.terms.nodes o (value_of c) (λ j. list_at (lists_in lists) j)) (zeros k l.0 l.1) (kept.each k l.0 c lists l.1 at told));
-      };
+      subst (λ (z : List (List Receipt)). IsLineHistory (fits keep k) nodes blank c z) v.2 (line_history fits nodes keep k l.0 c (lists_in v.0) (are k l.0 l.1) (zeros k l.0 l.1) (kept.each k l.0 c v.0 l.1 at v.1));
 }
 kept_under fits Keeping.Nothing nodes keep lines memory are zeros ended kept = kept

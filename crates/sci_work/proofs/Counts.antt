@@ -1,5 +1,5 @@
 -- Numbers that loops keep as they go on.
-use Rattle.std.proofs.Common.{◌≡◌, ℕ, ◌+◌, ◌≤◌, sym, ap, arith}
+use Rattle.std.proofs.Common.{◌≡◌, ℕ, ◌+◌, ◌≤◌, arith}
 
 pub from_none : (k n : ℕ) → n ≡ 0 → k ≡ k + n
 from_none k n none = omega (arith, none)

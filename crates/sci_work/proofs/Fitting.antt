@@ -1,11 +1,12 @@
 -- What a line holds once it is closed is its value, and fits what is known of it.
-use Rattle.std.proofs.Common.{◌≡◌, ◌≢◌, ⊎_elim, ℕ, ◌<◌, true, Option, Some, None, List, [], ◌∷◌, get_or, refl, sym, ap, subst, ◌∙◌}
-use Rattle.std.specs.Prelude.{All}
+use Rattle.std.proofs.Common.{◌≡◌, ◌≢◌, ⊎_elim, ℕ, ◌<◌, true, Option, Some, None, List, [], ◌∷◌, length, get_or, refl, sym, ap, subst, ◌∙◌}
+use Rattle.std.proofs.lemmas.List.{length-map}
 use Rattle.sci_words.specs.declared.memory.MemState.{MemState}
 use Rattle.sci_words.specs.declared.tags.Kind.{Kind}
 use Rattle.sci_words.specs.declared.tags.Tag.{Tag}
 use Rattle.sci_core.specs.declared.keeps.Keeps as keeps
 use Rattle.sci_core.specs.declared.lines.Line.{Line}
+use Rattle.sci_core.specs.declared.pending.Pending.{Pending}
 use Rattle.sci_core.specs.declared.receipts.Receipt.{Receipt}
 use Rattle.sci_core.specs.Chain.{IsPath, forward}
 use Rattle.sci_core.specs.Closed.{ClosedLine, IsExactClosed, value_by, value_of}
@@ -13,12 +14,18 @@ use Rattle.sci_core.specs.Law.{is_valid}
 use Rattle.sci_core.specs.Run.{HasValue}
 use Rattle.sci_core.specs.State.{State, blank, invalid}
 use Rattle.sci_port.specs.declared.calls.Call.{Call}
+use Rattle.sci_port.specs.ReceiptList.{AreReceiptsOf, ReceiptList}
 use Rattle.sci_port.specs.Receipts.{IsWhole}
+use Rattle.sci_port.specs.Runs.{done_by}
+use Rattle.sci_port.proofs.Seated.{at_place, read_at}
 use Rattle.sci_fine.specs.declared.line.FineLine.{FineLine}
 use Rattle.sci_fine.specs.declared.seats.Seat.{Seat}
 use Rattle.sci_fine.specs.Ends.{IsEnd, IsReadOff}
-use Rattle.sci_fine.specs.Kept.{HasKeptAll, IsFinished, list_at, lists_of}
-use Rattle.sci_work.specs.Ended.{IsClosedOf, IsHistoryOf}
+use Rattle.sci_fine.specs.Kept.{HasKeptAll, IsFinished, list_at}
+use Rattle.sci_fine.proofs.Elements.{each_all}
+use Rattle.sci_work.specs.declared.keeping.Keeping.{Keeping}
+use Rattle.sci_work.specs.Ended.{IsClosedOf, IsHistoryOn}
+use Rattle.sci_work.specs.Hands.{AreIdle}
 use Rattle.sci_work.proofs.Seated.{head_inside, or_at}
 
 nobody : (forw : ℕ → Option ℕ) (from : Option ℕ) (nodes : List ℕ) → from ≡ None → IsPath from forw nodes → nodes ≡ []
@@ -64,10 +71,23 @@ module _ (n : ℕ) (fits : List ℕ → Type 0) (s : State) (v : Line) (c : Clos
 pub closed_of : {K : Type 0} (fits : K → ℕ → List ℕ → Type 0) (l : FineLine K) (logs : List (List (ℕ × Call))) (c : ClosedLine) → IsEnd fits l.terms logs c → IsClosedOf fits l c
 closed_of fits l logs c e = record { exact = e.exact; nodes = e.read.tag_count; fit = fit_is l.terms.nodes (fits l.terms.keep l.terms.number) e.state e.value c e.valued e.read e.exact }
 
--- and of its seats' receipts, where each has kept all
-pub history_of : {K : Type 0} {g : keeps.Ghosts K} (fits : K → ℕ → List ℕ → Type 0) (l : FineLine K) (seats : List (Seat K g)) (c : ClosedLine) (lists : List (List Receipt)) → IsFinished fits l.terms seats c lists → All (λ (s : Seat K g). HasKeptAll s) seats
-    → IsHistoryOf l seats c
-history_of fits l seats c lists f all =
-    let e = f.end in
-    subst (λ (v : Line). IsWhole l.terms.nodes l.terms.opening v (λ j. list_at (lists_of seats) j)) (sym (value_is l.terms.nodes (fits l.terms.keep l.terms.number) e.state e.value c e.valued e.read e.exact c.mem.forw refl))
-    (subst (λ (z : List (List Receipt)). IsWhole l.terms.nodes l.terms.opening e.value (λ j. list_at z j)) f.own (f.whole all))
+-- and of the receipts of its seats, each Idle and with all kept: they are of the one run that it gives, each node's of its own calls in it
+module _ {K : Type 0} {g : keeps.Ghosts K} (fits : K → ℕ → List ℕ → Type 0) (l : FineLine K) (seats : List (Seat K g)) (c : ClosedLine) (lists : List (List Receipt)) (count : length seats ≡ l.terms.nodes) (idle : AreIdle Keeping.All l seats) (f : IsFinished fits l.terms seats c lists) where
+  own_of : (j : ℕ) → j < l.terms.nodes → (r : ReceiptList) × (r.list ≡ list_at lists j) × AreReceiptsOf (done_by j f.end.ran.run) Pending.Idle r
+  own_of j low =
+      let at = at_place seats j (subst (λ (n : ℕ). j < n) (sym count) low) in let s : Seat K g = at.0 in let i = idle j s at.1 in
+      let log = f.end.ran.each j ∙ read_at (λ (x : Seat K g). x.token.me.0.log) seats j s [] at.1 in (
+        s.receipts,
+        sym (read_at (λ (x : Seat K g). x.receipts.list) seats j s [] at.1) ∙ ap (λ (z : List (List Receipt)). list_at z j) (sym f.own),
+        subst (λ (z : List (ℕ × Call) × Pending). AreReceiptsOf z.0 z.1 s.receipts) (λ n. (sym log n, i.1 n)) (i.2 refl),
+      )
+
+  pub history_of : IsHistoryOn fits l c lists
+  history_of =
+      let e = f.end in
+      record {
+        count = ap (λ (z : List (List Receipt)). length z) f.own ∙ length-map seats (λ (s : Seat K g). s.receipts.list) ∙ count;
+        whole = subst (λ (v : Line). IsWhole l.terms.nodes l.terms.opening v (λ j. list_at lists j)) (sym (value_is l.terms.nodes (fits l.terms.keep l.terms.number) e.state e.value c e.valued e.read e.exact c.mem.forw refl))
+            (f.whole (each_all (λ (s : Seat K g). HasKeptAll s) seats (λ k s at. (idle k s at).2 refl)));
+        run = record { run = e.ran.run; state = e.state; led = e.ran.led; idle = e.idle; read = e.read; own = own_of };
+      }

@@ -22,7 +22,7 @@ use Rattle.sci_work.specs.declared.programs.Program.{Program}
 use Rattle.sci_work.specs.Adding.{AreAdds}
 use Rattle.sci_work.specs.Hands.{AtEach, HoldEach, IsHandOf}
 use Rattle.sci_work.specs.Programs.{HasWritten, Suits}
-use Rattle.sci_work.specs.Starts.{Begins, Ends}
+use Rattle.sci_work.specs.Starts.{HasAddedAll, HasWrittenNothing}
 use Rattle.sci_work.proofs.Dealing.{hand_at, seat_at}
 use Rattle.sci_work.proofs.Seated.{all_idle, fact_is, hand_again, node_is}
 
@@ -49,7 +49,7 @@ module _ {K : Type 0} {g : keeps.Ghosts K} where
   first_none (x ∷ xs) all = all x refl
 
   -- a node that began with no writes has ended with those of its program
-  pub ends_so : (program : Program) (before after : List (Seat K g)) → Begins program before → HasWritten program (receipts_on before 0).list (receipts_on after 0).list → Ends program after
+  pub ends_so : (program : Program) (before after : List (Seat K g)) → HasWrittenNothing program before → HasWritten program (receipts_on before 0).list (receipts_on after 0).list → HasAddedAll program after
   ends_so (Program.Count adds) before after begins written = λ s at.
       let none : writes_in (receipts_on before 0).list ≡ [] = first_none before begins in
       let more : writes_in (receipts_on after 0).list ≡ written.more = written.behind ∙ ap (λ (l : List Receipt). l ++ written.more) none in
@@ -59,14 +59,14 @@ module _ {K : Type 0} {g : keeps.Ghosts K} where
   ends_so (Program.Stencil work) before after begins written = tt
 
   -- hands of new seats have written nothing
-  pub none_written : (seats : List (Seat K g)) → AreNew seats → (adds : ℕ) (hands : List (Vec (Seat K g))) → HoldEach hands seats → AtEach (λ k hand. Begins (Program.Count adds) hand.items) hands
+  pub none_written : (seats : List (Seat K g)) → AreNew seats → (adds : ℕ) (hands : List (Vec (Seat K g))) → HoldEach hands seats → AtEach (λ k hand. HasWrittenNothing (Program.Count adds) hand.items) hands
   none_written seats new adds hands hold k hand at s first =
       let x = seat_at hands seats hold k hand at in
       let same : x.0 ≡ s = some-injective x.0 s (ap (λ (l : List (Seat K g)). get_elem? l 0) (sym x.2) ∙ first) in
       ap (λ (z : Seat K g). writes_in z.receipts.list) (sym same) ∙ ap (λ (l : ReceiptList). writes_in l.list) (new k x.0 x.1).1
 
   -- and of hands that have counted so has each seat
-  pub all_counted : (adds : ℕ) (hands : List (Vec (Seat K g))) (seats : List (Seat K g)) → HoldEach hands seats → AtEach (λ k hand. Ends (Program.Count adds) hand.items) hands → AtEach (λ k s. AreAdds adds (writes_in s.receipts.list)) seats
+  pub all_counted : (adds : ℕ) (hands : List (Vec (Seat K g))) (seats : List (Seat K g)) → HoldEach hands seats → AtEach (λ k hand. HasAddedAll (Program.Count adds) hand.items) hands → AtEach (λ k s. AreAdds adds (writes_in s.receipts.list)) seats
   all_counted adds hands seats hold end k s at = let h = hand_at hands seats hold k s at in end k h.0 h.1 s (ap (λ (l : List (Seat K g)). get_elem? l 0) h.2)
 
   -- a bank at these lines, by a hand at them

@@ -1,7 +1,7 @@
 -- What fits the lines of a ring.
-use Rattle.std.proofs.Common.{◌≡◌, ℕ, ◌+◌, ◌%◌, ◌<◌, ◌≤◌, ◌⊎◌, List, [], ◌∷◌, length, slice_index, replicate, suc, zero, ◌++◌, take, drop, length-drop, get_or, get_or-drop, inl, inr, refl, ap, subst, ◌∙◌, sym, arith}
+use Rattle.std.proofs.Common.{◌≡◌, ℕ, ◌+◌, ◌%◌, ◌<◌, ◌≤◌, List, [], ◌∷◌, length, slice_index, replicate, suc, ◌++◌, take, drop, length-drop, get_or, get_or-drop, inl, inr, refl, ap, subst, ◌∙◌, sym, arith}
 use Rattle.std.proofs.Math.Seq.{take-add}
-use Rattle.sci_work.specs.Ring.{FitsRing, IsRing, IsRingOf, ShowsItem, item_words, count_words, item_writes, count_writes}
+use Rattle.sci_work.specs.Ring.{FitsRing, IsRing, IsRingOf, item_words, count_words, item_writes, count_writes}
 
 -- a line below `lines` with the number of item i shows its value
 pub value_shown : (source : List ℕ) (lines line : ℕ) (words : List ℕ) (i : ℕ) → line < lines → FitsRing source lines line words → slice_index words 0 ≡ i + 1 → slice_index words 1 ≡ slice_index source i

@@ -66,6 +66,6 @@ module _ {U K : Type 0} {way : U → BankWay} {nodes_on : U → ℕ → ℕ} {ke
         same_fact = h.same_fact;
         rests = record {
           idle = λ idle. subst (λ (c : Option OpenCall). IsIdleBut c (step v)) closed (h.rest (subst (λ (c : Option OpenCall). IsIdleBut c (step u)) (sym bank.closed) idle));
-          kept = λ yes idle. (h.kept yes idle).all;
+          kept = λ yes. (h.kept yes).all;
         };
       }

@@ -9,12 +9,12 @@ use Rattle.sci_work.specs.declared.keeping.Keeping.{Keeping}
 use Rattle.sci_work.specs.declared.programs.Program.{Program}
 use Rattle.sci_work.specs.Hands.{AtEach, IsHandOf}
 use Rattle.sci_work.specs.Programs.{Suits}
-use Rattle.sci_work.specs.Starts.{AreEnded, AreParts, Begins}
+use Rattle.sci_work.specs.Starts.{AreEnded, AreParts, HasWrittenNothing}
 
 -- where the program suits the fact of the lines
 pub parts_of : {K : Type 0} {g : keeps.Ghosts K} (fits : K → ℕ → List ℕ → Type 0) (nodes : ℕ) (keep : K) (count : ℕ) (program : Program) (lines : List (FineLine K)) (hands : Vec (Vec (Seat K g)))
     → length lines ≡ count → 0 < count → count ≤ 1024 → AtEach (IsLine nodes keep) lines
-    → vec_len hands ≡ nodes → nodes ≤ 64 → AtEach (λ k hand. IsHandOf Keeping.All lines k hand.items) hands.items → AtEach (λ k hand. Begins program hand.items) hands.items
+    → vec_len hands ≡ nodes → nodes ≤ 64 → AtEach (λ k hand. IsHandOf Keeping.All lines k hand.items) hands.items → AtEach (λ k hand. HasWrittenNothing program hand.items) hands.items
     → ((k : ℕ) → k < nodes → Suits program (fits keep) count k) → AreParts fits lines program hands
 parts_of {K} {g} fits nodes keep count program lines hands size least few are all most each begin suits = record {
   lines_are = record { some_are = omega (arith, size, least); few = omega (arith, size, few); nodes = nodes; keep = keep; each = are };
@@ -28,7 +28,7 @@ parts_of {K} {g} fits nodes keep count program lines hands size least few are al
 
 -- nodes that have ended may run their program again, where it may begin so
 pub parts_again : {K : Type 0} {g : keeps.Ghosts K} (fits : K → ℕ → List ℕ → Type 0) (program : Program) (lines : List (FineLine K)) (hands back : Vec (Vec (Seat K g))) (shares : Vec (Vec ℕ))
-    → AreParts fits lines program hands → AreEnded Keeping.All lines program (vec_len hands) back shares → AtEach (λ k hand. Begins program hand.items) back.items → AreParts fits lines program back
+    → AreParts fits lines program hands → AreEnded Keeping.All lines program (vec_len hands) back shares → AtEach (λ k hand. HasWrittenNothing program hand.items) back.items → AreParts fits lines program back
 parts_again fits program lines hands back shares parts ended begin = record {
   lines_are = parts.lines_are;
   few = let n = ended.hand_count in let few = parts.few in omega (arith, n, few);

@@ -16,7 +16,3 @@ on_ok_same r s P is holds = subst (λ t. OnOk t P) (sym is) holds
 pub both_ok : {T E : Type 0} (r : Result T E) (P Q R : T → Type 0) → ((x : T) → P x → Q x → R x) → IfOk r P → IfOk r Q → IfOk r R
 both_ok (Ok x) P Q R f p q = f x p q
 both_ok (Err e) P Q R f p q = tt
-
-pub all_ok : {T E : Type 0} (r : Result T E) (P Q S R : T → Type 0) → ((x : T) → P x → Q x → S x → R x) → IfOk r P → IfOk r Q → IfOk r S → IfOk r R
-all_ok (Ok x) P Q S R f p q s = f x p q s
-all_ok (Err e) P Q S R f p q s = tt

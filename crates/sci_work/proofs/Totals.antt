@@ -10,16 +10,15 @@ use Rattle.sci_core.specs.declared.receipts.Receipt.{Receipt}
 use Rattle.sci_core.specs.declared.receipts.Receipt.TheVariants.{Read, Passed, Wrote}
 use Rattle.sci_core.specs.Closed.{ClosedLine, value_of}
 use Rattle.sci_core.specs.Legal.{is_write}
+use Rattle.sci_core.specs.State.{blank}
 use Rattle.sci_port.specs.KeepsAll.{writes_in}
-use Rattle.sci_port.specs.Receipts.{AllWriteBy, WritesBy, sum_below, times, writes_of}
+use Rattle.sci_port.specs.Receipts.{AllWriteBy, IsWhole, WritesBy, sum_below, times, writes_of}
 use Rattle.sci_port.proofs.Iterated.{all_writes}
 use Rattle.sci_ops.specs.declared.goals.Write.{Write}
 use Rattle.sci_ops.specs.Change.{change}
-use Rattle.sci_fine.specs.declared.line.FineLine.{FineLine}
 use Rattle.sci_fine.specs.declared.seats.Seat.{Seat}
 use Rattle.sci_fine.specs.Kept.{list_at, lists_of}
 use Rattle.sci_work.specs.Adding.{AreAdds}
-use Rattle.sci_work.specs.Ended.{IsHistoryOf}
 use Rattle.sci_work.specs.Hands.{AtEach}
 
 abbrev by_one : List ℕ → List ℕ
@@ -79,13 +78,13 @@ module _ {K : Type 0} {g : keeps.Ghosts K} (adds : ℕ) where
   each_count (s ∷ ss) all (suc j) low = each_count ss (λ k x at. all (suc k) x at) j (omega (arith, low))
 
   -- nodes that each added so often to a line of zeros, whose receipts are its history
-  pub total_of : (l : FineLine K) (seats : List (Seat K g)) (c : ClosedLine) (nodes : ℕ) → length seats ≡ nodes → l.terms.nodes ≡ nodes → l.terms.opening.words ≡ replicate 8 0 → AtEach Counts seats → IsHistoryOf l seats c
+  pub total_of : (seats : List (Seat K g)) (c : ClosedLine) (kept : List (List Receipt)) (nodes : ℕ) → length seats ≡ nodes → AtEach Counts seats → kept ≡ lists_of seats → IsWhole nodes blank (value_of c) (λ j. list_at kept j)
       → slice_index (value_of c).words 0 ≡ (nodes * adds) % 2 ^ 64
-  total_of l seats c nodes size of zeros all history =
+  total_of seats c kept nodes size all own history =
       let lists : ℕ → List Receipt = λ j. list_at (lists_of seats) j in
+      let whole : IsWhole nodes blank (value_of c) lists = subst (λ (z : List (List Receipt)). IsWhole nodes blank (value_of c) (λ j. list_at z j)) own history in
       let by : AllWriteBy by_one lists = λ j p r at. each_of (lists j) (each_by seats all j) p r at in
-      let ends : (value_of c).words ≡ times by_one (sum_below l.terms.nodes (λ j. writes_of (lists j))) l.terms.opening.words = all_writes l.terms.nodes l.terms.opening (value_of c) lists by_one history by in
+      let ends : (value_of c).words ≡ times by_one (sum_below nodes (λ j. writes_of (lists j))) (replicate 8 0) = all_writes nodes blank (value_of c) lists by_one whole by in
       let sum : sum_below nodes (λ j. writes_of (lists j)) ≡ nodes * adds = sum_all nodes adds (λ j. writes_of (lists j)) (λ j low. writes_counted (lists j) ∙ each_count seats all j (subst (λ (n : ℕ). j < n) (sym size) low)) in
-      let same : (value_of c).words ≡ times by_one (nodes * adds) (replicate 8 0) =
-      ends ∙ (λ i. times by_one (sum_below (of i) (λ j. writes_of (lists j))) (zeros i)) ∙ ap (λ (k : ℕ). times by_one k (replicate 8 0)) sum in
+      let same : (value_of c).words ≡ times by_one (nodes * adds) (replicate 8 0) = ends ∙ ap (λ (k : ℕ). times by_one k (replicate 8 0)) sum in
       ap (λ (ws : List ℕ). get_or ws 0 0) same ∙ (added_up (nodes * adds)).1

@@ -1,5 +1,5 @@
 -- A node that has only looked at its own tag.
-use Rattle.std.proofs.Common.{◌≡◌, ◌≢◌, ℕ, Bool, true, inl, inr, Option, Some, None, refl, sym, ap, subst, ◌∙◌}
+use Rattle.std.proofs.Common.{◌≡◌, ◌≢◌, ℕ, true, inl, inr, Option, Some, None, refl, sym, ap, subst, ◌∙◌}
 use Rattle.std.proofs.lemmas.Bool.{cases_eq}
 use Rattle.sci_words.specs.declared.tags.Tag.{Tag}
 use Rattle.sci_core.specs.declared.pending.Pending.{Pending}
@@ -27,7 +27,7 @@ module _ {U : Type 0} {step : U → ℕ → Pending} {gives : U → ℕ → Call
       | inl e ↦ ap (step v) e ∙ looked ∙ idle_look (step u line) tag (idle line)
       | inr ne ↦ others m ne ∙ idle m
     ];
-    kept = λ yes idle. keeps_call line (Own tag) given tt keeps_none;
+    kept = λ yes. keeps_call line (Own tag) given tt keeps_none;
   }
 
 module _ {U K : Type 0} {way : U → BankWay} {keep : U → K} {step : U → ℕ → Pending} {gives : U → ℕ → Call → U → Type 0} {readies : U → ℕ → Readying → U → Type 0} {told : U → ℕ → ReceiptList} where

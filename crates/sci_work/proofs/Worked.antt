@@ -1,5 +1,5 @@
 -- What a node has done over its bank: nothing, or one thing and then another.
-use Rattle.std.proofs.Common.{◌≡◌, ℕ, Bool, refl, ◌∙◌, subst}
+use Rattle.std.proofs.Common.{ℕ, Bool, refl, ◌∙◌, subst}
 use Rattle.sci_core.specs.declared.pending.Pending.{Pending}
 use Rattle.sci_port.specs.declared.calls.Call.{Call}
 use Rattle.sci_port.specs.Banks.{BankWay}
@@ -14,10 +14,10 @@ use Rattle.sci_work.proofs.Reached.{reached_then}
 
 module _ {U : Type 0} {step : U → ℕ → Pending} {gives : U → ℕ → Call → U → Type 0} {readies : U → ℕ → Readying → U → Type 0} {told : U → ℕ → ReceiptList} where
   pub rests_not : (keeps : Bool) (u : U) → RestsAgain keeps step gives readies told u u
-  rests_not keeps u = record { idle = λ idle. idle; kept = λ yes idle. keeps_none }
+  rests_not keeps u = record { idle = λ idle. idle; kept = λ yes. keeps_none }
 
   pub rests_then : {keeps : Bool} {u w v : U} → RestsAgain keeps step gives readies told u w → RestsAgain keeps step gives readies told w v → RestsAgain keeps step gives readies told u v
-  rests_then a b = record { idle = λ idle. b.idle (a.idle idle); kept = λ yes idle. keeps_then (a.kept yes idle) (b.kept yes (a.idle idle)) }
+  rests_then a b = record { idle = λ idle. b.idle (a.idle idle); kept = λ yes. keeps_then (a.kept yes) (b.kept yes) }
 
 module _ {U K : Type 0} {way : U → BankWay} {keep : U → K} {step : U → ℕ → Pending} {gives : U → ℕ → Call → U → Type 0} {readies : U → ℕ → Readying → U → Type 0} {told : U → ℕ → ReceiptList} where
   pub still_not : {u : U} {n : NodeState} → IsBankOf (way u) n → IsStillBankOf n.keeps way keep step gives readies told u n u
@@ -52,7 +52,7 @@ module _ {U K : Type 0} {way : U → BankWay} {keep : U → K} {step : U → ℕ
     ready = record { node = still.ready.node; lines = still.ready.lines; free = still.ready.closed; idle = still.rests.idle ready.idle };
     same_keeps = still.same_keeps;
     reached = still.reached;
-    kept = λ yes. still.rests.kept yes ready.idle;
+    kept = still.rests.kept;
     same_way = still.same_way;
     same_fact = still.same_fact;
   }

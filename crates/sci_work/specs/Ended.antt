@@ -1,15 +1,20 @@
 -- What a line holds once it is closed. This project's profile.
-use Rattle.std.specs.Prelude.{◌≡◌, ℕ, ◌≤◌, List, [], ◌∷◌, length, map, All, slice_index}
+use Rattle.std.specs.Prelude.{◌≡◌, ℕ, ◌<◌, ◌≤◌, List, [], ◌∷◌, length, map, All, slice_index}
 use Rattle.std.specs.Global.{Vec}
 use mathlib.Core.Option.{some}
 use lib.ListN.{get_elem?}
-use Rattle.sci_core.specs.State.{blank}
+use Rattle.sci_core.specs.State.{State, blank, opened}
+use Rattle.sci_core.specs.declared.lines.Line.{Line}
+use Rattle.sci_core.specs.declared.pending.Pending.{Pending}
 use Rattle.sci_core.specs.declared.receipts.Receipt.{Receipt}
+use Rattle.sci_port.specs.declared.calls.Call.{Call}
+use Rattle.sci_port.specs.ReceiptList.{AreReceiptsOf, ReceiptList}
 use Rattle.sci_port.specs.Receipts.{IsWhole}
+use Rattle.sci_port.specs.Runs.{Leads, done_by}
+use Rattle.sci_port.specs.Solo.{Gives}
 use Rattle.sci_fine.specs.declared.line.FineLine.{FineLine}
-use Rattle.sci_fine.specs.declared.seats.Seat.{Seat}
-use Rattle.sci_fine.specs.Kept.{list_at, lists_of}
-use Rattle.sci_core.specs.declared.keeps.Keeps as keeps
+use Rattle.sci_fine.specs.Ends.{IsReadOff}
+use Rattle.sci_fine.specs.Kept.{list_at}
 use Rattle.sci_core.specs.Closed.{ClosedLine, IsExactClosed, value_of}
 use Rattle.sci_work.specs.declared.keeping.ClosedMemory.{ClosedMemory}
 use Rattle.sci_work.specs.declared.keeping.Keeping.{Keeping}
@@ -32,39 +37,54 @@ pub record IsClosedOf {K : Type 0} (fits : K → ℕ → List ℕ → Type 0) (l
   pub nodes : length c.tags ≡ l.terms.nodes
   pub fit : fits l.terms.keep l.terms.number (value_of c).words
 
--- the receipts of the seats are one history of the line, whole, from its opening to what it holds once it is closed
-abbrev pub IsHistoryOf : {K : Type 0} {g : keeps.Ghosts K} → FineLine K → List (Seat K g) → ClosedLine → Type 0
-IsHistoryOf l seats c = IsWhole l.terms.nodes l.terms.opening (value_of c) (λ j. list_at (lists_of seats) j)
+-- of a count's line nothing is known
+abbrev pub any_words : List ℕ → Type 0
+any_words words = Unit {0}
 
 -- the receipts of each node on a line
 abbrev pub lists_in : Vec (Vec Receipt) → List (List Receipt)
 lists_in lists = map (λ (v : Vec Receipt). v.items) lists.items
 
--- these receipts of so many nodes on a line that was opened with zeros are one history of it, whole, up to what it holds once it is closed
-pub record IsLineHistory (nodes : ℕ) (c : ClosedLine) (lists : List (List Receipt)) : Type 0 where
-  pub count : length lists ≡ nodes
-  pub whole : IsWhole nodes blank (value_of c) (λ j. list_at lists j)
+-- these receipts are of one run of a line, from its opening to what it was closed with: at each node's place are those of the node's own
+-- calls in it
+pub record AreOfOneRun (fits : List ℕ → Type 0) (nodes : ℕ) (opening : Line) (c : ClosedLine) (lists : List (List Receipt)) : Type 0 where
+  pub run : List (ℕ × Call)
+  pub state : State
+  pub led : Leads (Gives nodes fits) (opened nodes opening) run state
+  pub idle : (i : ℕ) → state.steps i ≡ Pending.Idle
+  pub read : IsReadOff nodes state c
+  pub own : (j : ℕ) → j < nodes → (s : ReceiptList) × (s.list ≡ list_at lists j) × AreReceiptsOf (done_by j run) Pending.Idle s
 
--- and so are those of each line
-pub record AreHistories (nodes : ℕ) (memory : ClosedMemory) : Type 0 where
-  pub count : length memory.receipts.items ≡ length memory.lines.items
-  pub each : (k : ℕ) (c : ClosedLine) (lists : Vec (Vec Receipt)) → get_elem? memory.lines.items k ≡ some c → get_elem? memory.receipts.items k ≡ some lists → IsLineHistory nodes c (lists_in lists)
+-- these receipts of so many nodes are one history of a line, whole, from its opening to what it was closed with, and each list its node's own
+pub record IsLineHistory (fits : List ℕ → Type 0) (nodes : ℕ) (opening : Line) (c : ClosedLine) (lists : List (List Receipt)) : Type 0 where
+  pub count : length lists ≡ nodes
+  pub whole : IsWhole nodes opening (value_of c) (λ j. list_at lists j)
+  pub run : AreOfOneRun fits nodes opening c lists
+
+-- the receipts at each place are such a history of the line there, which was opened with zeros
+pub record AreHistories (fits : ℕ → List ℕ → Type 0) (nodes : ℕ) (closed : List ClosedLine) (lists : List (List (List Receipt))) : Type 0 where
+  pub count : length lists ≡ length closed
+  pub each : (k : ℕ) (c : ClosedLine) (l : List (List Receipt)) → get_elem? closed k ≡ some c → get_elem? lists k ≡ some l
+      → IsLineHistory (fits k) nodes blank c l
 
 -- where all is kept, the receipts are the lines' histories; and there are none where nothing is
-abbrev pub AreKept : Keeping → ℕ → ClosedMemory → Type 0
-AreKept Keeping.All nodes memory = AreHistories nodes memory
-AreKept Keeping.Nothing nodes memory = memory.receipts.items ≡ []
+abbrev pub AreKept : Keeping → (ℕ → List ℕ → Type 0) → ℕ → ClosedMemory → Type 0
+AreKept Keeping.All fits nodes memory = AreHistories fits nodes memory.lines.items (map lists_in memory.receipts.items)
+AreKept Keeping.Nothing fits nodes memory = memory.receipts.items ≡ []
 
--- the receipts of the nodes of each of these lines are one history of it, whole
-pub record AreHistoriesOf {K : Type 0} (lines : List (FineLine K)) (memory : ClosedMemory) : Type 0 where
+-- such a history of this very line
+abbrev pub IsHistoryOn : {K : Type 0} → (K → ℕ → List ℕ → Type 0) → FineLine K → ClosedLine → List (List Receipt) → Type 0
+IsHistoryOn fits l c lists = IsLineHistory (fits l.terms.keep l.terms.number) l.terms.nodes l.terms.opening c lists
+
+-- the receipts at each place are one of the line there
+pub record AreHistoriesOn {K : Type 0} (fits : K → ℕ → List ℕ → Type 0) (lines : List (FineLine K)) (memory : ClosedMemory) : Type 0 where
   pub count : length memory.receipts.items ≡ length lines
-  pub nodes : (k : ℕ) (l : FineLine K) (lists : Vec (Vec Receipt)) → get_elem? lines k ≡ some l → get_elem? memory.receipts.items k ≡ some lists → length (lists_in lists) ≡ l.terms.nodes
-  pub each : (k : ℕ) (l : FineLine K) (c : ClosedLine) (lists : Vec (Vec Receipt)) → get_elem? lines k ≡ some l → get_elem? memory.lines.items k ≡ some c → get_elem? memory.receipts.items k ≡ some lists
-      → IsWhole l.terms.nodes l.terms.opening (value_of c) (λ j. list_at (lists_in lists) j)
+  pub each : (k : ℕ) (l : FineLine K) (c : ClosedLine) (lists : Vec (Vec Receipt)) → get_elem? lines k ≡ some l → get_elem? memory.lines.items k ≡ some c
+      → get_elem? memory.receipts.items k ≡ some lists → IsHistoryOn fits l c (lists_in lists)
 
-abbrev pub AreKeptOf : {K : Type 0} → Keeping → List (FineLine K) → ClosedMemory → Type 0
-AreKeptOf Keeping.All lines memory = AreHistoriesOf lines memory
-AreKeptOf Keeping.Nothing lines memory = memory.receipts.items ≡ []
+abbrev pub AreKeptOn : {K : Type 0} → Keeping → (K → ℕ → List ℕ → Type 0) → List (FineLine K) → ClosedMemory → Type 0
+AreKeptOn Keeping.All fits lines memory = AreHistoriesOn fits lines memory
+AreKeptOn Keeping.Nothing fits lines memory = memory.receipts.items ≡ []
 
 -- each line was closed so
 pub record AreClosedOf {K : Type 0} (fits : K → ℕ → List ℕ → Type 0) (lines : List (FineLine K)) (closed : List ClosedLine) : Type 0 where

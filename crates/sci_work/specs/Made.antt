@@ -29,7 +29,7 @@ pub data IsReached {U : Type 0} (gives : U → ℕ → Call → U → Type 0) (r
 -- from the bank u to v, a node that was Idle on every line is so again, and its receipts keep all that it did, if it keeps any
 pub record RestsAgain {U : Type 0} (keeps : Bool) (step : U → ℕ → Pending) (gives : U → ℕ → Call → U → Type 0) (readies : U → ℕ → Readying → U → Type 0) (told : U → ℕ → ReceiptList) (u v : U) : Type 0 where
   pub idle : ((line : ℕ) → step u line ≡ Pending.Idle) → (line : ℕ) → step v line ≡ Pending.Idle
-  pub kept : keeps ≡ true → ((line : ℕ) → step u line ≡ Pending.Idle) → KeepsAll gives readies told u v
+  pub kept : keeps ≡ true → KeepsAll gives readies told u v
 
 -- from the bank u to v it is the node's with no call open still, of as many lines, under the same fact, and at rest if it was; the node
 -- keeps receipts as before, or none

@@ -1,7 +1,9 @@
 //! Nodes that count on one line.
 ghost use Rattle.std.specs.Prelude.{◌≡◌, ◌≢◌, ◌<◌, ◌≤◌, ◌↔◌, ◌*◌, ◌%◌, ◌^◌, Err, length, slice_index, IfOk, IfErr, IsTrue};
 ghost use Rattle.sci_core.specs.Closed.{IsExactClosed, value_of};
-ghost use Rattle.sci_work.specs.Ended.{AreHistories, HaveNodes, IsCounted, IsCountSize, IsLineHistory, lists_in};
+ghost use Rattle.sci_core.specs.State.{blank};
+ghost use Rattle.sci_work.specs.declared.keeping.Keeping as keeps;
+ghost use Rattle.sci_work.specs.Ended.{AreKept, HaveNodes, IsCounted, IsCountSize, IsLineHistory, any_words, lists_in};
 ghost use Rattle.sci_work.specs.Starts.{ComesInCount, ComesInStart};
 
 use crate::gates::Gate;
@@ -38,7 +40,7 @@ fn counted<R: Threads + Wait + Sync, G: Gate>(
     ensures ok { IfOk result (λ one. IsExactClosed one.closed) }
     ensures total { IfOk result (λ one. slice_index (value_of one.closed).words 0 ≡ (nodes * adds) % 2 ^ 64) }
     ensures nodes { IfOk result (λ one. length one.closed.tags ≡ nodes) }
-    ensures history { IfOk result (λ one. IsLineHistory nodes one.closed (lists_in one.receipts)) }
+    ensures history { IfOk result (λ one. IsLineHistory any_words nodes blank one.closed (lists_in one.receipts)) }
     ensures err { IfErr result (ComesInStart (Program.Count adds)) }
 {
     let (line, seats) = zeroed(alloc, nodes, 0, AnyWords)?;
@@ -76,7 +78,7 @@ pub fn count<R: Threads + Wait + Sync, G: Gate>(
     ensures total { IfOk result (λ r. r.0 ≡ (nodes * adds) % 2 ^ 64) }
     ensures ok { IfOk result (λ r. IsCounted r.0 r.1.lines.items) }
     ensures nodes { IfOk result (λ r. HaveNodes nodes r.1.lines.items) }
-    ensures kept { IfOk result (λ r. AreHistories nodes r.1) }
+    ensures kept { IfOk result (λ r. AreKept keeps.Keeping.All (λ _. any_words) nodes r.1) }
     ensures err { IfErr result ComesInCount }
 {
     if !is_count_size(nodes, adds, capacity) {

@@ -5,7 +5,7 @@ ghost use Rattle.sci_fine.specs.Banks.{IsLine};
 ghost use Rattle.sci_fine.specs.Seats.{AreNew};
 ghost use Rattle.sci_fine.specs.Kept.{lists_of};
 ghost use Rattle.sci_work.specs.declared.keeping.Keeping as keeps;
-ghost use Rattle.sci_work.specs.Ended.{AreClosedOf, AreKeptOf, IsClosedOf, IsHistoryOf, lists_in};
+ghost use Rattle.sci_work.specs.Ended.{AreClosedOf, AreKeptOn, IsClosedOf, IsHistoryOn, lists_in};
 ghost use Rattle.sci_work.specs.Hands.{AreIdle, AtEach, IsHandOf, IsIdleSeat};
 
 use crate::keeping::{ClosedMemory, Keeping};
@@ -149,8 +149,7 @@ pub(crate) fn finished<K: Keeps>(
     requires { AreIdle keeping line seats.items }
     ensures ok { IfOk result (λ one. IsClosedOf K.fits line one.closed) }
     ensures own { IfOk result (λ one. lists_in one.receipts ≡ lists_of seats.items) }
-    ensures nodes { IfOk result (λ one. length (lists_in one.receipts) ≡ line.terms.nodes) }
-    ensures history { keeping ≡ keeps.Keeping.All → IfOk result (λ one. IsHistoryOf line seats.items one.closed) }
+    ensures history { keeping ≡ keeps.Keeping.All → IfOk result (λ one. IsHistoryOn K.fits line one.closed (lists_in one.receipts)) }
     ensures err { IfErr result (λ e. e ≡ WorkRefusal.OutOfMemory) }
 {
     let _ = keeping;
@@ -194,7 +193,7 @@ pub fn closed<K: Keeps>(
 ) -> Result<ClosedMemory, WorkRefusal>
     requires { AtEach (λ k hand. IsHandOf keeping lines.items k hand.items) hands.items }
     ensures ok { IfOk result (λ all. AreClosedOf K.fits lines.items all.lines.items) }
-    ensures kept { IfOk result (λ all. AreKeptOf keeping lines.items all) }
+    ensures kept { IfOk result (λ all. AreKeptOn keeping K.fits lines.items all) }
     ensures err { IfErr result (λ e. e ≡ WorkRefusal.OutOfMemory) }
 {
     let mut all = Vec::with_capacity(alloc, lines.len())?;

@@ -154,7 +154,7 @@ fn works<R: Abort + Wait>(rt: &R, alloc: Global) -> Result<(), Fail> {
 /// Behind its thread a count grows for its node's table, receipts and seats, for the closed line, and once each for its list of
 /// lines and of their receipts. A stencil that keeps all grows likewise, once for the receipts of its lines.
 ///
-/// Growths: 9 of count, 1 thread of count, 16 of count, 17 of stencil, 1 thread of stencil, 25 of stencil,
+/// Growths: 9 of count, 1 thread of count, 17 of count, 17 of stencil, 1 thread of stencil, 26 of stencil,
 /// 37 of ring or its threads, 8 of open, 2 of new, 6 of produce, 2 of new, 8 of consume.
 #[test]
 fn refused_growths(rt: HostRuntime) -> Result<(), Fail> {

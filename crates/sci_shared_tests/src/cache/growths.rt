@@ -93,20 +93,21 @@ fn told(request: Request) -> Fail {
     })
 }
 
-// A call that waits on a line that isn't named yet has this answer: at a second try, if it is refused memory.
+// A call that waits, of a node that names these lines, has this answer: at a second try, if it is refused memory.
 fn waits<R: Abort + Wait>(
     rt: &R,
     alloc: Global,
     node: &mut Node,
     bank: &mut SoloBank<AnyWords>,
-    request: Request,
-    want: Answer,
+    call: (Request, Answer),
+    named: &[u16],
 ) -> Result<(), Fail>
     requires node { (node.old.id ≡ bank.old.node) × (node.old.lines ≡ 1) }
     requires bank { length bank.old.wholes.items ≡ 1 }
     ensures node { (node.new.id ≡ bank.new.node) × (node.new.lines ≡ 1) }
     ensures bank { length bank.new.wholes.items ≡ 1 }
 {
+    let (request, want) = call;
     match called(rt, node, bank, request) {
         Ok(answer) => {
             same_at(rt, &request, &answer, &want);
@@ -115,7 +116,7 @@ fn waits<R: Abort + Wait>(
         Err(refusal) => same_at(rt, &request, &refusal, &NodeRefusal::OutOfMemory),
     }
     assert!(rt; !node.open());
-    super::lists(rt, alloc, node, &[])?;
+    super::lists(rt, alloc, node, named)?;
     ends(rt, node, bank, request, Ok(want));
     Err(told(request))
 }
@@ -151,13 +152,13 @@ fn waits_on<R: Abort + Wait>(
     Err(told(request))
 }
 
-// The calls that wait, each on a line that was left. There is room for what leaving might keep.
+// The calls that wait, each on a line that was left.
 fn waits_each<R: Abort + Wait>(rt: &R, alloc: Global) -> Result<(), Fail> {
     let (mut node, mut bank) = seated(alloc, Line::ZERO)?;
-    let evict = Request::Evict { line: 0 };
-    for (request, want) in CALLS {
-        waits(rt, alloc, &mut node, &mut bank, request, want)?;
-        ends(rt, &mut node, &mut bank, evict, Ok(Answer::Out));
+    let evict = (Request::Evict { line: 0 }, Answer::Out);
+    for call in CALLS {
+        waits(rt, alloc, &mut node, &mut bank, call, &[])?;
+        waits(rt, alloc, &mut node, &mut bank, evict, &[0])?;
     }
     Ok(())
 }
@@ -229,7 +230,7 @@ fn refused_receipts(rt: HostRuntime) -> Result<(), Fail> {
     Ok(())
 }
 
-/// Growths: 2 of new, 11 of open, 8 of begin, 1 of resident, 5 of open, 2 of new, 6 of store, 1 of load, 2 of add, 1 of write_line.
+/// Growths: 2 of new, 11 of open, 8 of begin, 1 of resident, 5 of open, 2 of new, 6 of store, 1 of load, 1 of evict, 1 of add, 1 of write_line, 1 of evict.
 #[test]
 fn refused_growths(rt: HostRuntime) -> Result<(), Fail> {
     let alloc = rt.alloc();

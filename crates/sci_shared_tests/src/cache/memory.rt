@@ -91,7 +91,7 @@ fn turns_take_no_memory(rt: HostRuntime) -> Result<(), Fail> {
 }
 
 // For how many receipts each of these requests needs room at most.
-const NEED: usize = 2;
+const NEED: usize = 3;
 
 // The requests of a node that names line 1, each to its end, where there is the room that they need.
 fn begun(node: &mut Node, bank: &mut SoloBank<AnyWords>) -> Option<()>

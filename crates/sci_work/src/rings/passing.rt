@@ -45,7 +45,7 @@ fn passed<R: Threads + Wait + Sync, G: Gate>(
     ensures items { IfOk result (λ r. r.0.items ≡ source.now) }
     ensures closed { IfOk result (λ r. AreClosed (FitsRing source.now lines) (lines + 1) r.1.lines.items) }
     ensures nodes { IfOk result (λ r. HaveNodes 2 r.1.lines.items) }
-    ensures kept { IfOk result (λ r. AreKept keeping 2 r.1) }
+    ensures kept { IfOk result (λ r. AreKept keeping (FitsRing source.now lines) 2 r.1) }
     ensures err { IfErr result (ComesInStart (Program.Ring source.entry lines)) }
 {
     let (shared, hands) = opened(alloc, 2, lines + 1, RingFact::new(source, lines))?;
@@ -75,7 +75,7 @@ pub fn ring<R: Threads + Wait + Sync, G: Gate>(
     ensures items { IfOk result (λ r. r.0.items ≡ source.now) }
     ensures closed { IfOk result (λ r. AreClosed (FitsRing source.now lines) (lines + 1) r.1.lines.items) }
     ensures nodes { IfOk result (λ r. HaveNodes 2 r.1.lines.items) }
-    ensures kept { IfOk result (λ r. AreKept keeping 2 r.1) }
+    ensures kept { IfOk result (λ r. AreKept keeping (FitsRing source.now lines) 2 r.1) }
     ensures err { IfErr result ComesInRun }
 {
     if !is_ring_size(source.len(), lines) || capacity == 0 || capacity > 1024 {

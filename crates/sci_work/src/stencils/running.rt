@@ -1,6 +1,6 @@
 //! A stencil with each node in a thread of its own.
 ghost use Rattle.std.specs.Prelude.{◌≡◌, ◌*◌, ◌/◌, ◌<◌, ◌≤◌, ◌↔◌, Err, length, IfOk, IfErr, IsTrue, vec_len};
-ghost use Rattle.sci_work.specs.Ended.{AreClosed, AreClosedOf, AreKept, AreKeptOf, HaveNodes};
+ghost use Rattle.sci_work.specs.Ended.{AreClosed, AreClosedOf, AreKept, AreKeptOn, HaveNodes};
 ghost use Rattle.sci_work.specs.Hands.{AtEach, IsHandOf};
 ghost use Rattle.sci_work.specs.Plain.{plain};
 ghost use Rattle.sci_work.specs.Shares.{IsShare};
@@ -52,7 +52,7 @@ fn ended<K: Keeps>(
     requires hands { AtEach (λ k hand. IsHandOf keeping lines.items k hand.items) hands.items }
     ensures cells { IfOk result (λ r. r.0.items ≡ plain work.entry.cells.now work.entry.phases) }
     ensures closed { IfOk result (λ r. AreClosedOf K.fits lines.items r.1.lines.items) }
-    ensures kept { IfOk result (λ r. AreKeptOf keeping lines.items r.1) }
+    ensures kept { IfOk result (λ r. AreKeptOn keeping K.fits lines.items r.1) }
     ensures err { IfErr result (λ e. e ≡ WorkRefusal.OutOfMemory) }
 {
     let cells = gathered(alloc, &shares, work)?;
@@ -76,7 +76,7 @@ fn run<R: Threads + Wait + Sync, G: Gate>(
     ensures cells { IfOk result (λ r. r.0.items ≡ plain work.entry.cells.now work.entry.phases) }
     ensures closed { IfOk result (λ r. AreClosed (FitsStencil work.entry.cells.now work.entry.phases) (2 * work.entry.tiles) r.1.lines.items) }
     ensures nodes { IfOk result (λ r. HaveNodes work.entry.nodes r.1.lines.items) }
-    ensures kept { IfOk result (λ r. AreKept keeping work.entry.nodes r.1) }
+    ensures kept { IfOk result (λ r. AreKept keeping (FitsStencil work.entry.cells.now work.entry.phases) work.entry.nodes r.1) }
     ensures err { IfErr result (ComesInStart (Program.Stencil work.entry)) }
 {
     let fact = StencilFact::new(work.cells, work.phases);
@@ -109,7 +109,7 @@ pub fn stencil<R: Threads + Wait + Sync, G: Gate>(
     ensures cells { IfOk result (λ r. r.0.items ≡ plain cells.now phases) }
     ensures closed { IfOk result (λ r. AreClosed (FitsStencil cells.now phases) (2 * (length cells.now / 7)) r.1.lines.items) }
     ensures nodes { IfOk result (λ r. HaveNodes nodes r.1.lines.items) }
-    ensures kept { IfOk result (λ r. AreKept keeping nodes r.1) }
+    ensures kept { IfOk result (λ r. AreKept keeping (FitsStencil cells.now phases) nodes r.1) }
     ensures err { IfErr result ComesInRun }
 {
     if !is_stencil_size(cells.len(), phases, nodes, capacity) {

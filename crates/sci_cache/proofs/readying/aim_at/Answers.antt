@@ -14,6 +14,7 @@ returns-in_default g c = record {
   readied = readied_once c.args.line (Aimed c.args.passing) c.aim.ensures.readies;
   mark = c.aim.ensures.aims.here.mark;
   out = subst (λ (o : Option ℕ). IfSome o (λ w. (g.B.Bank.told c.aim.new.self w).passing ≡ true)) (sym c.in_default.is) tt;
+  others = λ m other out. c.aim.ensures.aims.others m other;
 }
 
 pub aim-requires-2 : goal.aim-requires-2
@@ -28,4 +29,5 @@ returns g c =
       readied = readied_then (readied_once c.args.line (Aimed c.args.passing) c.aim.ensures.readies) (readied_once c.in-Some.victim (Aimed true) c.aim-2.ensures.readies);
       mark = ap (λ (s : ReceiptList). s.passing) (c.aim-2.ensures.aims.others c.args.line apart) ∙ c.aim.ensures.aims.here.mark;
       out = subst (λ (o : Option ℕ). IfSome o (λ w. (g.B.Bank.told c.aim-2.new.self w).passing ≡ true)) (sym c.in-Some.is) c.aim-2.ensures.aims.here.mark;
+      others = λ m other out. c.aim-2.ensures.aims.others m (subst (λ (o : Option ℕ). IfSome o (λ w. m ≢ w)) c.in-Some.is out) ∙ c.aim.ensures.aims.others m other;
     }

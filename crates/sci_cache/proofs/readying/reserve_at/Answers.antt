@@ -14,6 +14,7 @@ returns-then-n-room g c = record {
   room = subst (λ (k : ℕ). c.args.n ≤ k) c.room.ensures c.if-n-room.true;
   enough = λ room. refl;
   same = λ m. record { list = refl; passing = refl };
+  others = λ m other. refl;
 }
 
 pub reserve-requires : goal.reserve-requires
@@ -25,4 +26,5 @@ returns g c = record {
   room = on_ok c.reserve.result c.reserve.ensures.reserves.here.room;
   enough = λ room. absurd (less_room c.args.n c.room.result (g.B.Bank.told c.args.bank.now c.args.line).room c.if-n-room.false c.room.ensures room);
   same = reserves_same c.args.n (is_ok c.reserve.result) (g.B.Bank.told c.args.bank.now) c.args.line (g.B.Bank.told c.reserve.new.self) c.reserve.ensures.reserves;
+  others = c.reserve.ensures.reserves.others;
 }

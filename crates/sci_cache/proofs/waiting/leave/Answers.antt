@@ -12,7 +12,6 @@ pub loop-init : goal.loop-init
 loop-init g c = record {
   can = tt;
   finite = tt;
-  op = c.evict-op.ensures;
   runs = leaves_none g.B.Bank.gives g.B.Bank.at_step (g.B.Bank.way c.args.bank.now).node c.args.victim c.args.bank.now;
   others = λ m other. refl;
   kept = λ need. record { on = none_on g.B.Bank.gives g.B.Bank.readies g.B.Bank.at_step g.B.Bank.told c.args.bank.now; need = need };
@@ -26,8 +25,9 @@ pub turn_at-requires : goal.turn_at-requires
 turn_at-requires g c =
     let i = c.loop.invariant in
     record {
+      goes_on = ap (λ (o : Operation). o.answer) c.evict-op.ensures;
       line = subst (λ (w : BankWay). c.args.victim < w.lines) (sym i.way) c.requires.line;
-      fits = subst (λ (o : Operation). StoresFitting (g.B.Keep.Keeps.fits (g.B.Bank.keep c.loop.bank) c.args.victim) o.goal) (sym i.op) tt;
+      fits = subst (λ (o : Operation). StoresFitting (g.B.Keep.Keeps.fits (g.B.Bank.keep c.loop.bank) c.args.victim) o.goal) (sym c.evict-op.ensures) tt;
     }
 
 pub loop-preserved-in-Moved : goal.loop-preserved-in-Moved
@@ -37,10 +37,9 @@ loop-preserved-in-Moved g c =
     record {
       can = tt;
       finite = tt;
-      op = e.op ∙ i.op;
-      runs = leaves_on g.B.Bank.gives g.B.Bank.at_step c.args.victim (g.B.Bank.way c.args.bank.now).node (g.B.Bank.way c.loop.bank).node (ap (λ (w : BankWay). w.node) i.way) c.loop.op i.op c.args.bank.now c.loop.bank c.turn_at.new.bank Turn.Moved tt (e.calls, e.answers, e.loads) i.runs;
+      runs = leaves_on g.B.Bank.gives g.B.Bank.at_step c.args.victim (g.B.Bank.way c.args.bank.now).node (g.B.Bank.way c.loop.bank).node (ap (λ (w : BankWay). w.node) i.way) c.evict-op.result c.evict-op.ensures c.args.bank.now c.loop.bank c.turn_at.new.bank Turn.Moved tt (e.calls, e.answers, e.loads) i.runs;
       others = λ m other. e.others m other ∙ i.others m other;
-      kept = λ need. still_at_work g.B.Bank.gives g.B.Bank.readies g.B.Bank.at_step g.B.Bank.told Goal.Evict c.args.victim c.loop.op i.op c.loop.bank c.turn_at.new.bank Turn.Moved c.args.victim refl e.kept e.other_receipts (i.kept need) tt;
+      kept = λ need. still_at_work g.B.Bank.gives g.B.Bank.readies g.B.Bank.at_step g.B.Bank.told Goal.Evict c.args.victim c.evict-op.result c.evict-op.ensures c.loop.bank c.turn_at.new.bank Turn.Moved c.args.victim refl e.kept e.other_receipts (i.kept need) tt;
       receipts = λ m other. e.other_receipts m other ∙ i.receipts m other;
       way = e.same_way ∙ i.way;
       nodes = λ m. e.same_nodes m ∙ i.nodes m;
@@ -54,10 +53,9 @@ loop-preserved g c =
     record {
       can = tt;
       finite = tt;
-      op = e.op ∙ i.op;
-      runs = leaves_on g.B.Bank.gives g.B.Bank.at_step c.args.victim (g.B.Bank.way c.args.bank.now).node (g.B.Bank.way c.loop.bank).node (ap (λ (w : BankWay). w.node) i.way) c.loop.op i.op c.args.bank.now c.loop.bank c.turn_at.new.bank Turn.Waiting tt (e.calls, e.answers, e.loads) i.runs;
+      runs = leaves_on g.B.Bank.gives g.B.Bank.at_step c.args.victim (g.B.Bank.way c.args.bank.now).node (g.B.Bank.way c.loop.bank).node (ap (λ (w : BankWay). w.node) i.way) c.evict-op.result c.evict-op.ensures c.args.bank.now c.loop.bank c.turn_at.new.bank Turn.Waiting tt (e.calls, e.answers, e.loads) i.runs;
       others = λ m other. e.others m other ∙ i.others m other;
-      kept = λ need. still_at_work g.B.Bank.gives g.B.Bank.readies g.B.Bank.at_step g.B.Bank.told Goal.Evict c.args.victim c.loop.op i.op c.loop.bank c.turn_at.new.bank Turn.Waiting c.args.victim refl e.kept e.other_receipts (i.kept need) tt;
+      kept = λ need. still_at_work g.B.Bank.gives g.B.Bank.readies g.B.Bank.at_step g.B.Bank.told Goal.Evict c.args.victim c.evict-op.result c.evict-op.ensures c.loop.bank c.turn_at.new.bank Turn.Waiting c.args.victim refl e.kept e.other_receipts (i.kept need) tt;
       receipts = λ m other. e.other_receipts m other ∙ i.receipts m other;
       way = e.same_way ∙ i.way;
       nodes = λ m. e.same_nodes m ∙ i.nodes m;
@@ -72,11 +70,11 @@ returns-in-Done g c =
     let i = c.loop.invariant in
     let e = c.in-Done.ensures in
     record {
-      runs = has_left g.B.Bank.gives g.B.Bank.at_step c.args.victim (g.B.Bank.way c.args.bank.now).node (g.B.Bank.way c.loop.bank).node (ap (λ (w : BankWay). w.node) i.way) c.loop.op i.op c.args.bank.now c.loop.bank c.turn_at.new.bank c.in-Done.field-0 (e.calls, e.answers, e.loads) i.runs;
-      rest = λ idle. idle_all c.args.victim (g.B.Bank.at_step c.loop.bank) (g.B.Bank.at_step c.turn_at.new.bank) e.others (e.idle (ap (λ (o : Operation). o.answer) i.op)) (λ m other. i.others m other ∙ idle m);
-      kept = λ idle ready.
-          worked_on g.B.Bank.gives g.B.Bank.readies g.B.Bank.at_step g.B.Bank.told Goal.Evict c.args.victim c.loop.op i.op c.loop.bank c.turn_at.new.bank (Turn.Done c.in-Done.field-0) c.args.victim refl e.kept e.other_receipts
-          (i.kept (ready_need Goal.Evict (g.B.Bank.at_step c.args.bank.now c.args.victim) (g.B.Bank.told c.args.bank.now c.args.victim) ready (idle c.args.victim))) (evict_none c.in-Done.field-0);
+      runs = has_left g.B.Bank.gives g.B.Bank.at_step c.args.victim (g.B.Bank.way c.args.bank.now).node (g.B.Bank.way c.loop.bank).node (ap (λ (w : BankWay). w.node) i.way) c.evict-op.result c.evict-op.ensures c.args.bank.now c.loop.bank c.turn_at.new.bank c.in-Done.field-0 (e.calls, e.answers, e.loads) i.runs;
+      rest = λ idle. idle_all c.args.victim (g.B.Bank.at_step c.loop.bank) (g.B.Bank.at_step c.turn_at.new.bank) e.others e.idle (λ m other. i.others m other ∙ idle m);
+      kept = λ ready.
+          worked_on g.B.Bank.gives g.B.Bank.readies g.B.Bank.at_step g.B.Bank.told Goal.Evict c.args.victim c.evict-op.result c.evict-op.ensures c.loop.bank c.turn_at.new.bank (Turn.Done c.in-Done.field-0) c.args.victim refl e.kept e.other_receipts
+          (i.kept (ready_need Goal.Evict (g.B.Bank.at_step c.args.bank.now c.args.victim) (g.B.Bank.told c.args.bank.now c.args.victim) ready)) (evict_none c.in-Done.field-0);
       others = λ m other. e.other_receipts m other ∙ i.receipts m other;
       same_way = e.same_way ∙ i.way;
       same_nodes = λ m. e.same_nodes m ∙ i.nodes m;

@@ -1,7 +1,6 @@
 use Rattle.std.proofs.Common.{◌≡◌, ◌≢◌, ℕ}
 use Rattle.sci_ops.specs.Room.{HasNeed}
 use Rattle.sci_ops.specs.declared.goals.Goal.{Goal}
-use Rattle.sci_ops.specs.Table.{begun}
 use Rattle.sci_cache.proofs.Keeping.{IsAtWork}
 use Rattle.sci_cache.proofs.Unopened.{Leaves}
 use Rattle.sci_cache.proofs.waiting.leave.Given as goal
@@ -11,7 +10,6 @@ invariant-loop g l =
     record {
       can : (goal.iterator-loop g).can_next l.iterator';
       finite : (goal.iterator-loop g).is_finite l.iterator';
-      op : l.op ≡ begun Goal.Evict;
       runs : Leaves g.B.Bank.gives g.B.Bank.at_step (g.B.Bank.way l.fn.bank).node l.fn.victim l.fn.bank l.bank;
       others : (m : ℕ) → m ≢ l.fn.victim → g.B.Bank.at_step l.bank m ≡ g.B.Bank.at_step l.fn.bank m;
       kept : HasNeed Goal.Evict (g.B.Bank.at_step l.fn.bank l.fn.victim) (g.B.Bank.told l.fn.bank l.fn.victim) → IsAtWork g.B.Bank.gives g.B.Bank.readies g.B.Bank.at_step g.B.Bank.told Goal.Evict l.fn.victim l.fn.bank l.bank;

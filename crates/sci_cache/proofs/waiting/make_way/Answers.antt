@@ -9,7 +9,7 @@ pub returns-in_default : goal.returns-in_default
 returns-in_default g c = record {
   runs = λ n d mine open_ out. has_way g.B.Bank.gives g.B.Bank.at_step c.args.bank.now n d open_ (out ∙ c.in_default.is);
   rest = λ idle. idle;
-  kept = λ idle ready. none_on g.B.Bank.gives g.B.Bank.readies g.B.Bank.at_step g.B.Bank.told c.args.bank.now;
+  kept = λ ready. none_on g.B.Bank.gives g.B.Bank.readies g.B.Bank.at_step g.B.Bank.told c.args.bank.now;
   others = λ m other. refl;
   same_way = refl;
   same_nodes = λ m. refl;

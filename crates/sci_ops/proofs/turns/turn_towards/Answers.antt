@@ -66,7 +66,7 @@ returns-in-Queueing g c = record { calls = turn_at (g.P.Port.at_step c.args.port
 
 pub returns-in-Fetching : goal.returns-in-Fetching
 returns-in-Fetching g c = record {
-  calls = returning (g.P.Port.at_step c.args.port.now) _ c.stage.ensures.value c.in-Fetching.is (λ p. Takes g.P.Port.gives (turn_in c.args.goal (g.P.Port.way c.args.port.now).node p) c.args.port.now c.go_on.result c.go_on.new.port) (λ f d l. c.go_on.ensures) (λ l. c.go_on.ensures);
+  calls = returning (g.P.Port.at_step c.args.port.now) _ c.stage.ensures.value c.in-Fetching.is (λ p. Takes g.P.Port.gives (turn_in c.args.goal.now (g.P.Port.way c.args.port.now).node p) c.args.port.now c.go_on.result c.go_on.new.port) (λ f d l. c.go_on.ensures) (λ l. c.go_on.ensures);
   stamp = returning (g.P.Port.at_step c.args.port.now) _ c.stage.ensures.value c.in-Fetching.is (λ p. EndsWithStamp c.go_on.result p) (λ f d l answer is. tt) (λ l answer is. tt);
 }
 

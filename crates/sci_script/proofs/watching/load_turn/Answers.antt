@@ -1,4 +1,4 @@
-use Rattle.std.proofs.Common.{refl, sym, subst}
+use Rattle.std.proofs.Common.{ap, refl, sym, subst}
 use Rattle.sci_ops.specs.Answers.{AnswersAt}
 use Rattle.sci_ops.specs.Operation.{Operation}
 use Rattle.sci_ops.specs.Plan.{LoadsAtMost, Takes}
@@ -9,8 +9,9 @@ use Rattle.sci_script.proofs.watching.load_turn.Goals as goal
 pub turn_at-requires : goal.turn_at-requires
 turn_at-requires g c =
     record {
+      goes_on = ap (λ (o : Operation). o.answer) c.load.ensures;
       line = c.requires;
-      fits = subst (λ (o : Operation). StoresFitting (g.B.Keep.Keeps.fits (g.B.Bank.keep c.args.bank.now) c.args.line) o.goal) (sym c.load-load.ensures) tt;
+      fits = subst (λ (o : Operation). StoresFitting (g.B.Keep.Keeps.fits (g.B.Bank.keep c.args.bank.now) c.args.line) o.goal) (sym c.load.ensures) tt;
     }
 
 pub returns-clause-turns : goal.returns-clause-turns
@@ -21,9 +22,9 @@ returns-clause-turns g c =
     let line = c.args.line in
     record {
       turn = c.turn_at.result;
-      calls = subst (λ (o : Operation). Takes (λ a call b. g.B.Bank.gives a line call b) (turn_of o me (g.B.Bank.at_step u line)) u c.turn_at.result v) c.load-load.ensures c.turn_at.ensures.calls;
-      answers = subst (λ (o : Operation). AnswersAt (λ a call b. g.B.Bank.gives a line call b) (λ a. g.B.Bank.at_step a line) o me u c.turn_at.result v) c.load-load.ensures c.turn_at.ensures.answers;
-      loads = subst (λ (o : Operation). LoadsAtMost 3 (turn_of o me (g.B.Bank.at_step u line))) c.load-load.ensures c.turn_at.ensures.loads;
+      calls = subst (λ (o : Operation). Takes (λ a call b. g.B.Bank.gives a line call b) (turn_of o me (g.B.Bank.at_step u line)) u c.turn_at.result v) c.load.ensures c.turn_at.ensures.calls;
+      answers = subst (λ (o : Operation). AnswersAt (λ a call b. g.B.Bank.gives a line call b) (λ a. g.B.Bank.at_step a line) o me u c.turn_at.result v) c.load.ensures c.turn_at.ensures.answers;
+      loads = subst (λ (o : Operation). LoadsAtMost 3 (turn_of o me (g.B.Bank.at_step u line))) c.load.ensures c.turn_at.ensures.loads;
       leaves = tt;
       shows = refl;
       node = refl;

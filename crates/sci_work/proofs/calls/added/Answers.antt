@@ -17,7 +17,7 @@ returns-in-Ok g c =
     record {
       err = tt;
       worked = worked_still ready (still_called c.args.node.now (Request.Add c.args.line 0 1) c.args.bank.now _ c.add-answer.new.bank c.add-answer.new.self ended (may_call ready));
-      added = λ yes. added_one (g.B.Keep.Keeps.fits (g.B.Bank.keep c.args.bank.now) c.args.line) c.args.line (ended.kept yes ready.idle) ended.content ended.waits.1;
+      added = λ yes. added_one (g.B.Keep.Keeps.fits (g.B.Bank.keep c.args.bank.now) c.args.line) c.args.line (ended.kept yes) ended.content ended.waits.1;
     }
 
 pub returns-in-Err : goal.returns-in-Err

@@ -3,7 +3,7 @@ use Rattle.std.proofs.lemmas.List.Elements.{All-cons, All-nil}
 use Rattle.std.proofs.lemmas.Result.{IfOk-from_err}
 use Rattle.std.specs.Prelude.{slice_index}
 use Rattle.sci_core.specs.Closed.{ClosedLine}
-use Rattle.sci_work.specs.Ended.{HaveNodes, IsCountSize}
+use Rattle.sci_work.specs.Ended.{HaveNodes, IsCountSize, any_words}
 use Rattle.sci_work.specs.Starts.{ComesInStart}
 use Rattle.sci_work.specs.declared.programs.Program.{Program}
 use Rattle.sci_work.specs.declared.refusals.WorkRefusal.{WorkRefusal}
@@ -70,6 +70,6 @@ returns g c =
       total = ap (λ l. slice_index l.words 0) c.value.ensures.value ∙ told.total;
       ok = (closed, one, told.ok, ap (λ l. slice_index l.words 0) c.value.ensures.value);
       nodes = subst (λ (z : List _). HaveNodes c.args.nodes z) (sym one) (All-cons (λ (x : ClosedLine). length x.tags ≡ c.args.nodes) closed [] told.nodes (All-nil _));
-      kept = one_history c.args.nodes closed made.receipts _ one lists told.history;
+      kept = one_history (λ _. any_words) c.args.nodes closed made.receipts _ _ one lists told.history;
       err = tt;
     }

@@ -1,11 +1,11 @@
-use Rattle.std.proofs.Common.{◌≡◌, ◌∷◌, [], ℕ, List, refl, ap, sym, subst, ◌∙◌, arith, vec_len}
+use Rattle.std.proofs.Common.{◌≡◌, ◌∷◌, [], ℕ, List, refl, sym, subst, ◌∙◌, arith, vec_len}
 use Rattle.std.proofs.lemmas.Result.{IfOk-from_err, IfOk-weaker, IfErr-weaker}
 use mathlib.Core.Option.{some-ne-none}
-use Rattle.sci_core.specs.declared.lines.Line.{Line}
 use Rattle.sci_core.specs.declared.keeps.AnyWords.{AnyWords}
 use Rattle.sci_fine.specs.Banks.{IsLine}
 use Rattle.sci_work.specs.declared.keeping.Keeping.{Keeping}
-use Rattle.sci_work.specs.Ended.{lists_in}
+use Rattle.sci_fine.specs.declared.closing.Finished.{Finished}
+use Rattle.sci_work.specs.Ended.{any_words, lists_in}
 use Rattle.sci_work.specs.Hands.{AtEach, IsHandOf}
 use Rattle.sci_work.specs.Starts.{AreParts}
 use Rattle.sci_work.specs.declared.programs.Program.{Program}
@@ -14,13 +14,13 @@ use Rattle.sci_work.proofs.Dealing.{as_many}
 use Rattle.sci_work.proofs.Handed.{all_counted, none_written}
 use Rattle.sci_work.proofs.Opening.{parts_of}
 use Rattle.sci_work.proofs.Refusing.{of_memory}
-use Rattle.sci_work.proofs.Residual.{all_ok, passed_on}
+use Rattle.sci_work.proofs.Residual.{both_ok, passed_on}
 use Rattle.sci_work.proofs.Seated.{at_more, count_of}
 use Rattle.sci_work.proofs.Totals.{total_of}
 use Rattle.sci_work.proofs.counting.counted.Goals as goal
 
-abbrev any_words : AnyWords → ℕ → List ℕ → Type 0
-any_words keep line words = Unit {0}
+abbrev fits_any : AnyWords → ℕ → List ℕ → Type 0
+fits_any keep line = any_words
 
 pub zeroed-requires : goal.zeroed-requires
 zeroed-requires g c = record { nodes = c.requires; fits = tt }
@@ -33,8 +33,8 @@ run_all-requires-after_bounds g c κs within =
     let line = c.in_ok-line.line in let hands = c.in_ok-hands.hands in let program = Program.Count c.args.adds in
     let len : vec_len hands ≡ c.args.nodes = c.in_ok-hands.ensures.len ∙ c.in_ok-line.ensures.len in
     let is_line = at_more (IsLine c.args.nodes _) [] (line ∷ []) line refl (λ k x e. absurd (some-ne-none x (sym e))) c.in_ok-line.ensures.line in
-    subst (λ (z : List _). AreParts any_words z program hands) (sym c.from_ref.ensures.value)
-    (parts_of any_words c.args.nodes _ 1 program (line ∷ []) hands refl (omega arith) (omega arith) is_line len c.requires.1 c.in_ok-hands.ensures.each
+    subst (λ (z : List _). AreParts fits_any z program hands) (sym c.from_ref.ensures.value)
+    (parts_of fits_any c.args.nodes _ 1 program (line ∷ []) hands refl (omega arith) (omega arith) is_line len c.requires.1 c.in_ok-hands.ensures.each
     (λ k hand at. none_written c.in_ok-line.seats.items c.in_ok-line.ensures.new c.args.adds hands.items c.in_ok-hands.ensures.hold k hand at)
     (λ k low. (omega arith, λ words size fits. tt)))
 
@@ -49,13 +49,13 @@ pub returns : goal.returns
 returns g c =
     let ended = c.finished in let run = c.in_ok-hands-2.ensures.ok in let hands = c.in_ok-hands-2.hands in let seats = c.in_ok-seats.seats in let held = c.in_ok-seats.ensures.held in
     let len : vec_len c.in_ok-hands.hands ≡ c.args.nodes = c.in_ok-hands.ensures.len ∙ c.in_ok-line.ensures.len in
+    let as_line = λ (one : Finished). line_history fits_any c.args.nodes _ 0 c.in_ok-line.line one.closed (lists_in one.receipts) c.in_ok-line.ensures.line c.in_ok-line.ensures.opening in
     record {
       ok = IfOk-weaker ended.result _ _ (λ one h. h.exact) ended.ensures.ok;
-      total = IfOk-weaker ended.result _ _ (λ one h. total_of c.args.adds c.in_ok-line.line seats.items one.closed c.args.nodes (as_many hands.items seats.items held ∙ (sym (count_of hands) ∙ run.hand_count ∙ len))
-          c.in_ok-line.ensures.line.nodes_are (ap (λ (o : Line). o.words) c.in_ok-line.ensures.opening) (all_counted c.args.adds hands.items seats.items held (run.end refl)) h) (ended.ensures.history refl);
+      total = both_ok ended.result _ _ _ (λ one own h. total_of c.args.adds seats.items one.closed (lists_in one.receipts) c.args.nodes (as_many hands.items seats.items held ∙ (sym (count_of hands) ∙ run.hand_count ∙ len))
+          (all_counted c.args.adds hands.items seats.items held (run.end refl)) own (as_line one h).whole) ended.ensures.own (ended.ensures.history refl);
       nodes = IfOk-weaker ended.result _ _ (λ one h. h.nodes ∙ c.in_ok-line.ensures.line.nodes_are) ended.ensures.ok;
-      history = all_ok ended.result _ _ _ _ (λ one count own h. line_history c.in_ok-line.line seats.items one.closed (lists_in one.receipts) c.args.nodes c.in_ok-line.ensures.line.nodes_are c.in_ok-line.ensures.opening count own h)
-          ended.ensures.nodes ended.ensures.own (ended.ensures.history refl);
+      history = IfOk-weaker ended.result _ _ as_line (ended.ensures.history refl);
       err = IfErr-weaker ended.result _ _ (of_memory (Program.Count c.args.adds)) ended.ensures.err;
     }
 

@@ -4,11 +4,8 @@ use Rattle.std.proofs.lemmas.Result.{IfOk-from_err}
 use mathlib.Core.Option.{some, some-injective, some-ne-none}
 use lib.ListN.{get_elem?}
 use Rattle.atomic_table.proofs.Lists.{at_last, at_longer}
-use Rattle.sci_core.specs.Closed.{value_of}
-use Rattle.sci_port.specs.Receipts.{IsWhole}
-use Rattle.sci_fine.specs.Kept.{list_at}
 use Rattle.sci_work.specs.declared.keeping.Keeping.{Keeping}
-use Rattle.sci_work.specs.Ended.{IsClosedOf, lists_in}
+use Rattle.sci_work.specs.Ended.{IsClosedOf, IsHistoryOn, lists_in}
 use Rattle.sci_work.specs.Hands.{IsHandOf}
 use Rattle.sci_work.proofs.Closing.{kept_by}
 use Rattle.sci_work.proofs.Counts.{all_done, from_none}
@@ -55,7 +52,6 @@ loop-init g c = record {
   lists = λ all. c.in_ok-receipts.ensures.len;
   lists_room = λ all. subst (λ (z : ℕ). z ≤ vec_capacity c.in_ok-receipts.receipts) (c.lists_for.ensures.all all ∙ c.len-2.ensures) c.in_ok-receipts.ensures.capacity;
   none = λ nothing. c.in_ok-receipts.ensures.items;
-  nodes = λ all k x v el ev. absurd (some-ne-none v (sym (subst (λ (z : List _). get_elem? (reverse z) k ≡ some v) c.in_ok-receipts.ensures.items ev)));
   histories = λ all k x d v el ed ev. absurd (some-ne-none v (sym (subst (λ (z : List _). get_elem? (reverse z) k ≡ some v) c.in_ok-receipts.ensures.items ev)));
   each = λ k x d el ed. absurd (some-ne-none d (sym (subst (λ (z : List _). get_elem? (reverse z) k ≡ some d) c.in_ok-all.ensures.items ed)));
 }
@@ -85,11 +81,9 @@ loop-preserved g c =
           omega (arith, more, length-append c.loop.receipts.items (made.receipts ∷ []), i.lists all, c.keep_lists.new.receipts.ok, c.loop.receipts.ok);
       lists_room = λ all. subst (λ (z : ℕ). vec_len c.args.lines ≤ z) (sym kept.room) (i.lists_room all);
       none = λ nothing. kept.nothing nothing ∙ i.none nothing;
-      nodes = λ all. pairs_more (λ x v. length (lists_in v) ≡ x.terms.nodes) c.args.lines.items rest line (reverse c.loop.receipts.items) (reverse c.keep_lists.new.receipts.items) made.receipts (lists_more all) at_rest told.nodes
-          (λ k a b ea eb. i.nodes all k a b (subst (λ (z : ℕ). get_elem? c.args.lines.items (k + z) ≡ some a) one ea) eb);
-      histories = λ all. triples_more (λ x d v. IsWhole x.terms.nodes x.terms.opening (value_of d) (λ j. list_at (lists_in v) j)) c.args.lines.items rest line
+      histories = λ all. triples_more (λ x d v. IsHistoryOn g.K.Keeps.fits x d (lists_in v)) c.args.lines.items rest line
           (reverse c.loop.all.items) (reverse c.push_reserved.new.self.items) made.closed (reverse c.loop.receipts.items) (reverse c.keep_lists.new.receipts.items) made.receipts closed_more (lists_more all) at_rest
-          (subst (λ (z : List _). IsWhole line.terms.nodes line.terms.opening (value_of made.closed) (λ j. list_at z j)) (sym told.own) (told.history all))
+          (told.history all)
           (λ k a b v ea eb ev. i.histories all k a b v (subst (λ (z : ℕ). get_elem? c.args.lines.items (k + z) ≡ some a) one ea) eb ev);
       each = pairs_more (λ x d. IsClosedOf g.K.Keeps.fits x d) c.args.lines.items rest line (reverse c.loop.all.items) (reverse c.push_reserved.new.self.items) made.closed closed_more at_rest told.ok
           (λ k a b ea eb. i.each k a b (subst (λ (z : ℕ). get_elem? c.args.lines.items (k + z) ≡ some a) one ea) eb);
@@ -110,10 +104,9 @@ returns-clause-kept g c =
     let i = c.loop.invariant in
     let none = all_done (vec_len c.loop.rest) c.loop.counter c.len-end.result (vec_len c.args.lines) i.rest c.loop-test.false c.len-end.ensures in
     let at = λ (k : ℕ) (l : _) (el : get_elem? c.args.lines.items k ≡ some l). subst (λ (z : ℕ). get_elem? c.args.lines.items z ≡ some l) (from_none k (vec_len c.loop.rest) none) el in
-    kept_by c.args.keeping c.args.lines.items _
+    kept_by g.K.Keeps.fits c.args.keeping c.args.lines.items _
     (λ all. record {
       count = let n = i.lists all in let r = c.reverse-2.ensures.len in omega (arith, r, n, i.rest, none, c.reverse-2.new.self.ok, c.args.lines.ok);
-      nodes = λ k l v el ev. i.nodes all k l v (at k l el) (subst (λ (z : List _). get_elem? z k ≡ some v) c.reverse-2.ensures.items ev);
       each = λ k l d v el ed ev. i.histories all k l d v (at k l el) (subst (λ (z : List _). get_elem? z k ≡ some d) c.reverse.ensures.items ed) (subst (λ (z : List _). get_elem? z k ≡ some v) c.reverse-2.ensures.items ev);
     })
     (λ nothing. c.reverse-2.ensures.items ∙ ap reverse (i.none nothing))

@@ -1,11 +1,8 @@
-use Rattle.std.proofs.Common.{◌≡◌, ℕ, ◌+◌, ◌≤◌, [], length, reverse, vec_items, vec_len, vec_capacity}
+use Rattle.std.proofs.Common.{◌≡◌, ℕ, ◌+◌, ◌≤◌, [], reverse, vec_items, vec_len, vec_capacity}
 use mathlib.Core.Option.{some}
 use lib.ListN.{get_elem?}
-use Rattle.sci_core.specs.Closed.{value_of}
-use Rattle.sci_port.specs.Receipts.{IsWhole}
-use Rattle.sci_fine.specs.Kept.{list_at}
 use Rattle.sci_work.specs.declared.keeping.Keeping.{Keeping}
-use Rattle.sci_work.specs.Ended.{IsClosedOf, lists_in}
+use Rattle.sci_work.specs.Ended.{IsClosedOf, IsHistoryOn, lists_in}
 use Rattle.sci_work.specs.Hands.{AtEach, IsHandOf}
 use Rattle.sci_work.proofs.lines.closed.Given as goal
 
@@ -19,8 +16,7 @@ invariant-loop g l = record {
   lists : l.fn.keeping ≡ Keeping.All → vec_len l.receipts ≡ l.counter;
   lists_room : l.fn.keeping ≡ Keeping.All → vec_len l.fn.lines ≤ vec_capacity l.receipts;
   none : l.fn.keeping ≡ Keeping.Nothing → vec_items l.receipts ≡ [];
-  nodes : l.fn.keeping ≡ Keeping.All → (k : ℕ) (x : _) (v : _) → get_elem? (vec_items l.fn.lines) (k + vec_len l.rest) ≡ some x → get_elem? (reverse (vec_items l.receipts)) k ≡ some v → length (lists_in v) ≡ x.terms.nodes;
   histories : l.fn.keeping ≡ Keeping.All → (k : ℕ) (x : _) (c : _) (v : _) → get_elem? (vec_items l.fn.lines) (k + vec_len l.rest) ≡ some x → get_elem? (reverse (vec_items l.all)) k ≡ some c → get_elem? (reverse (vec_items l.receipts)) k ≡ some v
-      → IsWhole x.terms.nodes x.terms.opening (value_of c) (λ j. list_at (lists_in v) j);
+      → IsHistoryOn g.K.Keeps.fits x c (lists_in v);
   each : (k : ℕ) (x : _) (c : _) → get_elem? (vec_items l.fn.lines) (k + vec_len l.rest) ≡ some x → get_elem? (reverse (vec_items l.all)) k ≡ some c → IsClosedOf g.K.Keeps.fits x c;
 }

@@ -1,4 +1,4 @@
-use Rattle.std.proofs.Common.{rules, ◌≡◌}
+use Rattle.std.proofs.Common.{rules}
 use Rattle.sci_work.proofs.Seated.{only_one}
 use Rattle.sci_work.proofs.seating.seat_of.Goals as goal
 

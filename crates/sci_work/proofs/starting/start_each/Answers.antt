@@ -4,7 +4,7 @@ use mathlib.Core.Option.{some}
 use lib.ListN.{get_elem?}
 use Rattle.sci_work.specs.declared.keeping.Keeping.{Keeping}
 use Rattle.sci_work.specs.Hands.{IsHandOf}
-use Rattle.sci_work.specs.Starts.{Begins}
+use Rattle.sci_work.specs.Starts.{HasWrittenNothing}
 use Rattle.sci_work.proofs.Seated.{at_first, count_of, gone_over, or_more}
 use Rattle.sci_work.proofs.starting.start_each.Goals as goal
 
@@ -26,7 +26,7 @@ pub spawn_with-started-requires-clause-runs : goal.spawn_with-started-requires-c
 spawn_with-started-requires-clause-runs g c κs within =
     let was = c.loop-hand.invariant in let step = c.in-Some.ensures.steps in
     let f = at_first (λ k hand. IsHandOf Keeping.All c.args.lines.now k (vec_items hand)) (into_iter_items c.loop-hand.hand-iterator) (into_iter_items c.next.new.self) c.in-Some.hand c.loop-hand.number step.0 was.ready in
-    let b = at_first (λ k hand. Begins c.args.program (vec_items hand)) (into_iter_items c.loop-hand.hand-iterator) (into_iter_items c.next.new.self) c.in-Some.hand c.loop-hand.number step.0 was.begin in
+    let b = at_first (λ k hand. HasWrittenNothing c.args.program (vec_items hand)) (into_iter_items c.loop-hand.hand-iterator) (into_iter_items c.next.new.self) c.in-Some.hand c.loop-hand.number step.0 was.begin in
     let below : c.loop-hand.number < vec_len c.args.hands = omega (arith, was.rest, step.1) in (
       record {
         lines_are = c.requires.parts.lines_are;
@@ -45,7 +45,7 @@ loop-hand-preserved g c =
     record {
       rest = gone_over c.loop-hand.number _ (into_iter_len c.loop-hand.hand-iterator) _ (vec_len c.args.hands) was.rest step.1 refl;
       ready = f.1;
-      begin = (at_first (λ k hand. Begins c.args.program (vec_items hand)) (into_iter_items c.loop-hand.hand-iterator) (into_iter_items c.next.new.self) c.in-Some.hand c.loop-hand.number step.0 was.begin).1;
+      begin = (at_first (λ k hand. HasWrittenNothing c.args.program (vec_items hand)) (into_iter_items c.loop-hand.hand-iterator) (into_iter_items c.next.new.self) c.in-Some.hand c.loop-hand.number step.0 was.begin).1;
       len = more.len ∙ ap (λ (n : ℕ). n + 1) was.len;
       room = subst (λ (n : ℕ). vec_len c.args.hands ≤ n) (sym more.capacity) was.room;
       promised = λ k d low. or_more (λ i h. (h.promise.lines.now ≡ c.args.lines.now) × (h.promise.program ≡ c.args.program) × (h.promise.number ≡ i) × (h.promise.keeping ≡ c.args.keeping)) handles.items c.push_reserved.new.self.items handle more.items

@@ -1,4 +1,4 @@
-use Rattle.std.proofs.Common.{◌≢◌, ◌<◌, ◌≤◌, Option, IfSome, ℕ, ap, sym, subst, ◌∙◌}
+use Rattle.std.proofs.Common.{◌≢◌, ◌<◌, ◌≤◌, Option, IfSome, ℕ, refl, ap, sym, subst, ◌∙◌}
 use Rattle.sci_port.specs.Banks.{BankWay}
 use Rattle.sci_port.specs.KeepsAll.{as_it_was}
 use Rattle.sci_port.proofs.KeepsAll.{readied_then}
@@ -55,9 +55,25 @@ returns-clause-ready g c = λ keeps.
     let l = c.line-line.result in
     let here : IsReadyFor (goal_of r) (told third l) = record {
       mark = a.mark ∙ c.passes.ensures;
-      room = subst (λ (k : ℕ). k ≤ (told third l).room) c.need.ensures (more_room c.need.result (told first l).room (told second l).room (told third l).room c.in_ok-reserve_at.ensures.room (s.grows l) (t.grows l));
+      room = subst (λ (k : ℕ). k ≤ (told third l).room) c.most_needed.ensures (more_room c.most_needed.result (told first l).room (told second l).room (told third l).room c.in_ok-reserve_at.ensures.room (s.grows l) (t.grows l));
     } in
     record {
       line = subst (λ (k : ℕ). IsReadyFor (goal_of r) (told third k)) c.line-line.ensures here;
       exit = subst (λ (o : Option ℕ). IfSome o (λ w. IsReadyFor Goal.Evict (told third w))) e.victim (ready_out_by c.in_ok-victim.victim (told second) (told third) a.out e.room t.grows);
     }
+
+pub returns-then-not-self-clause-others : goal.returns-then-not-self-clause-others
+returns-then-not-self-clause-others g c = λ m other out. refl
+
+pub returns-in_err-reserve_at-clause-others : goal.returns-in_err-reserve_at-clause-others
+returns-in_err-reserve_at-clause-others g c = λ m other out. c.reserve_at.ensures.others m (λ h. other (h ∙ c.line-line.ensures))
+
+pub returns-in_err-victim-clause-others : goal.returns-in_err-victim-clause-others
+returns-in_err-victim-clause-others g c = λ m other out. c.put_in_with_room.ensures.others m other out ∙ c.reserve_at.ensures.others m (λ h. other (h ∙ c.line-line.ensures))
+
+pub returns-clause-others : goal.returns-clause-others
+returns-clause-others g c = λ m other out.
+    let e = c.in_ok-victim.ensures in
+    c.aim_at.ensures.others m (λ h. other (h ∙ c.line-line.ensures)) (subst (λ (o : Option ℕ). IfSome o (λ w. m ≢ w)) (sym e.victim) out)
+    ∙ e.others m other out
+    ∙ c.reserve_at.ensures.others m (λ h. other (h ∙ c.line-line.ensures))

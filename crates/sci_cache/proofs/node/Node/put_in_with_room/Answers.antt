@@ -1,6 +1,8 @@
-use Rattle.std.proofs.Common.{◌≤◌, ◌<◌, ◌-◌, Option, None, IfSome, List, ℕ, slice_get, refl, ap, sym, subst, ◌∙◌}
+use Rattle.std.proofs.Common.{◌≢◌, ◌≤◌, ◌<◌, ◌-◌, Option, None, IfSome, List, ℕ, slice_get, refl, ap, sym, subst, ◌∙◌}
 use Rattle.std.specs.Map.{keys_of}
 use Rattle.sci_port.specs.KeepsAll.{as_it_was}
+use Rattle.sci_ops.specs.declared.goals.Goal.{Goal}
+use Rattle.sci_cache.specs.Called.{most_needed}
 use Rattle.sci_cache.specs.Residents.{AreBelow, displaced_by, is_resident, used}
 use Rattle.sci_cache.specs.Nodes.{node_state, IsLine, NodeState}
 use Rattle.sci_cache.proofs.Begun.{had_memory, inside_with, used_evict, used_line, victim_evict, victim_used}
@@ -24,6 +26,7 @@ returns-then-is_evict g c =
       readied = as_it_was;
       same_receipts = λ m. record { list = refl; passing = refl };
       room = tt;
+      others = λ m other out. refl;
     }
 
 pub invariant_of-self : goal.invariant_of-self
@@ -46,6 +49,7 @@ returns-then-renew g c = record {
   readied = as_it_was;
   same_receipts = λ m. record { list = refl; passing = refl };
   room = tt;
+  others = λ m other out. refl;
 }
 
 pub reserve_out-requires : goal.reserve_out-requires
@@ -76,6 +80,8 @@ returns g c =
     let result = c.make_recent.result in
     let e = c.make_recent.ensures in
     let absent = ap (λ t. is_resident l (keys_of t.entries)) same ∙ sym c.if-renew.ensures.named in
+    let last = c.last_of_full.ensures ∙ sym (displaced_new l _ _ absent) in
+    let put_out = victim_used _ _ c.self.view_is r l c.line-line.ensures other c.last_of_full.result (last ∙ ap (λ t. displaced_by t.cap l (keys_of t.entries)) same) in
     record {
       victim = ok_with result e.displaced (λ v d. victim_used _ _ c.self.view_is r l c.line-line.ensures other v (d ∙ ap (λ t. displaced_by t.cap l (keys_of t.entries)) same));
       inside = on_ok result (λ ok. inside_with n r (subst (λ (k : NodeState). AreBelow k.lines k.residents) c.self.view_is c.self.invariant.residents));
@@ -85,5 +91,6 @@ returns g c =
       succeeds = had_memory _ _ c.self.view_is r c.line-line.ensures other (λ named. absurd (let k = c.if-renew.ensures.named ∙ named in cc));
       readied = c.reserve_out.ensures.readied;
       same_receipts = c.reserve_out.ensures.same;
-      room = ok_with result e.displaced (λ v d. subst (λ (o : Option ℕ). IfSome o (λ w. 1 ≤ (g.B.Bank.told c.reserve_out.new.bank w).room)) (c.last_of_full.ensures ∙ sym (displaced_new l _ _ absent) ∙ sym d) c.in_ok-reserve_out.ensures.room);
+      room = ok_with result e.displaced (λ v d. subst (λ (o : Option ℕ). IfSome o (λ w. most_needed Goal.Evict ≤ (g.B.Bank.told c.reserve_out.new.bank w).room)) (last ∙ sym d) c.in_ok-reserve_out.ensures.room);
+      others = λ m other out. c.reserve_out.ensures.others m (subst (λ (o : Option ℕ). IfSome o (λ w. m ≢ w)) (sym put_out) out);
     }

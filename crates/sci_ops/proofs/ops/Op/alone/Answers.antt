@@ -69,7 +69,9 @@ returns-in-Done g c =
       op = c.in-Done.ensures.op ∙ ap (λ (x : Operation). after_turn x (Turn.Done c.in-Done.answer)) i.same_op;
       rest = h.1.1;
       kept = λ given. let k = i.kept given in let t = c.in-Done.ensures.kept k.0 in goes_so_far c.args.self.now c.turns.self _ _ _ (Turn.Done c.in-Done.answer) i.same_op k.1 t.writes t.extends;
-      last = λ given. last_of c.args.self.now c.turns.self c.in-Done.answer _ c.turns.solo.receipts.now c.turn.new.port.receipts.now i.same_op c.requires.begins (i.kept given).0 c.in-Done.ensures.last;
+      last = λ given.
+          let k = i.kept given in
+          last_of c.args.self.now c.turns.self c.in-Done.answer _ c.args.solo.now.receipts.now.list c.turns.solo.receipts.now c.turn.new.port.receipts.now i.same_op c.requires.begins k.1.extends (c.in-Done.ensures.kept k.0).extends k.0 c.in-Done.ensures.last;
       same_way = c.in-Done.ensures.same_way ∙ i.same_way;
       same_fact = c.in-Done.ensures.same_fact ∙ i.same_fact;
     }

@@ -1,6 +1,6 @@
 use Rattle.std.proofs.Common.{◌≡◌, ℕ, ◌+◌, List, length, ap, sym, ◌∙◌, subst, arith}
 use Rattle.std.proofs.lemmas.Result.{IfOk-from_err}
-use Rattle.sci_work.specs.Ended.{AreClosed}
+use Rattle.sci_work.specs.Ended.{AreClosed, AreKept}
 use Rattle.sci_work.specs.Ring.{FitsRing}
 use Rattle.sci_work.specs.Starts.{AreParts}
 use Rattle.sci_work.specs.declared.facts.ring.RingFact.{RingFact}
@@ -41,8 +41,11 @@ pub returns-clause-nodes : goal.returns-clause-nodes
 returns-clause-nodes g c = nodes_under fits_of 2 c.new.result c.in_ok-shared.shared.items c.in_ok-all.all.lines.items c.in_ok-shared.ensures.lines c.in_ok-all.ensures.ok
 
 pub returns-clause-kept : goal.returns-clause-kept
-returns-clause-kept g c = let made = c.in_ok-shared in
-    kept_under fits_of c.args.keeping 2 c.new.result made.shared.items c.in_ok-all.all made.ensures.lines made.ensures.zeros c.in_ok-all.ensures.ok c.in_ok-all.ensures.kept
+returns-clause-kept g c =
+    let fact = c.new.result in let made = c.in_ok-shared in let lines = c.args.lines in let all = c.in_ok-all.all in
+    let kept = kept_under fits_of c.args.keeping 2 fact made.shared.items all made.ensures.lines made.ensures.zeros c.in_ok-all.ensures.ok c.in_ok-all.ensures.kept in
+    subst (λ (s : List _). AreKept c.args.keeping (FitsRing s lines) 2 all) (ap (λ z. z.now) c.new.ensures.source)
+    (subst (λ (l : _). AreKept c.args.keeping (FitsRing fact.source.now l) 2 all) c.new.ensures.lines kept)
 
 pub returns-in_err-shared : goal.returns-in_err-shared
 returns-in_err-shared g c =

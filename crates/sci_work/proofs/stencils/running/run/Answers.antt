@@ -2,7 +2,7 @@ use Rattle.std.proofs.Common.{ℕ, ◌*◌, List, arith, ap, sym, subst}
 use Rattle.std.proofs.lemmas.Result.{IfOk-weaker}
 use Rattle.sci_work.specs.declared.facts.stencil.StencilFact.{StencilFact}
 use Rattle.sci_work.specs.declared.programs.Program.{Program}
-use Rattle.sci_work.specs.Ended.{AreClosed}
+use Rattle.sci_work.specs.Ended.{AreClosed, AreKept}
 use Rattle.sci_work.specs.Hands.{IsHandOf}
 use Rattle.sci_work.specs.Starts.{AreParts}
 use Rattle.sci_work.specs.Stencil.{FitsStencil}
@@ -48,4 +48,8 @@ returns-clause-nodes g c =
 
 pub returns-clause-kept : goal.returns-clause-kept
 returns-clause-kept g c =
-    both_ok c.ended.result _ _ _ (λ r done kept. kept_under says c.args.keeping c.args.work.nodes c.new-fact.result c.in_ok-lines.lines.items r.1 c.in_ok-lines.ensures.lines c.in_ok-lines.ensures.zeros done kept) c.ended.ensures.closed c.ended.ensures.kept
+    let work = c.args.work in let fact = c.new-fact.result in let made = c.in_ok-lines.ensures in
+    both_ok c.ended.result _ _ _ (λ r done all.
+    let kept = kept_under says c.args.keeping work.nodes fact c.in_ok-lines.lines.items r.1 made.lines made.zeros done all in
+    let cells = subst (λ (xs : List ℕ). AreKept c.args.keeping (FitsStencil xs fact.phases) work.nodes r.1) (ap (λ (s : _). s.now) c.new-fact.ensures.cells) kept in
+    subst (λ (p : ℕ). AreKept c.args.keeping (FitsStencil work.cells.now p) work.nodes r.1) c.new-fact.ensures.phases cells) c.ended.ensures.closed c.ended.ensures.kept
