@@ -3,26 +3,13 @@ use Rattle.std.proofs.Common.{◌≡◌, ℕ, Option, Some, None, cond, sym, ap,
 use Rattle.sci_core.specs.declared.lines.Line.{Line}
 use Rattle.sci_core.specs.declared.stages.Stage.{Stage}
 use Rattle.sci_core.specs.declared.events.Event.{Event}
-use Rattle.sci_core.specs.declared.rows.Carry.{Carry}
-use Rattle.sci_core.specs.declared.rows.Carry.TheVariants.{Stays, Takes, Gives}
 use Rattle.sci_core.specs.declared.rows.Exchange.{Exchange}
 use Rattle.sci_core.specs.declared.outlines.Motion.{Motion}
 use Rattle.sci_core.specs.declared.outlines.Outline.{Outline}
 use Rattle.sci_core.specs.Laid.{CanCountIn, CountsGiven}
-use Rattle.sci_core.specs.Stage.{pending_of, outline_of, motion_of, own_after, carry_with, given}
-use Rattle.sci_core.specs.State.{blank}
+use Rattle.sci_core.specs.Stage.{pending_of, outline_of, own_after}
 use Rattle.sci_core.specs.Table.{row_of}
 use Rattle.sci_core.proofs.Filling.{row_filled}
-use Rattle.sci_fine.specs.Steps.{GivesLine}
-
-gives_own : (c : Carry) (after : Stage) (e : Event) (l y : Line) → c ≡ carry_with (motion_of c) (own_after (motion_of c) after e l y) → GivesLine c (given e l)
-gives_own Stays after e l y h = tt
-gives_own (Takes x) after e l y h = tt
-gives_own (Gives x k) after e l y h = cc
-
--- what a row gives is the own line as it is given back
-pub row_gives : (me : ℕ) (s : Stage) (l : Line) (e : Event) → GivesLine (row_of me (pending_of s l) e).carry (given e l)
-row_gives me s l e = gives_own (row_of me (pending_of s l) e).carry (outline_of (row_of me (pending_of s l) e)).after e l blank (ap (λ (x : Exchange). x.carry) (row_filled me s l blank e))
 
 -- a write of words is counted where it is given back
 pub counts_own : (e : Event) (m : Motion) (l : Line) → CanCountIn l e → CountsGiven e m l

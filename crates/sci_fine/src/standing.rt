@@ -101,15 +101,22 @@ impl<K: Keeps> Standing<K> {
         self.stage.outline(self.node, event)
     }
 
-    // Writes the line that an allowed event gives back.
+    // Writes the line that an allowed event gives back. What a write makes is new: it is not compared.
     #[inline(always)]
     pub(crate) fn give(&self, event: &Event, slot: &mut Line)
         requires { has_row self.now.terms.nodes self.now.node self.now.pending event.now ≡ true }
         ensures { GivesLine (row_of self.now.node self.now.pending event.now).carry slot.new }
     {
-        let mut given = self.line;
-        given.give_back(event);
-        write_over(slot, &given);
+        match event {
+            Event::Written(Some(words)) => {
+                *slot = Line {
+                    words: *words,
+                    stamp: self.line.stamp + 1,
+                };
+            }
+            Event::Left => write_over(slot, &Line::ZERO),
+            _ => write_over(slot, &self.line),
+        }
     }
 
     // The node's next step, after the exchange of an allowed event, and the line that it answers.

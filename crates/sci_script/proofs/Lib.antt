@@ -1,5 +1,6 @@
 pub mod Digits
 pub mod Lines
+pub mod Splitting
 pub mod Reading
 pub mod Runs
 pub mod Content
@@ -19,7 +20,6 @@ pub mod Ended
 pub mod Calming
 pub mod PassedLines
 pub mod Through
-pub mod Extended
 pub mod BankDesks
 pub mod Unheard
 pub mod Dealt

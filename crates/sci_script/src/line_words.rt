@@ -1,8 +1,8 @@
 //! The words of a line.
 
-ghost use Rattle.std.specs.Prelude.{◌≡◌, OnOk, map};
+ghost use Rattle.std.specs.Prelude.{◌≡◌, ◌++◌, ◌==◌, ◌∷◌, [], OnOk, filter, length, map, not};
 ghost use Rattle.std.specs.List.{list_all};
-ghost use Rattle.sci_script.specs.Words.{is_blank, is_plain, is_skipped, words_of};
+ghost use Rattle.sci_script.specs.Words.{is_blank, is_skipped};
 ghost use Rattle.sci_script.specs.Format.{Gives, words_at};
 
 use crate::refusals::ScriptRefusal;
@@ -12,12 +12,6 @@ pub fn is_blank(byte: u8) -> bool
     ensures { result ≡ is_blank byte }
 {
     byte == b' ' || byte == b'\t'
-}
-
-pub fn is_plain(byte: u8) -> bool
-    ensures { result ≡ is_plain byte }
-{
-    byte == b'\t' || (b' '..=b'~').contains(&byte)
 }
 
 fn is_empty_line(line: &[u8]) -> bool
@@ -33,17 +27,14 @@ pub fn is_skipped(line: &[u8]) -> bool
     line.first() == Some(&b'#') || is_empty_line(line)
 }
 
-fn words_of<'a>(words: &mut Vec<&'a [u8]>, line: &'a [u8]) -> Result<(), AllocError>
-    ensures { OnOk result (map (λ w. w.now) words.new.items ≡ words_of line.now) }
+/// Puts a word behind the words, if it has bytes.
+fn put_word<'a>(words: &mut Vec<&'a [u8]>, word: &'a [u8]) -> Result<(), AllocError>
+    ensures { OnOk result (map (λ w. w.now) words.new.items ≡ map (λ w. w.now) words.old.items ++ filter (λ w. not (length w == 0)) (word.now ∷ [])) }
 {
-    words.clear();
-    words.extend(line.split(|b| is_blank(*b)).filter(|word| !word.is_empty()))
-}
-
-fn is_plain_text(line: &[u8]) -> bool
-    ensures { result ≡ list_all is_plain line.now }
-{
-    line.iter().all(|b| is_plain(*b))
+    if !word.is_empty() {
+        words.push(word)?;
+    }
+    Ok(())
 }
 
 /// The words of line `number`, in the list that was used for the lines before.
@@ -55,9 +46,19 @@ pub fn split_line<'a>(
 ) -> Result<(), ScriptRefusal>
     ensures { Gives (λ _. map (λ w. w.now) words.new.items) result (words_at number line.now) }
 {
-    if !is_plain_text(line) {
-        return Err(ScriptRefusal::BadCommand(number));
+    words.clear();
+    let mut start = 0;
+    for (at, byte) in line.iter().enumerate() {
+        // Most bytes print, so this is asked first.
+        if byte.is_ascii_graphic() {
+            continue;
+        }
+        if !is_blank(*byte) {
+            return Err(ScriptRefusal::BadCommand(number));
+        }
+        put_word(words, &line[start..at])?;
+        start = at + 1;
     }
-    words_of(words, line)?;
+    put_word(words, &line[start..])?;
     Ok(())
 }

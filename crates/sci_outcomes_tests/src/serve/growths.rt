@@ -24,7 +24,7 @@ fn refuses(rt: &impl Abort, alloc: Global) -> Result<(), Fail> {
     Err(Fail::new("serve_outcomes answered 7"))
 }
 
-/// Growths: 1 of serve_outcomes, 3 made up for, 100 of serve_outcomes.
+/// Growths: 104 of serve_outcomes.
 #[test]
 fn refused_growths(rt: HostRuntime) -> Result<(), Fail> {
     refuses(&rt, rt.alloc())
@@ -45,7 +45,7 @@ fn refuses_pages(rt: &impl Abort, alloc: Global) -> Result<(), Fail> {
     Err(Fail::new("serve_play answered 7"))
 }
 
-/// Growths: 1 of serve_play, 3 made up for, 190 of serve_play.
+/// Growths: 194 of serve_play.
 #[test]
 fn refused_growths_of_pages(rt: HostRuntime) -> Result<(), Fail> {
     refuses_pages(&rt, rt.alloc())

@@ -202,8 +202,8 @@ fn seats(rt: &impl Abort, alloc: Global, script: &Script) -> Result<(), Fail> {
     }
 }
 
-/// Growths: 6 made up for, 1 of read_script, 1 made up for, 1 of read_script, 1 made up for, 2 of read_script, 11 of open, 20 of run,
-/// 20 of perform, 3 of list_text, 3 of tag_text, 1 of of_lines, 1 of push, 3 of new, 5 of begin, 1 of resident.
+/// Growths: 12 of read_script, 11 of open, 20 of run, 20 of perform, 3 of list_text, 3 of tag_text,
+/// 1 of of_lines, 1 of push, 3 of new, 5 of begin, 1 of resident.
 #[test]
 fn refused_growths(rt: HostRuntime) -> Result<(), Fail> {
     let alloc = rt.alloc();

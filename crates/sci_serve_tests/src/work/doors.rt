@@ -1,5 +1,5 @@
 //! What a gate hears of a worker's calls, and what the worker does without its leave: no call at all.
-ghost use Rattle.std.specs.Prelude.{◌<◌, ◌≤◌};
+ghost use Rattle.std.specs.Prelude.{◌<◌, ◌≤◌, length};
 ghost use Rattle.sci_work.specs.Made.{IsBankOf};
 ghost use Rattle.sci_work.specs.Ring.{FitsRing};
 
@@ -148,6 +148,47 @@ fn worked<R: Wait, G: Gate>(
     let n = items.len();
     let ended = consume(rt, alloc, &mut node, &mut bank, n, 1, gate, stop);
     left_behind(rt, alloc, &mut node, &mut bank, ended.err())
+}
+
+// What node 3 has left on a ring of one line, where it consumes the first of the items, and then produces all.
+#[tactic(auto, using(sci_work::proofs::Items::is_ring, sci_work::proofs::Items::is_ring_of))]
+fn produced_behind<R: Wait, G: Gate>(
+    rt: &R,
+    alloc: Global,
+    items: &[u64],
+    gate: &G,
+    stop: &AtomicBool,
+) -> Option<Left>
+    requires { 0 < length items.now }
+{
+    let me = NodeId::new(ME)?;
+    let first = shown(items, Some(0));
+    let mut bank = opened(alloc, RingFact::new(items, 1), me, 2, first, 0)?;
+    let mut node = Node::new(alloc, me, 2, 2).ok()?;
+    let open = Hears::new(ME, u64::MAX);
+    let ended = consume(rt, alloc, &mut node, &mut bank, 1, 1, &open, stop);
+    if ended.is_err() {
+        return None;
+    }
+    let ended = produce(rt, &mut node, &mut bank, items, 1, gate, stop);
+    left_behind(rt, alloc, &mut node, &mut bank, ended.err())
+}
+
+#[test]
+fn a_producer_keeps_the_count_that_it_saw(rt: HostRuntime) -> Result<(), Fail> {
+    let stop = AtomicBool::new(false);
+    // a write; the count, which is 1, and a write; the count again, and there it waits
+    let gate = Hears::new(ME, 4);
+    let found = produced_behind(&rt, rt.alloc(), &[7, 8, 9], &gate, &stop).ok_or("no bank")?;
+    let want = Left {
+        refusal: Some(WorkRefusal::Stalled),
+        names: 2,
+        first: 2,
+        count: 1,
+    };
+    same(&rt, &found, &want);
+    same(&rt, &gate.heard(), &Some((7, 4)));
+    Ok(())
 }
 
 #[test]

@@ -63,7 +63,7 @@ fn refuses(rt: &impl Abort, alloc: Global) -> Result<(), Fail> {
     Ok(())
 }
 
-/// Growths: 1 of serve_talk, 3 made up for, 10 of serve_talk, 1 made up for, 2 of serve_talk.
+/// Growths: 17 of serve_talk.
 #[test]
 fn refused_growths(rt: HostRuntime) -> Result<(), Fail> {
     refuses(&rt, rt.alloc())

@@ -38,8 +38,7 @@ fn refuses(rt: &impl Abort, alloc: Global) -> Result<(), Fail> {
     Ok(())
 }
 
-/// Growths: 4 made up for, 1 of say, 1 made up for, 15 of say, 2 made up for, 2 of say, 1 made up for, 3 of say, 1 made up for,
-/// 4 of say.
+/// Growths: 34 of say.
 #[test]
 fn refused_growths(rt: HostRuntime) -> Result<(), Fail> {
     refuses(&rt, rt.alloc())
@@ -79,7 +78,7 @@ fn explains(rt: &impl Abort, alloc: Global) -> Result<(), Fail> {
     Ok(())
 }
 
-/// Growths: 3 made up for, 16 of why_script, 2 made up for, 15 of say, 2 made up for.
+/// Growths: 19 of why_script, 18 of say, 1 of why.
 #[test]
 fn refused_growths_of_reasons(rt: HostRuntime) -> Result<(), Fail> {
     explains(&rt, rt.alloc())

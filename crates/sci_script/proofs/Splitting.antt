@@ -1,0 +1,61 @@
+-- The words of a line, from the first to the last.
+use Rattle.std.proofs.Common.{◌≡◌, ◌∙◌, ℕ, ◌+◌, ◌-◌, ◌<◌, ◌≤◌, ◌==◌, Ok, true, false, not, List, [], ◌∷◌, ◌++◌, All, length, get_or, take, drop, filter, refl, sym, ap, arith, subst}
+use Rattle.std.specs.List.{AllWithin, list_all, slice_split}
+use Rattle.std.proofs.lemmas.List.{append_assoc, drop_more, drop-drop, get_or-take, get_or-drop, get_or_default, length-take, take-append-drop, take_rest}
+use Rattle.std.proofs.lemmas.List.Elements.{AllWithin-more, AllWithin-upto, All-from_all_within, filter-append}
+use Rattle.std.proofs.lemmas.List.Splits.{slice_split_at, slice_split_none}
+use Rattle.std.proofs.lemmas.List.Sums.{list_all-from_AllPass}
+use Rattle.std.proofs.lemmas.Bool.Decides.{nat_tests}
+use Rattle.sci_script.specs.Format.{words_at}
+use Rattle.sci_script.specs.Words.{is_blank, is_plain, words_of}
+
+-- a word, if it has bytes
+abbrev put : List ℕ → List (List ℕ)
+put word = filter (λ w. not (length w == 0)) (word ∷ [])
+
+-- the bytes of a part have what those of the line have there
+solid : (line : List ℕ) (start at : ℕ) → AllWithin (λ b. is_blank b ≡ false) line start at → All (λ b. is_blank b ≡ false) (take (at - start) (drop start line))
+solid line start at h k d lt =
+    let inside : k < at - start = omega (arith, lt, length-take (at - start) (drop start line)) in
+    subst (λ (b : ℕ). is_blank b ≡ false) (sym (get_or-take (at - start) (drop start line) k d inside ∙ get_or-drop start line k d)) (h (start + k) d (omega arith) (omega (arith, inside)))
+
+-- a word in front of a blank, and the words behind it
+pub word_first : (line : List ℕ) (start at : ℕ) → start ≤ at → at < length line → AllWithin (λ b. is_blank b ≡ false) line start at → is_blank (get_or line at 0) ≡ true
+    → words_of (drop start line) ≡ put (take (at - start) (drop start line)) ++ words_of (drop (at + 1) line)
+word_first line start at begun inside none blank =
+    let word : List ℕ = take (at - start) (drop start line) in
+    let rest : List ℕ = drop (at + 1) line in
+    let behind : drop (at - start) (drop start line) ≡ drop at line = drop-drop (at - start) start line ∙ ap (λ (n : ℕ). drop n line) (omega (arith, begun)) in
+    let cut : drop start line ≡ word ++ get_or line at 0 ∷ rest = sym (take-append-drop (at - start) (drop start line)) ∙ ap (λ (l : List ℕ). word ++ l) (behind ∙ drop_more line at 0 inside) in
+    ap words_of cut ∙ ap (filter (λ w. not (length w == 0))) (slice_split_at is_blank word (get_or line at 0) rest (solid line start at none) blank) ∙ filter-append (λ w. not (length w == 0)) (word ∷ []) (slice_split is_blank rest)
+
+-- a last word
+pub word_last : (line : List ℕ) (start at : ℕ) → length line ≤ at → AllWithin (λ b. is_blank b ≡ false) line start at → words_of (drop start line) ≡ put (take (length line - start) (drop start line))
+word_last line start at past none =
+    let word : List ℕ = take (length line - start) (drop start line) in
+    ap words_of (sym (take_rest line start))
+    ∙ ap (filter (λ w. not (length w == 0))) (slice_split_none is_blank word (solid line start (length line) (AllWithin-upto (λ b. is_blank b ≡ false) line start at (length line) past none)))
+
+-- words behind those so far
+pub words_more : (old new more rest left all : List (List ℕ)) → new ≡ old ++ more → left ≡ more ++ rest → old ++ left ≡ all → new ++ rest ≡ all
+words_more old new more rest left all put cut h = ap (λ (l : List (List ℕ)). l ++ rest) put ∙ append_assoc old more rest ∙ ap (λ (l : List (List ℕ)). old ++ l) (sym cut) ∙ h
+
+-- a last word behind those so far
+pub words_end : (old new last left all : List (List ℕ)) → new ≡ old ++ last → left ≡ last → old ++ left ≡ all → new ≡ all
+words_end old new last left all put cut h = cc
+
+-- a blank is plain
+plain_blank : (b : ℕ) → is_blank b ≡ true → is_plain b ≡ true
+plain_blank b h = grind (arith, nat_tests)
+
+-- a blank behind plain bytes
+pub plain_more : (line : List ℕ) (at : ℕ) → at < length line → AllWithin (λ b. is_plain b ≡ true) line 0 at → is_blank (get_or line at 0) ≡ true → AllWithin (λ b. is_plain b ≡ true) line 0 (at + 1)
+plain_more line at inside h blank =
+    AllWithin-more (λ b. is_plain b ≡ true) line 0 at h (λ d. subst (λ (b : ℕ). is_plain b ≡ true) (get_or_default line at 0 d inside) (plain_blank (get_or line at 0) blank))
+
+-- a line of plain bytes gives its words
+pub line_read : (number : ℕ) (line : List ℕ) (at : ℕ) (words : List (List ℕ)) → length line ≤ at → AllWithin (λ b. is_plain b ≡ true) line 0 at → words ≡ words_of line → words_at number line ≡ Ok words
+unfolding words_at
+line_read number line at words past h is =
+    let plain : list_all is_plain line ≡ true = list_all-from_AllPass is_plain line (All-from_all_within (λ b. is_plain b ≡ true) line (AllWithin-upto (λ b. is_plain b ≡ true) line 0 at (length line) past h)) in
+    rw (plain, is) refl
