@@ -21,7 +21,7 @@ REASONS = [
     ("memory 1 1\nlist 0\nopen 0 0 0 0 0 0 0 0 0 0\n", "16 at line 3", "too late for this command", ""),
     ("memory 1025 1\n", "17 at line 1", "word 2: a number from 1 to 1024 wanted", ""),
     ("memory 1 1\ncapacity 0\n", "17 at line 2", "word 2: a number from 1 to 1024 wanted", ""),
-    ("memory 1 1\nload 00000000000000000000000 0 0\n", "17 at line 2", "word 2: at most 20 digits wanted", ""),
+    ("memory 1 1\nload 000000000000000000000 0 0\n", "17 at line 2", "word 2: at most 20 digits wanted", ""),
     ("memory 1 1\nadd 0 0 0 100000000000000000000\n", "17 at line 2", "word 5: at most 20 digits wanted", ""),
     ("memory 1 1\nload 0 0 8\n", "17 at line 2", "word 4: a number from 0 to 7 wanted", ""),
     ("memory 2 3\nload 2 0 0\n", "17 at line 2", "word 2: a number from 0 to 1 wanted", ""),

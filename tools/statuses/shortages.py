@@ -22,8 +22,8 @@ def growing():
 
 GROWING, ITS_TEXT = growing()
 ONE = COUNT.replace("nodes = 4", "nodes = 1")
-# a count keeps 144 bytes of each of its adds
-MILLIONS = COUNT.replace("adds = 1000\n", "adds = 1000000\n")
+# a count keeps 144 bytes of each of its adds: 300,000,000 bytes hold one node's and the other's stack, so both threads start, and not both's
+MILLIONS = COUNT.replace("nodes = 4", "nodes = 2").replace("adds = 1000\n", "adds = 1000000\n")
 
 
 def summed(phases):

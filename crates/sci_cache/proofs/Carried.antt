@@ -1,11 +1,11 @@
 -- A node's turn over a bank, as what the bank stands for sees it.
-use Rattle.std.proofs.Common.{◌≡◌, ℕ, Option, Some, None, Result, Ok, Err, List, refl, sym, ap, subst, ◌∙◌}
+use Rattle.std.proofs.Common.{ℕ, Option, Some, None, Result, Ok, Err, refl, ap}
 use Rattle.sci_core.specs.declared.pending.Pending.{Pending}
 use Rattle.sci_port.specs.declared.calls.Call.{Call}
 use Rattle.sci_ops.specs.declared.answers.Turn.{Turn}
 use Rattle.sci_cache.specs.declared.calls.OpenCall.{OpenCall}
 use Rattle.sci_cache.specs.declared.refusals.NodeRefusal.{NodeRefusal}
-use Rattle.sci_cache.specs.Nodes.{NodeState, TurnsAt, TurnsBy, line_by, op_by}
+use Rattle.sci_cache.specs.Nodes.{NodeState, TurnsBy, line_by, op_by}
 use Rattle.sci_cache.proofs.Through.{turn_through, answer_through}
 
 module _ {U V : Type 0} (gives : U → ℕ → Call → U → Type 0) (given : V → ℕ → Call → V → Type 0) (f : U → V) (step : V → ℕ → Pending)

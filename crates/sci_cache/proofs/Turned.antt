@@ -7,12 +7,12 @@ use Rattle.sci_port.specs.ReceiptList.{ReceiptList}
 use Rattle.sci_ops.specs.declared.goals.Goal.{Goal}
 use Rattle.sci_ops.specs.declared.answers.Answer.{Answer}
 use Rattle.sci_ops.specs.declared.answers.Turn.{Turn}
-use Rattle.sci_ops.specs.Answers.{AnswersAt, ChainTo, IsAnswer}
+use Rattle.sci_ops.specs.Answers.{AnswersAt, ChainTo, GoesOn, IsAnswer}
 use Rattle.sci_ops.specs.Kept.{KeepsAnswer}
 use Rattle.sci_ops.specs.Operation.{Operation}
 use Rattle.sci_ops.specs.Plan.{Takes, LoadsAtMost}
 use Rattle.sci_ops.specs.Room.{IsProvided, KeepsTurn}
-use Rattle.sci_ops.specs.Table.{turn_of}
+use Rattle.sci_ops.specs.Table.{begun, turn_of}
 use Rattle.sci_cache.specs.declared.calls.OpenCall.{OpenCall}
 use Rattle.sci_cache.specs.declared.refusals.NodeRefusal.{NodeRefusal}
 use Rattle.sci_cache.specs.Called.{KeepsTurnOf}
@@ -95,13 +95,21 @@ module _ {U : Type 0} (gives : U → ℕ → Call → U → Type 0) (step : U �
         last = subst (λ (x : Option ℕ). LastBy (op_by x c.op) (line_by x c.line)) (sym victim) last_op;
       }
 
--- a turn that goes on leaves the node as it is
-pub goes_on : (n : NodeState) (c : OpenCall) (w : Option ℕ) (t : Turn) → n.call ≡ Some c → ((answer : Answer) → t ≡ Turn.Done answer → ⊥) → (t ≡ shown_by w t) × (n ≡ record n { residents = residents_after c w t n.residents; call = call_after c w t })
-goes_on n c w (Turn.Done answer) is not = absurd (not answer refl)
-goes_on n c None Turn.Moved is not = (refl, ap (λ (o : Option OpenCall). record n { call = o }) is)
-goes_on n c None Turn.Waiting is not = (refl, ap (λ (o : Option OpenCall). record n { call = o }) is)
-goes_on n c (Some x) Turn.Moved is not = (refl, ap (λ (o : Option OpenCall). record n { call = o }) is)
-goes_on n c (Some x) Turn.Waiting is not = (refl, ap (λ (o : Option OpenCall). record n { call = o }) is)
+-- the operation of a goal that goes on
+pub begun_is : (g : Goal) (op : Operation) → g ≡ op.goal → op.answer ≡ None → begun g ≡ op
+begun_is g op towards goes_on = λ i. record { goal = towards i; answer = sym goes_on i }
+
+-- that of a goal read off an operation that has begun
+pub begun_as : (g k : Goal) (op : Operation) → g ≡ op.goal → op ≡ begun k → begun g ≡ begun k
+begun_as g k op towards begins = ap begun (towards ∙ ap (λ (o : Operation). o.goal) begins)
+
+-- a turn that ends nothing leaves the node as it is
+pub stays_on : (n : NodeState) (c : OpenCall) (w : Option ℕ) (t : Turn) → GoesOn t → n.call ≡ Some c → (t ≡ shown_by w t) × (n ≡ record n { residents = residents_after c w t n.residents; call = call_after c w t })
+stays_on n c w (Turn.Done answer) h is = absurd (h answer refl)
+stays_on n c None Turn.Moved h is = (refl, ap (λ (o : Option OpenCall). record n { call = o }) is)
+stays_on n c (Some x) Turn.Moved h is = (refl, ap (λ (o : Option OpenCall). record n { call = o }) is)
+stays_on n c None Turn.Waiting h is = (refl, ap (λ (o : Option OpenCall). record n { call = o }) is)
+stays_on n c (Some x) Turn.Waiting h is = (refl, ap (λ (o : Option OpenCall). record n { call = o }) is)
 
 taken_other : (g : Goal) (line : ℕ) (xs : List ℕ) → (g ≡ Goal.Evict → ⊥) → xs ≡ taken_by g line xs
 taken_other Goal.Evict line xs h = absurd (h refl)

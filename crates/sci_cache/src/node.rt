@@ -15,6 +15,7 @@ use crate::refusals::NodeRefusal;
 use crate::requests::Request;
 use crate::tables::{last_of_full, make_recent, renew, take_out};
 use lru::LruCache;
+use sci_core::Line;
 use sci_ops::{Goal, Op, Turn};
 use sci_port::Bank;
 use sci_words::{LineNo, NodeId};
@@ -256,7 +257,11 @@ impl Node {
         if request.is_evict() {
             return Ok(None);
         }
-        make_recent(&mut self.table, request.line())
+        let line = request.line();
+        if renew(&mut self.table, line) {
+            return Ok(None);
+        }
+        make_recent(&mut self.table, line)
     }
 
     // Ends a call that was never opened: an eviction takes its line out.
@@ -296,27 +301,31 @@ impl Node {
             return Err(NodeRefusal::NoCall);
         };
         let line = call.line;
+        let mut shown = Line::ZERO;
+        // Arm by arm: a turn without an answer copies none.
         if let Some(victim) = call.victim {
-            let turn = turn_at(bank, victim, &Op::evict());
-            let Turn::Done(_) = turn else {
-                return Ok(turn);
-            };
+            match turn_at(bank, victim, &Goal::Evict, &mut shown) {
+                Turn::Moved => return Ok(Turn::Moved),
+                Turn::Waiting => return Ok(Turn::Waiting),
+                Turn::Done(_) => (),
+            }
             let op = call.op;
             let victim = None;
             self.call = Some(OpenCall { line, op, victim });
             return Ok(Turn::Moved);
         }
-        let turn = turn_at(bank, line, &call.op);
-        let Turn::Done(_) = turn else {
-            return Ok(turn);
-        };
-        let goal = call.op.goal();
-        self.call = None;
-        let Goal::Evict = goal else {
-            return Ok(turn);
-        };
-        take_out(&mut self.table, line);
-        Ok(turn)
+        match turn_at(bank, line, call.op.goal(), &mut shown) {
+            Turn::Moved => Ok(Turn::Moved),
+            Turn::Waiting => Ok(Turn::Waiting),
+            Turn::Done(answer) => {
+                let goal = *call.op.goal();
+                self.call = None;
+                if let Goal::Evict = goal {
+                    take_out(&mut self.table, line);
+                }
+                Ok(Turn::Done(answer))
+            }
+        }
     }
 
     /// The lines that the table names, most recent first, at most as many as the capacity.

@@ -15,7 +15,8 @@ use crate::ports::turn_at;
 use crate::refusals::NodeRefusal;
 use crate::requests::Request;
 use crossbeam_utils::Backoff;
-use sci_ops::{Answer, Op, Turn};
+use sci_core::Line;
+use sci_ops::{Answer, Goal, Turn};
 use sci_port::Bank;
 use sci_words::LineNo;
 use std::sync::Wait;
@@ -26,10 +27,10 @@ fn leave<B: Bank, R: Wait>(rt: &R, bank: &mut B, victim: LineNo)
     requires line { victim < (B.way bank.old).lines }
     ensures { HasMadeWay B.way B.nodes_on B.keep B.gives B.readies B.at_step B.told (Some victim) bank.old bank.new }
 {
-    let op = Op::evict();
+    let mut shown = Line::ZERO;
     let backoff = Backoff::new();
     for _ in rt.forever() {
-        match turn_at(bank, victim, &op) {
+        match turn_at(bank, victim, &Goal::Evict, &mut shown) {
             Turn::Done(_) => return,
             Turn::Moved => backoff.reset(),
             Turn::Waiting => backoff.snooze(),
@@ -73,9 +74,11 @@ impl Node {
         make_way(rt, bank, victim);
         let line = request.line();
         let Ok(op) = request.op() else { unreachable!() };
+        let goal = *op.goal();
+        let mut shown = Line::ZERO;
         let backoff = Backoff::new();
         for _ in rt.forever() {
-            match turn_at(bank, line, &op) {
+            match turn_at(bank, line, &goal, &mut shown) {
                 Turn::Done(Answer::Spent) => return Err(NodeRefusal::StampsSpent),
                 Turn::Done(answer) => {
                     self.close(&request);

@@ -1,5 +1,5 @@
 -- What a turn leaves in its node's receipts. This project's profile.
-use Rattle.std.specs.Prelude.{◌≡◌, ℕ, ◌<◌, false, None, List, [], ◌∷◌, ◌++◌}
+use Rattle.std.specs.Prelude.{◌≡◌, ◌<◌, false, None, List, [], ◌∷◌, ◌++◌}
 use Rattle.sci_core.specs.declared.receipts.Receipt.{Receipt}
 use Rattle.sci_core.specs.declared.receipts.Receipt.TheVariants.{Read, Wrote}
 use Rattle.sci_port.specs.KeepsAll.{Extends, IsNewLast}

@@ -8,4 +8,5 @@ pub mod Plan
 pub mod Ranking
 pub mod Rest
 pub mod Table
+pub mod TurnKinds
 pub mod Values

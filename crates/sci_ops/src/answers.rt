@@ -1,8 +1,9 @@
 //! What turns and operations answer.
 ghost use Rattle.std.specs.Prelude.{◌≡◌};
+ghost use Rattle.sci_ops.specs.TurnKinds.{turn_with};
 ghost use Rattle.sci_ops.specs.Plan.{turn_after};
 
-use sci_core::Outcome;
+use sci_core::{Line, Outcome};
 
 /// What an operation ends with.
 #[derive(Clone, Copy, Debug, PartialEq, Eq)]
@@ -44,25 +45,71 @@ pub enum End {
     Out,
 }
 
-impl End {
-    /// The turn, by the exchange's outcome.
+/// The kind of a turn. The line that it shows stands apart, so that a turn that shows none copies none: of `Seen` the line, of
+/// `Wrote` the words before, with the new stamp.
+#[derive(Clone, Copy, Debug, PartialEq, Eq)]
+pub enum TurnKind {
+    /// An exchange was made, and the operation goes on.
+    Moved,
+    /// No exchange was made.
+    Waiting,
+    /// A load saw a line.
+    Seen,
+    /// A write replaced a line's words.
+    Wrote,
+    /// A write found the last stamp.
+    Spent,
+    /// An eviction made the tag Invalid, or found it so.
+    Out,
+}
+
+impl TurnKind {
+    /// The turn, with the line that it shows.
     #[inline(always)]
-    pub(crate) fn turn_after(self, outcome: Outcome) -> Turn
-        ensures { result ≡ turn_after self outcome }
+    pub(crate) fn with(self, shown: &Line) -> Turn
+        ensures { result ≡ turn_with self shown.now }
+    {
+        match self {
+            TurnKind::Moved => Turn::Moved,
+            TurnKind::Waiting => Turn::Waiting,
+            TurnKind::Seen => Turn::Done(Answer::Seen {
+                words: shown.words,
+                stamp: shown.stamp,
+            }),
+            TurnKind::Wrote => Turn::Done(Answer::Wrote {
+                before: shown.words,
+                stamp: shown.stamp,
+            }),
+            TurnKind::Spent => Turn::Done(Answer::Spent),
+            TurnKind::Out => Turn::Done(Answer::Out),
+        }
+    }
+}
+
+impl End {
+    /// The turn's kind, by the exchange's outcome. The line that it shows, if it shows one, goes into `shown`.
+    #[inline(always)]
+    pub(crate) fn kind_after(self, outcome: Outcome, shown: &mut Line) -> TurnKind
+        ensures { turn_with result shown.new ≡ turn_after self outcome }
     {
         let Outcome::Done(line) = outcome else {
-            return Turn::Waiting;
+            return TurnKind::Waiting;
         };
         match (self, line) {
             (End::Seen, Some(line)) => {
-                let words = line.words;
-                let stamp = line.stamp;
-                Turn::Done(Answer::Seen { words, stamp })
+                *shown = line;
+                TurnKind::Seen
             }
-            (End::Wrote { before, stamp }, _) => Turn::Done(Answer::Wrote { before, stamp }),
-            (End::Out, _) => Turn::Done(Answer::Out),
-            (End::Spent, _) => Turn::Done(Answer::Spent),
-            (End::Moved, _) | (End::Seen, None) => Turn::Moved,
+            (End::Wrote { before, stamp }, _) => {
+                *shown = Line {
+                    words: before,
+                    stamp,
+                };
+                TurnKind::Wrote
+            }
+            (End::Out, _) => TurnKind::Out,
+            (End::Spent, _) => TurnKind::Spent,
+            (End::Moved, _) | (End::Seen, None) => TurnKind::Moved,
         }
     }
 }

@@ -1,8 +1,17 @@
 //! What operations are for.
-ghost use Rattle.std.specs.Prelude.{◌≡◌, ◌<◌, ◌≤◌, ◌↔◌, IfOk, IsErr};
-ghost use Rattle.sci_ops.specs.Change.{change};
+ghost use Rattle.std.specs.Prelude.{◌≡◌, ◌<◌, ◌≤◌, ◌↔◌, None, IfOk, IsErr};
+ghost use Rattle.sci_ops.specs.Answers.{AnswersAt};
+ghost use Rattle.sci_ops.specs.Change.{change, StoresFitting};
+ghost use Rattle.sci_ops.specs.Kept.{KeepsAnswer};
+ghost use Rattle.sci_ops.specs.Plan.{Takes, LoadsAtMost};
+ghost use Rattle.sci_ops.specs.Room.{IsProvided, KeepsTurn};
+ghost use Rattle.sci_ops.specs.Table.{begun, turn_of};
 
+use crate::answers::Turn;
 use crate::refusals::BadWord;
+use crate::turns::turn_towards;
+use sci_core::Line;
+use sci_port::Port;
 use std::marker::Model;
 
 /// The number of a word of a line, 0 to 7. Contracts see it as that number.
@@ -82,4 +91,22 @@ pub enum Goal {
     Write(Write),
     /// To leave the line's sharing list.
     Evict,
+}
+
+impl Goal {
+    /// One turn towards it, as `Op::turn` takes one of an operation that goes on. `shown` is room for the line that the turn shows: what
+    /// stands there before is of no account, and one does for many turns.
+    #[inline(always)]
+    pub fn turn<P: Port>(&self, port: &mut P, shown: &mut Line) -> Turn
+        requires fits { StoresFitting (P.Keep.fits (P.keep port.old) (P.way port.old).number) self.now }
+        ensures calls { Takes P.gives (turn_of (begun self.now) (P.way port.old).node (P.at_step port.old)) port.old result port.new }
+        ensures answers { AnswersAt P.gives P.at_step (begun self.now) (P.way port.old).node port.old result port.new }
+        ensures last { KeepsAnswer (begun self.now) result (P.told port.old) (P.told port.new) }
+        ensures kept { IsProvided self.now None (P.at_step port.old) (P.told port.old) → KeepsTurn P.gives P.told (begun self.now) port.old result port.new (P.at_step port.new) }
+        ensures loads { LoadsAtMost 3 (turn_of (begun self.now) (P.way port.old).node (P.at_step port.old)) }
+        ensures same_way { P.way port.new ≡ P.way port.old }
+        ensures same_fact { P.keep port.new ≡ P.keep port.old }
+    {
+        turn_towards(port, shown, self).with(shown)
+    }
 }

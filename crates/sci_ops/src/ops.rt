@@ -19,8 +19,7 @@ ghost use Rattle.sci_ops.specs.Values.{IsTrueTurn};
 use crate::answers::{Answer, Turn};
 use crate::goals::{Goal, WordNo, Write};
 use crate::refusals::BadWord;
-use crate::turns::turn_towards;
-use sci_core::{Keeps, Pending, Whole};
+use sci_core::{Keeps, Line, Pending, Whole};
 use sci_port::{Port, Receipts, Solo};
 use sci_words::NodeId;
 use std::marker::Model;
@@ -96,10 +95,10 @@ impl Op {
 
     /// What it is for.
     #[inline(always)]
-    pub fn goal(&self) -> Goal
-        ensures { result ≡ self.now.goal }
+    pub fn goal(&self) -> &Goal
+        ensures { result.now ≡ self.now.goal }
     {
-        self.goal
+        &self.goal
     }
 
     /// Its answer, once it has ended.
@@ -149,28 +148,12 @@ impl Op {
         if let Some(answer) = self.answer {
             return Turn::Done(answer);
         }
-        let turn = self.turn_once(port);
+        let mut shown = Line::ZERO;
+        let turn = self.goal.turn(port, &mut shown);
         if let Turn::Done(answer) = turn {
             self.answer = Some(answer);
         }
         turn
-    }
-
-    /// One turn, as `turn` takes it, of an operation that goes on. The operation stays as it is: who keeps it learns its answer from what
-    /// this gives.
-    #[inline(always)]
-    pub fn turn_once<P: Port>(&self, port: &mut P) -> Turn
-        requires goes_on { self.now.answer ≡ None }
-        requires fits { StoresFitting (P.Keep.fits (P.keep port.old) (P.way port.old).number) self.now.goal }
-        ensures calls { Takes P.gives (turn_of self.now (P.way port.old).node (P.at_step port.old)) port.old result port.new }
-        ensures answers { AnswersAt P.gives P.at_step self.now (P.way port.old).node port.old result port.new }
-        ensures last { KeepsAnswer self.now result (P.told port.old) (P.told port.new) }
-        ensures kept { IsProvided self.now.goal self.now.answer (P.at_step port.old) (P.told port.old) → KeepsTurn P.gives P.told self.now port.old result port.new (P.at_step port.new) }
-        ensures loads { LoadsAtMost 3 (turn_of self.now (P.way port.old).node (P.at_step port.old)) }
-        ensures same_way { P.way port.new ≡ P.way port.old }
-        ensures same_fact { P.keep port.new ≡ P.keep port.old }
-    {
-        turn_towards(port, &self.goal)
     }
 
     /// One turn of a node on a line that is lent to it: `turn` over its `Solo`. Nobody comes between its loads and its

@@ -7,11 +7,11 @@ use Rattle.std.proofs.lemmas.List.Splits.{slice_split_at, slice_split_none}
 use Rattle.std.proofs.lemmas.List.Sums.{list_all-from_AllPass}
 use Rattle.std.proofs.lemmas.Bool.Decides.{nat_tests}
 use Rattle.sci_script.specs.Format.{words_at}
-use Rattle.sci_script.specs.Words.{is_blank, is_plain, words_of}
+use Rattle.sci_script.specs.Words.{has_bytes, is_blank, is_plain, words_of}
 
 -- a word, if it has bytes
 abbrev put : List ℕ → List (List ℕ)
-put word = filter (λ w. not (length w == 0)) (word ∷ [])
+put word = filter has_bytes (word ∷ [])
 
 -- the bytes of a part have what those of the line have there
 solid : (line : List ℕ) (start at : ℕ) → AllWithin (λ b. is_blank b ≡ false) line start at → All (λ b. is_blank b ≡ false) (take (at - start) (drop start line))
@@ -27,14 +27,14 @@ word_first line start at begun inside none blank =
     let rest : List ℕ = drop (at + 1) line in
     let behind : drop (at - start) (drop start line) ≡ drop at line = drop-drop (at - start) start line ∙ ap (λ (n : ℕ). drop n line) (omega (arith, begun)) in
     let cut : drop start line ≡ word ++ get_or line at 0 ∷ rest = sym (take-append-drop (at - start) (drop start line)) ∙ ap (λ (l : List ℕ). word ++ l) (behind ∙ drop_more line at 0 inside) in
-    ap words_of cut ∙ ap (filter (λ w. not (length w == 0))) (slice_split_at is_blank word (get_or line at 0) rest (solid line start at none) blank) ∙ filter-append (λ w. not (length w == 0)) (word ∷ []) (slice_split is_blank rest)
+    ap words_of cut ∙ ap (filter has_bytes) (slice_split_at is_blank word (get_or line at 0) rest (solid line start at none) blank) ∙ filter-append has_bytes (word ∷ []) (slice_split is_blank rest)
 
 -- a last word
 pub word_last : (line : List ℕ) (start at : ℕ) → length line ≤ at → AllWithin (λ b. is_blank b ≡ false) line start at → words_of (drop start line) ≡ put (take (length line - start) (drop start line))
 word_last line start at past none =
     let word : List ℕ = take (length line - start) (drop start line) in
     ap words_of (sym (take_rest line start))
-    ∙ ap (filter (λ w. not (length w == 0))) (slice_split_none is_blank word (solid line start (length line) (AllWithin-upto (λ b. is_blank b ≡ false) line start at (length line) past none)))
+    ∙ ap (filter has_bytes) (slice_split_none is_blank word (solid line start (length line) (AllWithin-upto (λ b. is_blank b ≡ false) line start at (length line) past none)))
 
 -- words behind those so far
 pub words_more : (old new more rest left all : List (List ℕ)) → new ≡ old ++ more → left ≡ more ++ rest → old ++ left ≡ all → new ++ rest ≡ all

@@ -1,8 +1,8 @@
 //! The words of a line.
 
-ghost use Rattle.std.specs.Prelude.{◌≡◌, ◌++◌, ◌==◌, ◌∷◌, [], OnOk, filter, length, map, not};
+ghost use Rattle.std.specs.Prelude.{◌≡◌, ◌++◌, ◌∷◌, [], OnOk, filter, map};
 ghost use Rattle.std.specs.List.{list_all};
-ghost use Rattle.sci_script.specs.Words.{is_blank, is_skipped};
+ghost use Rattle.sci_script.specs.Words.{has_bytes, is_blank, is_skipped};
 ghost use Rattle.sci_script.specs.Format.{Gives, words_at};
 
 use crate::refusals::ScriptRefusal;
@@ -29,7 +29,7 @@ pub fn is_skipped(line: &[u8]) -> bool
 
 /// Puts a word behind the words, if it has bytes.
 fn put_word<'a>(words: &mut Vec<&'a [u8]>, word: &'a [u8]) -> Result<(), AllocError>
-    ensures { OnOk result (map (λ w. w.now) words.new.items ≡ map (λ w. w.now) words.old.items ++ filter (λ w. not (length w == 0)) (word.now ∷ [])) }
+    ensures { OnOk result (map (λ w. w.now) words.new.items ≡ map (λ w. w.now) words.old.items ++ filter has_bytes (word.now ∷ [])) }
 {
     if !word.is_empty() {
         words.push(word)?;

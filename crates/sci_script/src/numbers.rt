@@ -1,8 +1,9 @@
 //! Numbers: 1 to 20 decimal digits, at most u64::MAX.
 
-ghost use Rattle.std.specs.Prelude.{◌≡◌, ◌≤◌, IfOk};
+ghost use Rattle.std.specs.Prelude.{◌≡◌, ◌≤◌, IfErr, IfOk};
 ghost use Rattle.std.specs.Char.{is_ascii_digit};
 ghost use Rattle.std.specs.List.{list_all};
+ghost use Rattle.sci_script.specs.declared.refusals.ScriptRefusal.TheVariants.{BadNumber};
 ghost use Rattle.sci_script.specs.Words.{is_long, number_of};
 ghost use Rattle.sci_script.specs.Format.{Gives, number_at};
 
@@ -43,6 +44,7 @@ pub fn number(word: &[u8]) -> Option<u64>
 pub fn number_within(line: u64, low: u64, high: u64, word: &[u8]) -> Result<u64, ScriptRefusal>
     ensures exact { Gives (λ n. n) result (number_at line low high word.now) }
     ensures high { IfOk result (λ n. n ≤ high) }
+    ensures refused { IfErr result (λ e. e ≡ BadNumber line) }
 {
     match number(word) {
         Some(value) if low <= value && value <= high => Ok(value),

@@ -107,7 +107,7 @@ fn goal_on(line: LineNo, call: Option<OpenCall>) -> Option<Goal>
     let call = call?;
     match call.victim {
         Some(victim) if victim == line => Some(Goal::Evict),
-        None if call.line == line => Some(call.op.goal()),
+        None if call.line == line => Some(*call.op.goal()),
         _ => None,
     }
 }
@@ -126,7 +126,7 @@ impl WholeDesk {
                     ..
                 },
             ) => Some(Goal::Evict),
-            Some(call) => Some(call.op.goal()),
+            Some(call) => Some(*call.op.goal()),
             None => None,
         }
     }

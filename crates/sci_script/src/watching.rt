@@ -15,8 +15,8 @@ ghost use Rattle.sci_script.specs.Turns.{TurnsOn};
 use crate::desk::Toward;
 use crate::wholes::WholeDesk;
 use sci_cache::{Node, turn_at};
-use sci_core::{AnyWords, Event, Outcome, Pending, Stage};
-use sci_ops::{Op, Turn};
+use sci_core::{AnyWords, Event, Line, Outcome, Pending, Stage};
+use sci_ops::{Goal, Turn};
 use sci_port::{Bank, SoloBank};
 use sci_words::{LineNo, Mem, NodeId, Tag};
 use std::alloc::AllocError;
@@ -234,7 +234,8 @@ fn load_turn<B: Bank>(bank: &mut B, line: LineNo) -> Turn
     ensures same_way { B.way bank.new ≡ B.way bank.old }
     ensures same_nodes { (m : ℕ) → B.nodes_on bank.new m ≡ B.nodes_on bank.old m }
 {
-    turn_at(bank, line, &Op::load())
+    let mut shown = Line::ZERO;
+    turn_at(bank, line, &Goal::Load, &mut shown)
 }
 
 /// One turn of a load on the line by the node that the bank is seated at, and what passed.

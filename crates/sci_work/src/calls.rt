@@ -63,7 +63,7 @@ pub(crate) fn loaded<R: Wait, G: Gate, B: Bank>(
     }
 }
 
-// How often a node looks at its own tag, at most, before it loads the line again.
+// How many more looks a node takes at its own tag, at most, behind the first and before it loads the line again.
 const LOOKS: u32 = 64;
 
 /// Waits while the node's own tag stays as it is: no other node writes to the line before it has changed that. Refusal 25.

@@ -1,5 +1,5 @@
 -- Each exchange of a node that isn't Idle leads nearer to rest.
-use Rattle.std.proofs.Common.{◌≡◌, ◌≢◌, ◌⊎◌, ◌<◌, ◌≤◌, ◌+◌, ◌*◌, ℕ, Bool, true, false, ◌&&◌, ◌||◌, not, cond, Option, Some, None, Ok, List, [], ◌∷◌, Contains, refl, sym, ap, subst, inl, inr, ⊎_elim, ◌∙◌, arith, eq-eqb}
+use Rattle.std.proofs.Common.{◌≡◌, ◌≢◌, ◌⊎◌, ◌<◌, ◌≤◌, ◌+◌, ◌*◌, ℕ, Bool, true, false, ◌||◌, not, cond, Option, Some, None, Ok, List, [], ◌∷◌, refl, sym, ap, subst, inl, inr, ⊎_elim, ◌∙◌, arith, eq-eqb}
 use Rattle.std.proofs.lemmas.Bool.Decides.{nat_tests}
 use Rattle.std.proofs.lemmas.Bool.{cases_eq, cases_Bool, false≢true}
 use Rattle.std.proofs.lemmas.List.Elements.{All-contains, All-cons, All-nil}
@@ -32,7 +32,6 @@ use Rattle.sci_core.specs.Waiting.{is_purging}
 use Rattle.sci_core.proofs.Costs.{trail_pays}
 use Rattle.sci_core.proofs.Going.Facts.{and_left, and_right, not_true, or_cases, found, fresh_kind, dirty_kind, body_kind, rolling_kind}
 use Rattle.sci_ops.specs.declared.answers.Turn.{Turn}
-use Rattle.sci_ops.specs.declared.answers.Answer.{Answer}
 use Rattle.sci_ops.specs.Alone.{on_line, TakesTurn}
 use Rattle.sci_ops.specs.Operation.{Operation}
 use Rattle.sci_ops.specs.Plan.{Plan, own, mem, tag, exchange, ends, Takes}
@@ -44,7 +43,7 @@ use Rattle.sci_ops.proofs.Ending.Inverse.{of_own, of_mem, of_tag}
 use Rattle.sci_ops.proofs.Ending.Rest.{next_in}
 use Rattle.sci_ops.proofs.Resting.Finding.{own_at}
 use Rattle.sci_ops.proofs.Resting.Ranking.{count_mono, count_drop, is_queueing, Calm, both_true, or_left, or_right, loose_elsewhere, loose_kept, late_kept, stale_kept, stirring_kept, settled_less, calmed_less, turned_less}
-use Rattle.sci_ops.proofs.Resting.Reading.{same_link, Renews, reach, IsDue, Came, came, Due, due_again, Done, done}
+use Rattle.sci_ops.proofs.Resting.Reading.{same_link, Renews, reach, IsDue, Came, came, due_again, Done, done}
 
 -- the actor stirs no more, or nobody becomes stale
 abbrev Steadies : Pending → Pending → Change → Type 0

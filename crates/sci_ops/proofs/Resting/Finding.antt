@@ -1,5 +1,5 @@
 -- What a lawful line says of the words that a pending step looks for.
-use Rattle.std.proofs.Common.{◌≡◌, ◌≢◌, ◌⊎◌, ℕ, Bool, true, false, Option, Some, None, List, [], Contains, refl, sym, ap, subst, inl, inr, ⊎_elim, ◌∙◌, arith}
+use Rattle.std.proofs.Common.{◌≡◌, ◌≢◌, ◌⊎◌, ℕ, Bool, true, false, Option, Some, None, List, Contains, refl, sym, ap, subst, inl, inr, ⊎_elim, ◌∙◌, arith}
 use Rattle.std.specs.Prelude.{cond}
 use Rattle.std.proofs.lemmas.Bool.{cases_Bool}
 use Rattle.sci_words.specs.declared.tags.Kind.{Kind}
@@ -8,19 +8,18 @@ use Rattle.sci_words.specs.declared.memory.Mem.{Mem}
 use Rattle.sci_words.specs.declared.memory.MemState.{MemState}
 use Rattle.sci_core.specs.declared.lines.Line.{Line}
 use Rattle.sci_core.specs.declared.pending.Pending.{Pending}
-use Rattle.sci_core.specs.State.{State, word, memory_word}
+use Rattle.sci_core.specs.State.{State}
 use Rattle.sci_core.specs.Shape.{Phase, phase_of, flag_of}
 use Rattle.sci_core.specs.Law.{is_front, is_body, has_memory_slot, can_be_held}
 use Rattle.sci_core.specs.Chain.{IsPath, forward}
 use Rattle.sci_core.specs.Copies.{IsCopying}
 use Rattle.sci_core.specs.Facts.{KeptWordStands, LentWordStands}
-use Rattle.sci_core.specs.Fronts.{IsFrontWord, IsBodyWord, IsLastFront, IsWaitingFront}
+use Rattle.sci_core.specs.Fronts.{IsFrontWord, IsBodyWord}
 use Rattle.sci_core.specs.Mode.{IsDirtyFront, IsDirtyWaiting, is_dirty_step, is_turned}
 use Rattle.sci_core.specs.Outside.{IsOutsider}
 use Rattle.sci_core.specs.PendingStep.{IsOwnWord}
 use Rattle.sci_core.specs.Row.{listed, purged_word}
 use Rattle.sci_core.specs.Run.{HasValue}
-use Rattle.sci_core.proofs.ReadBack.Elements.{contains_none}
 use Rattle.sci_ops.proofs.Ending.Rest.{path_first, path_none, contains_or_not, front_or_body, next_in, memory_is, word_is}
 
 -- the steps of a head that looks for its name in memory's word

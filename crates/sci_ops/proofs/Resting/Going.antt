@@ -10,11 +10,10 @@ use Rattle.sci_core.specs.declared.lines.Line.{Line}
 use Rattle.sci_core.specs.declared.pending.Pending.{Pending}
 use Rattle.sci_core.specs.declared.events.Event.{Event}
 use Rattle.sci_core.specs.Found.{names, is_fresh, is_dirty, is_settled_body, is_rolling, can_be_told, is_found}
-use Rattle.sci_core.specs.Progress.{GivesWayRightly, MovesIn, IsMover}
-use Rattle.sci_core.specs.Run.{HasValue}
+use Rattle.sci_core.specs.Progress.{GivesWayRightly, IsMover}
 use Rattle.sci_core.specs.Shape.{phase_of}
 use Rattle.sci_core.specs.State.{State}
-use Rattle.sci_core.specs.Step.{Finds, look_of, look_back, looked}
+use Rattle.sci_core.specs.Step.{Finds, look_of, look_back}
 use Rattle.sci_core.specs.Table.{has_row, row_of}
 use Rattle.sci_core.specs.Table.Purging.{can_count}
 use Rattle.sci_core.proofs.Going.Facts.{and_left, and_right, named}
@@ -26,7 +25,7 @@ use Rattle.sci_ops.specs.Alone.{on_line, TakesTurn}
 use Rattle.sci_ops.specs.Operation.{Operation}
 use Rattle.sci_ops.specs.Plan.{Plan, own, mem, tag, exchange, ends, ended, Takes}
 use Rattle.sci_ops.specs.Rest.{read, due_turn, is_exchange, ComesTo}
-use Rattle.sci_ops.specs.Table.{is_same, is_free, may_attach_fresh, may_attach_dirty, attach, may_adopt, is_behind, is_before, move, prepend, queueing_at, write, purge, purging_at, return_home, leave, promote, roll_on, roll, turn_in, turn_again}
+use Rattle.sci_ops.specs.Table.{is_same, is_free, attach, may_adopt, is_behind, is_before, move, prepend, queueing_at, write, purging_at, return_home, leave, roll, turn_in, turn_again}
 use Rattle.sci_ops.proofs.Ending.Inverse.{of_own}
 use Rattle.sci_ops.proofs.Resting.Finding.{own_at, rolling_back}
 use Rattle.sci_ops.proofs.Resting.Ranking.{both_true}

@@ -1,7 +1,7 @@
 -- A line is at most so far from rest, and what leads nearer.
-use Rattle.std.proofs.Common.{◌≡◌, ◌≢◌, ◌⊎◌, ◌<◌, ◌≤◌, ◌+◌, ◌*◌, ℕ, zero, suc, Bool, true, false, ◌&&◌, ◌||◌, not, Option, Some, None, List, Contains, refl, sym, ap, subst, inl, inr, ⊎_elim, ◌∙◌, arith}
-use Rattle.std.specs.Prelude.{cond, eqb}
-use Rattle.std.proofs.lemmas.Bool.{cases_eq, cases_Bool, cases_lt}
+use Rattle.std.proofs.Common.{◌≡◌, ◌≢◌, ◌⊎◌, ◌<◌, ◌≤◌, ◌+◌, ◌*◌, ℕ, zero, suc, Bool, true, false, ◌&&◌, ◌||◌, not, Option, Some, None, List, refl, sym, ap, inl, inr, ⊎_elim, ◌∙◌, arith}
+use Rattle.std.specs.Prelude.{cond}
+use Rattle.std.proofs.lemmas.Bool.{cases_eq}
 use Rattle.std.proofs.lemmas.Nat.{mul-le}
 use Rattle.sci_words.specs.declared.tags.Kind.{Kind}
 use Rattle.sci_words.specs.declared.tags.Tag.{Tag}
@@ -11,10 +11,9 @@ use Rattle.sci_core.specs.declared.pending.Pending.{Pending}
 use Rattle.sci_core.specs.declared.rows.Change.{Change}
 use Rattle.sci_core.specs.Costs.{of_kind, of_step, of_tag, total, measure}
 use Rattle.sci_core.specs.Found.{is_rolling}
-use Rattle.sci_core.specs.Law.{can_be_held}
 use Rattle.sci_core.specs.PendingStep.{IsOwnWord}
 use Rattle.sci_core.specs.Run.{HasValue}
-use Rattle.sci_core.specs.State.{State, update, word}
+use Rattle.sci_core.specs.State.{State, update}
 use Rattle.sci_core.specs.Step.{Finds, tags_after, memory_after}
 use Rattle.sci_core.specs.Waiting.{is_purging}
 use Rattle.sci_core.proofs.Going.Facts.{and_left, and_right, not_true, or_cases, rolling_kind}

@@ -1,20 +1,19 @@
 -- A turn that nobody comes between comes to what its plan is on the line as it stands: its exchange finds its word.
-use Rattle.std.proofs.Common.{◌≡◌, ◌≢◌, ℕ, Bool, true, false, Option, Some, None, Ok, List, refl, sym, ap, subst, ◌∙◌, arith}
-use Rattle.std.specs.Prelude.{◌+◌, is_some, if◌then◌else◌, ◌&&◌, not}
+use Rattle.std.proofs.Common.{◌≡◌, ◌≢◌, ℕ, Bool, true, false, Option, Some, None, Ok, List, refl, sym, ap, subst, arith}
+use Rattle.std.specs.Prelude.{◌+◌, is_some, if◌then◌else◌}
 use Rattle.std.proofs.lemmas.Bool.Decides.{nat_tests}
 use Rattle.sci_words.specs.declared.tags.Kind.{Kind}
 use Rattle.sci_words.specs.declared.tags.Tag.{Tag}
-use Rattle.sci_words.specs.declared.memory.Mem.{Mem}
 use Rattle.sci_words.specs.declared.memory.MemState.{MemState}
 use Rattle.sci_core.specs.declared.lines.Line.{Line}
 use Rattle.sci_core.specs.declared.pending.Pending.{Pending}
 use Rattle.sci_core.specs.declared.events.Event.{Event}
 use Rattle.sci_core.specs.declared.outcomes.Outcome.{Outcome}
-use Rattle.sci_core.specs.Answers.{Answers, Makes, row_at}
+use Rattle.sci_core.specs.Answers.{Answers, Makes}
 use Rattle.sci_core.specs.Facts.{seen_forward}
 use Rattle.sci_core.specs.Found.{names, is_settled_body}
 use Rattle.sci_core.specs.PendingStep.{IsOwnWord}
-use Rattle.sci_core.specs.Row.{listed, purging_word}
+use Rattle.sci_core.specs.Row.{purging_word}
 use Rattle.sci_core.specs.Run.{HasValue, KeepsLawful}
 use Rattle.sci_core.specs.Shape.{phase_of, flag_of, kept_of}
 use Rattle.sci_core.specs.State.{State, word, memory_word}
@@ -32,7 +31,7 @@ use Rattle.sci_ops.specs.Change.{change}
 use Rattle.sci_ops.specs.Operation.{Operation}
 use Rattle.sci_ops.specs.Plan.{Plan, own, mem, tag, exchange, ends, ended, turn_after, Takes}
 use Rattle.sci_ops.specs.Rest.{read, due_turn, ComesTo}
-use Rattle.sci_ops.specs.Table.{is_same, is_free, may_attach_fresh, may_attach_dirty, attach, may_adopt, is_behind, is_before, fresh, dirty, valid, invalid, idle_as, prepend, home_event, queueing_at, write, purge, purging_at, return_home, leave, promote, roll_on, roll, tell_successor, tell_predecessor, seen_end, out_end, turn_in, turn_again}
+use Rattle.sci_ops.specs.Table.{is_same, is_free, may_attach_fresh, may_attach_dirty, attach, may_adopt, is_behind, is_before, idle_as, prepend, queueing_at, write, purging_at, return_home, leave, roll_on, roll, seen_end, out_end, turn_in, turn_again}
 use Rattle.sci_ops.proofs.Ending.Inverse.{Tried, as_made, of_own, of_mem, of_tag, of_end, of_exchange}
 use Rattle.sci_ops.proofs.Ending.Moving.{looked_step}
 use Rattle.sci_ops.proofs.Ending.Rest.{memory_is}

@@ -1,5 +1,5 @@
 -- A turn of a mover, on the line that is brought to rest.
-use Rattle.std.proofs.Common.{◌≡◌, ◌≢◌, ◌<◌, ℕ, true, None, List, refl, sym, subst, ◌∙◌}
+use Rattle.std.proofs.Common.{◌≡◌, ◌≢◌, ◌<◌, ℕ, true, None, List, refl, subst, ◌∙◌}
 use Rattle.sci_core.specs.Progress.{IsMover}
 use Rattle.sci_core.specs.declared.lines.Line.{Line}
 use Rattle.sci_core.specs.Run.{HasValue}

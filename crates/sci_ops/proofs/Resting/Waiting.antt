@@ -1,9 +1,8 @@
 -- A turn of a node under way that doesn't move waits, and leaves all as it is but for a look.
-use Rattle.std.proofs.Common.{◌≡◌, ◌≢◌, ◌⊎◌, ℕ, Bool, true, false, cond, eqb, Option, Some, None, List, is_some, refl, sym, ap, subst, inl, inr, ⊎_elim, ◌∙◌, arith}
+use Rattle.std.proofs.Common.{◌≡◌, ◌≢◌, ◌⊎◌, ℕ, Bool, true, false, cond, eqb, Option, Some, None, List, is_some, refl, sym, ap, subst, inl, inr, ⊎_elim, ◌∙◌}
 use Rattle.std.specs.Prelude.{if◌then◌else◌}
 use mathlib.Core.Path.{fun_ext}
 use Rattle.sci_words.specs.declared.tags.Tag.{Tag}
-use Rattle.sci_words.specs.declared.memory.Mem.{Mem}
 use Rattle.sci_words.specs.declared.memory.MemState.{MemState}
 use Rattle.sci_core.specs.declared.lines.Line.{Line}
 use Rattle.sci_core.specs.declared.pending.Pending.{Pending}
@@ -24,7 +23,7 @@ use Rattle.sci_ops.specs.Alone.{on_line, TakesTurn}
 use Rattle.sci_ops.specs.Operation.{Operation}
 use Rattle.sci_ops.specs.Plan.{Plan, own, mem, tag, exchange, ends, Takes}
 use Rattle.sci_ops.specs.Rest.{read}
-use Rattle.sci_ops.specs.Table.{is_same, is_free, move, if_front, may_attach_fresh, may_attach_dirty, attach, may_adopt, is_behind, is_before, prepend, queueing_at, write, purge, purging_at, return_home, leave, promote, roll_on, roll, turn_in, turn_again}
+use Rattle.sci_ops.specs.Table.{is_same, is_free, move, if_front, may_attach_fresh, may_attach_dirty, attach, may_adopt, is_behind, is_before, prepend, queueing_at, write, purging_at, leave, roll_on, roll, turn_in, turn_again}
 use Rattle.sci_ops.proofs.Ending.Counting.{updated}
 use Rattle.sci_ops.proofs.Resting.Reading.{other_link, reach, IsDue, Came, came, due_in, done}
 

@@ -1,4 +1,4 @@
-use Rattle.std.proofs.Common.{◌≡◌, ◌+◌, ◌*◌, ◌≤◌, ◌<◌, ℕ, suc, refl, arith}
+use Rattle.std.proofs.Common.{◌+◌, ◌*◌, ◌≤◌, ◌<◌, ℕ, suc, refl, arith}
 use Rattle.sci_core.specs.Whole.{nodes_of, state_of}
 use Rattle.sci_ops.specs.Ranking.{ranking}
 use Rattle.sci_ops.specs.Rest.{at_first, one_more}

@@ -2,4 +2,4 @@ use Rattle.sci_ops.proofs.Took.{took_step}
 use Rattle.sci_ops.proofs.turns.exchange.Goals as goal
 
 pub returns : goal.returns
-returns g c = took_step _ c.step-outcome.ensures.gives c.turn_after.ensures
+returns g c = took_step _ c.step-outcome.ensures.gives c.kind_after.ensures

@@ -1,9 +1,9 @@
-use Rattle.std.proofs.Common.{◌<◌, Option, List, ℕ, refl, ap, sym, subst, ◌∙◌}
+use Rattle.std.proofs.Common.{◌<◌, Option, None, List, ℕ, refl, ap, sym, subst, ◌∙◌}
 use Rattle.std.specs.Map.{keys_of}
-use Rattle.sci_cache.specs.Residents.{AreBelow}
+use Rattle.sci_cache.specs.Residents.{AreBelow, displaced_by, used}
 use Rattle.sci_cache.specs.Nodes.{node_state, IsLine, NodeState}
 use Rattle.sci_cache.proofs.Begun.{had_memory, inside_with, used_evict, used_line, victim_evict, victim_used}
-use Rattle.sci_cache.proofs.Ordered.{below_used}
+use Rattle.sci_cache.proofs.Ordered.{below_used, displaced_resident}
 use Rattle.sci_cache.proofs.Reserved.{either_way, ok_with, on_err_with, on_ok, on_ok_with}
 use Rattle.sci_cache.proofs.Turned.{same_kept, same_with}
 use Rattle.sci_cache.proofs.node.Node.put_in.Goals as goal
@@ -25,25 +25,47 @@ returns-then-is_evict c =
 pub invariant_of-self : goal.invariant_of-self
 invariant_of-self c =
     let lines = c.self.inside.lines in
-    let below : c.line.result < lines = subst (λ (k : ℕ). c.line.result < k) (sym (ap (λ (k : NodeState). k.lines) c.self.view_is)) (subst (λ (l : ℕ). l < c.args.self.now.lines) (sym c.line.ensures) c.requires.line) in
+    let below : c.line-line.result < lines = subst (λ (k : ℕ). c.line-line.result < k) (sym (ap (λ (k : NodeState). k.lines) c.self.view_is)) (subst (λ (l : ℕ). l < c.args.self.now.lines) (sym c.line-line.ensures) c.requires.line) in
+    record {
+      residents = subst (λ (xs : List ℕ). AreBelow lines xs) (sym (c.if-renew.ensures.used refl)) (below_used lines c.line-line.result c.self.inside.table.cap (keys_of c.self.inside.table.entries) below c.self.invariant.residents);
+      call = c.self.invariant.call;
+    }
+
+pub returns-then-renew : goal.returns-then-renew
+returns-then-renew c = record {
+  victim = victim_used _ _ c.self.view_is c.args.request.now _ c.line-line.ensures (sym c.if-is_evict.ensures) None (displaced_resident c.line-line.result c.self.inside.table.cap (keys_of c.self.inside.table.entries) (sym c.if-renew.ensures.named));
+  inside = inside_with c.args.self.now c.args.request.now (subst (λ (k : NodeState). AreBelow k.lines k.residents) c.self.view_is c.self.invariant.residents);
+  used = used_line _ _ c.self.view_is c.args.request.now _ c.line-line.ensures (sym c.if-is_evict.ensures) _ _ c.if-renew.ensures.capacity (c.if-renew.ensures.used refl);
+  same = tt;
+  same_node = same_with _ _ _ c.self.view_is record { id = refl; lines = refl; capacity = c.if-renew.ensures.capacity; keeps = refl };
+  succeeds = λ some. refl;
+}
+
+pub invariant_of-self-2 : goal.invariant_of-self-2
+invariant_of-self-2 c =
+    let lines = c.self.inside.lines in
+    let same = c.if-renew.ensures.same refl in
+    let below : c.line-line.result < lines = subst (λ (k : ℕ). c.line-line.result < k) (sym (ap (λ (k : NodeState). k.lines) c.self.view_is)) (subst (λ (l : ℕ). l < c.args.self.now.lines) (sym c.line-line.ensures) c.requires.line) in
+    let before = subst (λ t. AreBelow lines (keys_of t.entries)) (sym same) c.self.invariant.residents in
     let after = either_way c.make_recent.result
-    (on_ok_with c.make_recent.result c.make_recent.ensures.used (λ h. subst (λ (xs : List ℕ). AreBelow lines xs) (sym h) (below_used lines c.line.result _ _ below c.self.invariant.residents)))
-    (on_err_with c.make_recent.result c.make_recent.ensures.err (λ h. subst (λ t. AreBelow lines (keys_of t.entries)) (sym h) c.self.invariant.residents)) in
+    (on_ok_with c.make_recent.result c.make_recent.ensures.used (λ h. subst (λ (xs : List ℕ). AreBelow lines xs) (sym h) (below_used lines c.line-line.result _ _ below before)))
+    (on_err_with c.make_recent.result c.make_recent.ensures.err (λ h. subst (λ t. AreBelow lines (keys_of t.entries)) (sym h) before)) in
     record { residents = after; call = c.self.invariant.call }
 
 pub returns : goal.returns
 returns c =
     let n = c.args.self.now in
     let r = c.args.request.now in
-    let l = c.line.result in
+    let l = c.line-line.result in
+    let same = c.if-renew.ensures.same refl in
     let other = sym c.if-is_evict.ensures in
     let result = c.make_recent.result in
     let e = c.make_recent.ensures in
     record {
-      victim = ok_with result e.displaced (λ v d. victim_used _ _ c.self.view_is r l c.line.ensures other v d);
+      victim = ok_with result e.displaced (λ v d. victim_used _ _ c.self.view_is r l c.line-line.ensures other v (d ∙ ap (λ t. displaced_by t.cap l (keys_of t.entries)) same));
       inside = on_ok result (λ ok. inside_with n r (subst (λ (k : NodeState). AreBelow k.lines k.residents) c.self.view_is c.self.invariant.residents));
-      used = on_ok_with result e.used (λ h. used_line _ _ c.self.view_is r l c.line.ensures other _ _ e.capacity h);
-      same = on_err_with result e.err (λ h. ap (λ t. node_state c.self.inside.id c.self.inside.lines t.cap c.self.inside.keeps (keys_of t.entries) c.self.inside.call) h ∙ c.self.view_is);
-      same_node = same_with _ _ _ c.self.view_is record { id = refl; lines = refl; capacity = e.capacity; keeps = refl };
-      succeeds = had_memory _ _ c.self.view_is r c.line.ensures other e.succeeds;
+      used = on_ok_with result e.used (λ h. used_line _ _ c.self.view_is r l c.line-line.ensures other _ _ (e.capacity ∙ ap (λ t. t.cap) same) (h ∙ ap (λ t. used t.cap l (keys_of t.entries)) same));
+      same = on_err_with result e.err (λ h. ap (λ t. node_state c.self.inside.id c.self.inside.lines t.cap c.self.inside.keeps (keys_of t.entries) c.self.inside.call) (h ∙ same) ∙ c.self.view_is);
+      same_node = same_with _ _ _ c.self.view_is record { id = refl; lines = refl; capacity = e.capacity ∙ ap (λ t. t.cap) same; keeps = refl };
+      succeeds = had_memory _ _ c.self.view_is r c.line-line.ensures other (λ named. absurd (let k = c.if-renew.ensures.named ∙ named in cc));
     }

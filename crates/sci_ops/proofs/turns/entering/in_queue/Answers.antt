@@ -28,10 +28,10 @@ pub go_on-requires-then-may_attach_dirty : goal.go_on-requires-then-may_attach_d
 go_on-requires-then-may_attach_dirty g c = record { allowed = allowed_in (g.P.Port.way c.tag.new.self) (Event.AttachDirty c.in-Some-tag.found) _ _ (c.in-Some-tag.ensures.same_step ∙ c.requires.step.1 ∙ ap (λ (f : Option ℕ). Pending.InQueue f c.args.dirty c.requires.step.0) c.in-Some.is) (when_carried (c.args.dirty && is_none c.requires.step.0) (is_dirty c.in-Some-tag.found.kind) c.in-Some-tag.found.held _ (subst (λ (b : Bool). ((c.args.dirty && b) && is_free is_dirty c.in-Some-tag.found) ≡ true) (has_none _ _ c.requires.step.2) (sym c.if-may_attach_dirty.ensures)) c.in-Some-tag.ensures.form.0); fits = tt }
 
 pub returns-then-may_attach_fresh : goal.returns-then-may_attach_fresh
-returns-then-may_attach_fresh g c = rw c.in-Some.is (took_tag _ c.in-Some-tag.ensures.gives (if_so _ _ _ (sym c.if-may_attach_fresh.ensures)) c.go_on.ensures)
+returns-then-may_attach_fresh g c = rw c.in-Some.is (took_tag _ c.in-Some-tag.ensures.gives (if_so _ _ _ (sym c.if-may_attach_fresh.ensures)) (c.go_on.ensures _))
 
 pub returns-then-may_attach_dirty : goal.returns-then-may_attach_dirty
-returns-then-may_attach_dirty g c = rw c.in-Some.is (took_tag _ c.in-Some-tag.ensures.gives (if_not _ _ _ (sym c.if-may_attach_fresh.ensures) ∙ if_so _ _ _ (sym c.if-may_attach_dirty.ensures)) c.go_on-then-may_attach_dirty.ensures)
+returns-then-may_attach_dirty g c = rw c.in-Some.is (took_tag _ c.in-Some-tag.ensures.gives (if_not _ _ _ (sym c.if-may_attach_fresh.ensures) ∙ if_so _ _ _ (sym c.if-may_attach_dirty.ensures)) (c.go_on-then-may_attach_dirty.ensures _))
 
 pub returns-else-may_attach_dirty : goal.returns-else-may_attach_dirty
 returns-else-may_attach_dirty g c = rw c.in-Some.is (took_tag _ c.in-Some-tag.ensures.gives (if_not _ _ _ (sym c.if-may_attach_fresh.ensures) ∙ if_not _ _ _ (sym c.if-may_attach_dirty.ensures)) took_none)

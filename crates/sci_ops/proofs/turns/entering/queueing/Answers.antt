@@ -34,7 +34,7 @@ tried : {S : Type 0} {gives : S → Call → S → Type 0} {a b : S} {r : Turn} 
 tried {gives = gives} {a = a} {b = b} {r = r} goal event e h = subst (λ (x : Event). Takes gives (move x) a r b) e h
 
 pub returns-in_default : goal.returns-in_default
-returns-in_default g c = no_mem c.in_default.ensures.gives
+returns-in_default g c = λ shown. no_mem c.in_default.ensures.gives
 
 pub go_on-requires : goal.go_on-requires
 go_on-requires g c = record { allowed = allowed_in (g.P.Port.way c.mem.new.self) (Event.Requeue c.in-Some.mem.forw) _ _ (c.in-Some.ensures.same_step ∙ c.requires.step) (link_at _ _ _ c.in-Some.ensures.same_way c.in-Some.ensures.form.1); fits = tt }
@@ -52,16 +52,16 @@ pub go_on-requires-in-Gone : goal.go_on-requires-in-Gone
 go_on-requires-in-Gone g c = record { allowed = allowed_in (g.P.Port.way c.mem.new.self) Event.PrependGone _ _ (c.in-Some.ensures.same_step ∙ c.requires.step) (head_named _ _ _ c.in-Gone.is (first _ _ c.in-Some.ensures.form.0) (negated _ _ c.if-ne.ensures)); fits = tt }
 
 pub returns-then-mem : goal.returns-then-mem
-returns-then-mem g c = took_mem _ c.in-Some.ensures.gives (if_so _ _ _ c.if-mem.true) took_none
+returns-then-mem g c = λ shown. took_mem _ c.in-Some.ensures.gives (if_so _ _ _ c.if-mem.true) took_none
 
 pub returns-then-ne : goal.returns-then-ne
-returns-then-ne g c = took_mem _ c.in-Some.ensures.gives (if_not _ _ _ c.if-mem.false ∙ if_not _ _ _ (negated _ _ c.if-ne.ensures)) c.go_on.ensures
+returns-then-ne g c = λ shown. took_mem _ c.in-Some.ensures.gives (if_not _ _ _ c.if-mem.false ∙ if_not _ _ _ (negated _ _ c.if-ne.ensures)) (c.go_on.ensures shown)
 
 pub returns-in-Home : goal.returns-in-Home
-returns-in-Home g c = took_mem _ c.in-Some.ensures.gives (if_not _ _ _ c.if-mem.false ∙ if_so _ _ _ (negated _ _ c.if-ne.ensures) ∙ ap (prepend c.args.goal) c.in-Home.is) (tried c.args.goal c.home_event.result c.home_event.ensures c.go_on-in-Home.ensures)
+returns-in-Home g c = λ shown. took_mem _ c.in-Some.ensures.gives (if_not _ _ _ c.if-mem.false ∙ if_so _ _ _ (negated _ _ c.if-ne.ensures) ∙ ap (prepend c.args.goal) c.in-Home.is) (tried c.args.goal c.home_event.result c.home_event.ensures (c.go_on-in-Home.ensures shown))
 
 pub returns-in-Fresh : goal.returns-in-Fresh
-returns-in-Fresh g c = took_mem _ c.in-Some.ensures.gives (if_not _ _ _ c.if-mem.false ∙ if_so _ _ _ (negated _ _ c.if-ne.ensures) ∙ ap (prepend c.args.goal) c.in-Fresh.is) c.go_on-in-Fresh.ensures
+returns-in-Fresh g c = λ shown. took_mem _ c.in-Some.ensures.gives (if_not _ _ _ c.if-mem.false ∙ if_so _ _ _ (negated _ _ c.if-ne.ensures) ∙ ap (prepend c.args.goal) c.in-Fresh.is) (c.go_on-in-Fresh.ensures shown)
 
 pub returns-in-Gone : goal.returns-in-Gone
-returns-in-Gone g c = took_mem _ c.in-Some.ensures.gives (if_not _ _ _ c.if-mem.false ∙ if_so _ _ _ (negated _ _ c.if-ne.ensures) ∙ ap (prepend c.args.goal) c.in-Gone.is) c.go_on-in-Gone.ensures
+returns-in-Gone g c = λ shown. took_mem _ c.in-Some.ensures.gives (if_not _ _ _ c.if-mem.false ∙ if_so _ _ _ (negated _ _ c.if-ne.ensures) ∙ ap (prepend c.args.goal) c.in-Gone.is) (c.go_on-in-Gone.ensures shown)

@@ -15,10 +15,10 @@ pub at_front-requires : goal.at_front-requires
 at_front-requires g c = record { allowed = allowed_in (g.P.Port.way c.args.port.now) (Event.Leave c.args.tag) _ _ (c.requires.step) (found_as is_settled_front _ _ c.requires.kind refl c.requires.free c.requires.form.0); fits = tt }
 
 pub returns-in-Load : goal.returns-in-Load
-returns-in-Load g c = rw c.in-Load.is c.go_on.ensures
+returns-in-Load g c = λ shown. rw c.in-Load.is (c.go_on.ensures shown)
 
 pub returns-in-Write : goal.returns-in-Write
-returns-in-Write g c = rw c.in-Write.is c.go_on-in-Write.ensures
+returns-in-Write g c = λ shown. rw c.in-Write.is (c.go_on-in-Write.ensures shown)
 
 pub returns-in-Evict : goal.returns-in-Evict
-returns-in-Evict g c = rw c.in-Evict.is c.at_front.ensures
+returns-in-Evict g c = λ shown. rw c.in-Evict.is (c.at_front.ensures shown)

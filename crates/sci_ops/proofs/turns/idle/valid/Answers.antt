@@ -12,4 +12,4 @@ pub go_on-requires-in-Write : goal.go_on-requires-in-Write
 go_on-requires-in-Write g c = record { allowed = allowed_in (g.P.Port.way c.args.port.now) (Event.Roll c.args.tag) _ _ (c.requires.step) (found_as is_settled_body _ _ c.requires.kind refl c.requires.free c.requires.form.0); fits = tt }
 
 pub returns-in-Load : goal.returns-in-Load
-returns-in-Load g c = rw c.in-Load.is c.go_on.ensures
+returns-in-Load g c = λ shown. rw c.in-Load.is (c.go_on.ensures shown)

@@ -12,13 +12,13 @@ pub tag-requires : goal.tag-requires
 tag-requires g c = node_below _ _ _ c.in-Some.is c.requires.link
 
 pub returns-in_default-tag : goal.returns-in_default-tag
-returns-in_default-tag g c = rw c.in-Some.is (no_tag c.in_default-tag.ensures.gives)
+returns-in_default-tag g c = λ shown. rw c.in-Some.is (no_tag c.in_default-tag.ensures.gives)
 
 pub go_on-requires-then-is_behind : goal.go_on-requires-then-is_behind
 go_on-requires-then-is_behind g c = record { allowed = allowed_in (g.P.Port.way c.tag.new.self) (Event.Promote c.in-Some-tag.found) _ _ (c.in-Some-tag.ensures.same_step ∙ c.requires.step.1 ∙ ap (λ (f : Option ℕ). Pending.Leaving c.args.dirty c.requires.step.0 (Some f)) c.in-Some.is) (carried_with _ _ _ _ (asked (λ n. is_behind n c.in-Some-tag.found) _ _ _ (c.node-me.ensures.value ∙ ap (λ (w : Way). w.node) (sym (c.in-Some-tag.ensures.same_way))) c.if-is_behind.ensures) c.in-Some-tag.ensures.form.0); fits = tt }
 
 pub returns-then-is_behind : goal.returns-then-is_behind
-returns-then-is_behind g c = rw c.in-Some.is (took_tag _ c.in-Some-tag.ensures.gives (if_so _ _ _ (asked (λ n. is_behind n c.in-Some-tag.found) _ _ _ c.node-me.ensures.value c.if-is_behind.ensures)) c.go_on-then-is_behind.ensures)
+returns-then-is_behind g c = λ shown. rw c.in-Some.is (took_tag _ c.in-Some-tag.ensures.gives (if_so _ _ _ (asked (λ n. is_behind n c.in-Some-tag.found) _ _ _ c.node-me.ensures.value c.if-is_behind.ensures)) (c.go_on-then-is_behind.ensures shown))
 
 pub returns-else-is_behind : goal.returns-else-is_behind
-returns-else-is_behind g c = rw c.in-Some.is (took_tag _ c.in-Some-tag.ensures.gives (if_not _ _ _ (asked (λ n. is_behind n c.in-Some-tag.found) _ _ _ c.node-me.ensures.value c.if-is_behind.ensures)) took_none)
+returns-else-is_behind g c = λ shown. rw c.in-Some.is (took_tag _ c.in-Some-tag.ensures.gives (if_not _ _ _ (asked (λ n. is_behind n c.in-Some-tag.found) _ _ _ c.node-me.ensures.value c.if-is_behind.ensures)) took_none)

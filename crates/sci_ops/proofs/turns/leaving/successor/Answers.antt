@@ -11,13 +11,13 @@ pub tag-requires : goal.tag-requires
 tag-requires g c = c.requires.node
 
 pub returns-in_default : goal.returns-in_default
-returns-in_default g c = no_tag c.in_default.ensures.gives
+returns-in_default g c = λ shown. no_tag c.in_default.ensures.gives
 
 pub go_on-requires : goal.go_on-requires
 go_on-requires g c = record { allowed = allowed_in (g.P.Port.way c.tag.new.self) (Event.TellSuccessor c.in-Some.found) _ _ (c.in-Some.ensures.same_step ∙ c.requires.step.2) (carried_with _ _ _ _ (asked (λ n. is_behind n c.in-Some.found) _ _ _ (c.node-me.ensures.value ∙ ap (λ (w : Way). w.node) (sym c.in-Some.ensures.same_way)) c.if-is_behind.ensures) c.in-Some.ensures.form.0); fits = tt }
 
 pub returns-then-is_behind : goal.returns-then-is_behind
-returns-then-is_behind g c = took_tag _ c.in-Some.ensures.gives (if_so _ _ _ (asked (λ n. is_behind n c.in-Some.found) _ _ _ c.node-me.ensures.value c.if-is_behind.ensures)) c.go_on.ensures
+returns-then-is_behind g c = λ shown. took_tag _ c.in-Some.ensures.gives (if_so _ _ _ (asked (λ n. is_behind n c.in-Some.found) _ _ _ c.node-me.ensures.value c.if-is_behind.ensures)) (c.go_on.ensures shown)
 
 pub returns-else-is_behind : goal.returns-else-is_behind
-returns-else-is_behind g c = took_tag _ c.in-Some.ensures.gives (if_not _ _ _ (asked (λ n. is_behind n c.in-Some.found) _ _ _ c.node-me.ensures.value c.if-is_behind.ensures)) took_none
+returns-else-is_behind g c = λ shown. took_tag _ c.in-Some.ensures.gives (if_not _ _ _ (asked (λ n. is_behind n c.in-Some.found) _ _ _ c.node-me.ensures.value c.if-is_behind.ensures)) took_none

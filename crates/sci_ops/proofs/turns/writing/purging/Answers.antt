@@ -6,6 +6,7 @@ use Rattle.sci_core.specs.Step.{look_of}
 use Rattle.sci_port.specs.Way.{Way}
 use Rattle.sci_ops.specs.declared.answers.Turn.{Turn}
 use Rattle.sci_ops.specs.Answers.{HasStamp}
+use Rattle.sci_ops.specs.TurnKinds.{turn_with}
 use Rattle.sci_ops.specs.Plan.{Takes, tag}
 use Rattle.sci_ops.specs.Table.{turn_in, purging_at, purge, write}
 use Rattle.sci_ops.proofs.Staged.{looked_in, stores_on}
@@ -30,7 +31,7 @@ pub returns-in-Purging : goal.returns-in-Purging
 returns-in-Purging g c =
     let same : c.in-Purging.line ≡ c.requires.step.0 = ap line_of (c.in-Purging.ensures.value ∙ c.in-Some.ensures.look ∙ ap (λ (p : Pending). look_of p c.in-Some.tag) c.requires.step.2) in
     let plan : purging_at c.args.goal (g.P.Port.way c.args.port.now).node c.requires.step.0 c.in-Some.tag.forw ≡ write c.args.goal c.in-Purging.line = rw c.in-None.is (ap (λ (l : Line). write c.args.goal l) (sym same)) in
-    record { calls = subst (λ (p : Pending). Takes g.P.Port.gives (turn_in c.args.goal (g.P.Port.way c.args.port.now).node p) c.args.port.now c.write.result c.write.new.port) (sym c.requires.step.2) (took_own _ c.in-Some.ensures.gives plan c.write.ensures.calls); stamp = λ answer is. subst HasStamp (sym c.requires.step.2) (subst (λ (l : Line). l.stamp ≤ 18446744073709551615) same c.write.ensures.stamp) }
+    record { calls = subst (λ (p : Pending). Takes g.P.Port.gives (turn_in c.args.goal (g.P.Port.way c.args.port.now).node p) c.args.port.now (turn_with c.write.result c.write.new.shown) c.write.new.port) (sym c.requires.step.2) (took_own _ c.in-Some.ensures.gives plan c.write.ensures.calls); stamp = λ answer is. subst HasStamp (sym c.requires.step.2) (subst (λ (l : Line). l.stamp ≤ 18446744073709551615) same c.write.ensures.stamp) }
 
 pub returns-in-Some-forw : goal.returns-in-Some-forw
-returns-in-Some-forw g c = record { calls = subst (λ (p : Pending). Takes g.P.Port.gives (turn_in c.args.goal (g.P.Port.way c.args.port.now).node p) c.args.port.now c.purge.result c.purge.new.port) (sym c.requires.step.2) (took_own _ c.in-Some.ensures.gives (ap (purging_at c.args.goal (g.P.Port.way c.args.port.now).node c.requires.step.0) c.in-Some-forw.is ∙ ap (λ n. tag c.in-Some-forw.next (purge n)) (ap (λ (w : Way). w.node) (sym (c.in-Some.ensures.same_way)))) c.purge.ensures.calls); stamp = unended _ c.purge.ensures.goes_on }
+returns-in-Some-forw g c = record { calls = subst (λ (p : Pending). Takes g.P.Port.gives (turn_in c.args.goal (g.P.Port.way c.args.port.now).node p) c.args.port.now (turn_with c.purge.result c.args.shown.now) c.purge.new.port) (sym c.requires.step.2) (took_own _ c.in-Some.ensures.gives (ap (purging_at c.args.goal (g.P.Port.way c.args.port.now).node c.requires.step.0) c.in-Some-forw.is ∙ ap (λ n. tag c.in-Some-forw.next (purge n)) (ap (λ (w : Way). w.node) (sym (c.in-Some.ensures.same_way)))) (c.purge.ensures.calls _)); stamp = unended _ (c.purge.ensures.goes_on _) }

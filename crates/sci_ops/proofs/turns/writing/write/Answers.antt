@@ -28,7 +28,7 @@ pub go_on-requires : goal.go_on-requires
 go_on-requires g c = record { allowed = allowed_in (g.P.Port.way c.args.port.now) (Event.Written None) _ _ (c.requires.step) refl; fits = tt }
 
 pub returns-in_default : goal.returns-in_default
-returns-in_default g c = record { calls = taken_as (gives_back _ _ c.in_default.not-Write) c.go_on.ensures; stamp = omega arith }
+returns-in_default g c = record { calls = taken_as (gives_back _ _ c.in_default.not-Write) (c.go_on.ensures _); stamp = omega arith }
 
 pub exchange-requires-clause-allowed : goal.exchange-requires-clause-allowed
 exchange-requires-clause-allowed g c = allowed_in (g.P.Port.way c.args.port.now) (Event.Written (Some c.change-words.result)) _ _ c.requires.step (counts c.args.line.now c.if-can_count.true)

@@ -1,5 +1,5 @@
 use Rattle.std.proofs.Common.{rules}
-use Rattle.sci_ops.proofs.answers.End.turn_after.Goals as goal
+use Rattle.sci_ops.proofs.answers.End.kind_after.Goals as goal
 
 pub returns-in_default : goal.returns-in_default
 returns-in_default c = search rules
