@@ -1,6 +1,7 @@
 """Tests tools/refused on a small crate: edits that are refused, by search alone too, and each way in which an edit fails, beside
-`rt ci` and without it; that the edits of must-fail/ begin over what `rt ci` proved of the crate; that no edit counts where the folder that they were tried
-over has changed behind them; which libraries are taken as they were built; and which proofs get more jobs."""
+`rt ci` and without it; that the edits of must-fail/ begin over what `rt ci` proved of the crate; that no edit
+counts where the folder that they were tried over has changed behind them; which libraries are taken as they were built; and which
+proofs get more jobs."""
 
 import importlib.util
 import os
@@ -17,6 +18,7 @@ sys.path.insert(0, str(TOOL))
 sys.dont_write_bytecode = True
 
 import gate
+from edits import read_edits
 from kit import RATTLE, RT
 from trying import Trial
 
@@ -95,24 +97,24 @@ returns-clause-some c = let more = returns-clause-more c in omega arith
 # the name of an edit, its text, and a word of what the tool says of it
 EDITS = [
     # (the first of a function is made in it, and so stands beside refused copies of it)
-    ("accepted_beside_copies", "file: src/lib.rt\nold:     number + 1\nnew:     1 + number\n", "NOT REFUSED"),
-    ("refused_in_a_copy", "file: src/lib.rt\nold:     number + 1\nnew:     number + 2\n", "lib::next_edit_1 did not prove"),
-    ("refused_too_in_a_copy", "file: src/lib.rt\nold:     number + 1\nnew:     number + 3\n", "lib::next_edit_2 did not prove"),
-    ("refused_in_a_method", "file: src/lib.rt\nold:         self.0\nnew:         self.0 / 2\n", "lib::Number::get did not prove"),
+    ("accepted_beside_copies", "old:     number + 1\nnew:     1 + number\n", "NOT REFUSED"),
+    ("refused_in_a_copy", "old:     number + 1\nnew:     number + 2\n", "lib::next_edit_1 did not prove"),
+    ("refused_too_in_a_copy", "old:     number + 1\nnew:     number + 3\n", "lib::next_edit_2 did not prove"),
     # (a square is even where its number is, but the search knows nothing of it)
-    ("refused_by_search_alone", "file: src/lib.rt\nold: like = number;\nnew: like = number * number;\n", "lib::like did not prove"),
-    ("refused_by_an_answer", "file: src/lib.rt\nold:     next(two)\nnew:     next(two) - 1\n", "`returns-clause-more`"),
-    # the same value, without the call that an answer names: in `third`, and the one above in a copy of it
-    ("only_names_fail", "file: src/lib.rt\nold: second(number);\nnew: number + 2;\n", "only a proof file that names"),
-    ("accepted", "file: src/lib.rt\nold:     number / 2\nnew:     number / 3\n", "NOT REFUSED"),
+    ("refused_by_search_alone", "old: like = number;\nnew: like = number * number;\n", "lib::like did not prove"),
+    # the same value, without the call that an answer names: in `third`, and the one below in a copy of it
+    ("only_names_fail", "old: second(number);\nnew: number + 2;\n", "only a proof file that names"),
+    ("refused_by_an_answer", "old:     next(two)\nnew:     next(two) - 1\n", "`returns-clause-more`"),
+    ("refused_in_a_method", "old:         self.0\nnew:         self.0 / 2\n", "lib::Number::get did not prove"),
+    ("accepted", "old:     number / 2\nnew:     number / 3\n", "NOT REFUSED"),
     # the same value, while the function that it calls is edited beside it in the same check
-    ("only_what_it_calls_is_refused", "file: src/lib.rt\nold: next(next(number))\nnew: next(next(number) + 0)\n", "NOT REFUSED"),
-    # (it stands behind the edits of `next`, so that those go together)
-    ("will_not_compile", "file: src/lib.rt\nold:         self.0\nnew:         self.one\n", "BAD EDIT: it doesn't reach the prover"),
-    ("cannot_be_applied", "file: src/lib.rt\nold:     number / 5\nnew:     number / 2\n", "BAD EDIT: an 'old:' text is in"),
-    ("changes_a_contract", "file: src/lib.rt\nold:     ensures { result ≤ number }\nnew:     ensures { result < number }\n", "outside the bodies"),
-    ("changes_two_functions", "file: src/lib.rt\nold:     number / 2\nnew:     number\nold:     number + 1\nnew:     number + 3\n", "bodies of 2 functions"),
-    ("the_same_change", "file: src/lib.rt\nold:   number + 1\nnew:   number + 2\n", "the same change as refused_in_a_copy.edit"),
+    ("only_what_it_calls_is_refused", "old: next(next(number))\nnew: next(next(number) + 0)\n", "NOT REFUSED"),
+    # (it stands behind the edits of `next` and `third`, so that those go together)
+    ("will_not_compile", "old:         self.0\nnew:         self.one\n", "BAD EDIT: it doesn't reach the prover"),
+    ("cannot_be_applied", "old:     number / 5\nnew:     number / 2\n", "BAD EDIT: an 'old:' text is in"),
+    ("changes_a_contract", "old:     ensures { result ≤ number }\nnew:     ensures { result < number }\n", "outside the bodies"),
+    ("changes_two_functions", "old:     number / 2\nnew:     number\nold:     number + 1\nnew:     number + 3\n", "bodies of 2 functions"),
+    ("the_same_change", "old:   number + 1\nnew:   number + 2\n", "the same change as refused_in_a_copy"),
 ]
 
 
@@ -144,8 +146,9 @@ def make(root, edits=EDITS):
     (crate / "src" / "lib.rt").write_text(code, encoding="utf-8")
     (crate / "proofs" / "third").mkdir(parents=True)
     (crate / "proofs" / "third" / "Answers.antt").write_text(ANSWERS, encoding="utf-8")
-    for name, text, _ in edits:
-        (crate / "refused" / f"{name}.edit").write_text(text, encoding="utf-8")
+    if edits:
+        text = "\n".join(f"edit: {name}\n{text}" for name, text, _ in edits)
+        (crate / "refused" / "lib.edits").write_text(f"# of halves\n\n{text}", encoding="utf-8")
 
 
 def add_must_fail(root):
@@ -154,7 +157,7 @@ def add_must_fail(root):
     folder.mkdir()
     for name, text, _ in EDITS:
         if name in ("refused_in_a_copy", "refused_in_a_method"):
-            (folder / f"{name}.edit").write_text(text, encoding="utf-8")
+            (folder / f"{name}.edit").write_text(f"file: src/lib.rt\n{text}", encoding="utf-8")
 
 
 def faults_of_gate():
@@ -197,11 +200,11 @@ def faults_of_edits(said):
     """Returns what isn't as it must be of what is said of the edits."""
     faults = []
     for name, _, word in EDITS:
-        line = next((it for it in said.split("\n") if f"/{name}.edit: " in it), "no line")
+        line = next((it for it in said.split("\n") if f"/{name}: " in it), "no line")
         is_refused = ": refused, as it must be: " in line
         if word.replace("lib::", "lib_of_halves::") not in line or is_refused != name.startswith("refused"):
             faults.append(f"{name}: {line}")
-    alone = {name for name, *_ in EDITS if f"/{name}.edit: by search alone, which did not prove `" in said}
+    alone = {name for name, *_ in EDITS if f"/{name}: by search alone, which did not prove `" in said}
     if alone != {name for name, *_ in EDITS if name.startswith("refused_by_search_alone")}:
         faults.append(f"refused by search alone are {sorted(alone)}")
     refused = sum(it[0].startswith("refused") for it in EDITS)
@@ -277,6 +280,31 @@ def faults_of_libraries():
     return faults
 
 
+def faults_of_reading():
+    """Returns what isn't as it must be of which edits are read, and why some can't be tried."""
+    files = {
+        "one.edits": "edit: first\nold: a\nnew:\n# why\nedit: twice\nold:  b\nnew: c\nold: d\nnew: e\n",
+        "folder/two.edits": "old: a\nedit: twice\nold: a\nnew: b\nedit: no name\n",
+        "three.edit": "file: src/one.rt\nold: a\nnew: b\n",
+        "README.md": "what these are\n",
+    }
+    wanted = [
+        ("first", "file: src/one.rt\nold: a\nnew:\n", False),
+        ("twice", "file: src/one.rt\nold:  b\nnew: c\nold: d\nnew: e\n", False),
+        ("three.edit", "", True),
+        ("folder/two.edits:1", "", True),
+        ("twice", "file: src/folder/two.rt\nold: a\nnew: b\n", True),
+        ("folder/two.edits:5", "", True),
+    ]
+    with tempfile.TemporaryDirectory(prefix="refused-test-") as folder:
+        for path, text in files.items():
+            file = pathlib.Path(folder, path)
+            file.parent.mkdir(exist_ok=True)
+            file.write_text(text, encoding="utf-8")
+        read = [(it.name, it.text, bool(it.why)) for it in read_edits(folder)]
+    return [] if sorted(read) == sorted(wanted) else [f"of edits in files these are read: {read}"]
+
+
 def faults_alone():
     """Returns what isn't as it must be of the tool without `rt ci`: of one edit, which is refused, and of none."""
     faults = []
@@ -292,7 +320,8 @@ def faults_alone():
 
 
 def main():
-    faults = faults_of_words() + faults_of_lanes() + faults_of_gate() + faults_of_last_look() + faults_of_libraries() + faults_alone()
+    faults = faults_of_reading() + faults_of_words() + faults_of_lanes() + faults_of_gate() + faults_of_last_look()
+    faults += faults_of_libraries() + faults_alone()
     for it in faults:
         print(f"the test of tools/refused: {it}")
     if not faults:
