@@ -1,9 +1,11 @@
 """Tests tools/refused on a small crate: edits that are refused, by search alone too, and each way in which an edit fails, beside
-`rt ci` and without it; that the edits of must-fail/ begin over what `rt ci` proved of the crate; that no edit
+`rt ci` and without it; which edits a run tries; that the edits of must-fail/ begin over what `rt ci` proved of the crate; that no edit
 counts where the folder that they were tried over has changed behind them; which libraries are taken as they were built; and which
 proofs get more jobs."""
 
+import contextlib
 import importlib.util
+import io
 import os
 import pathlib
 import re
@@ -18,8 +20,10 @@ sys.path.insert(0, str(TOOL))
 sys.dont_write_bytecode = True
 
 import gate
-from edits import read_edits
+import turns
+from edits import Edit, read_edits
 from kit import RATTLE, RT
+from tasks import report
 from trying import Trial
 
 CODE = """//! Halves and their sums.
@@ -166,8 +170,9 @@ def faults_of_gate():
         root = pathlib.Path(folder) / "repository"
         make(root)
         add_must_fail(root)
+        plant_sums(root)
         how = {"cwd": root, "stdin": subprocess.DEVNULL, "stdout": subprocess.PIPE, "stderr": subprocess.STDOUT, "text": True}
-        words = [sys.executable, str(TOOL / "gate.py"), f"{folder}/room"]
+        words = [sys.executable, str(TOOL / "gate.py"), f"{folder}/room", "--all"]
         ran = subprocess.run(words, **how)
         edits = pathlib.Path(folder, "room", "edits").read_text(encoding="utf-8")
         crate = RT.rtlib.crates_below(str(root))[0]
@@ -208,8 +213,8 @@ def faults_of_edits(said):
     if alone != {name for name, *_ in EDITS if name.startswith("refused_by_search_alone")}:
         faults.append(f"refused by search alone are {sorted(alone)}")
     refused = sum(it[0].startswith("refused") for it in EDITS)
-    if f": {refused} refused, of them {len(alone)} by search alone\n" not in said:
-        faults.append(f"it isn't said that {refused} are refused, and how many of them by search alone")
+    if f": {len(EDITS)} of {len(EDITS)} tried, {refused} refused, of them {len(alone)} by search alone, over " not in said:
+        faults.append(f"it isn't said that all are tried, {refused} refused, and how many of them by search alone")
     last = f"{refused} passed, {len(EDITS) - refused} failed"
     if said.rstrip("\n").split("\n")[-1] != last:
         faults.append(f"the last line is not {last}")
@@ -305,22 +310,108 @@ def faults_of_reading():
     return [] if sorted(read) == sorted(wanted) else [f"of edits in files these are read: {read}"]
 
 
+def plant_sums(root):
+    """Has the file `tried` say that all edits were tried over what stands there."""
+    tried = turns.Tried(str(root))
+    tried.sums = {it.name: turns.sum_of_crate(it) for it in RT.rtlib.crates_below(str(root))}
+    (root / turns.FILE).parent.mkdir(parents=True, exist_ok=True)
+    (root / turns.FILE).write_text(tried.text(), encoding="utf-8")
+
+
+class Turns:
+    """A crate and one above it, each of 20 edits, of which a run refuses all but those that are to fail."""
+
+    def __init__(self, root):
+        make(root)
+        self.root, self.file, self.crates = root, root / turns.FILE, ["lib_of_halves", "lib_above"]
+        (root / "crates.txt").write_text("lib_of_halves:\nlib_above: lib_of_halves\n", encoding="utf-8")
+        for part in ("crates/lib_above/src", "crates/lib_above/refused", "crates/lib_of_halves/specs", self.file.parent, ".git"):
+            (root / part).mkdir(parents=True, exist_ok=True)
+        for path in ("crates/lib_above/src/lib.rt", "crates/lib_of_halves/specs/Halves.antt"):
+            (root / path).write_text("", encoding="utf-8")
+
+    def run(self, is_all=False, failing=(), notes=True):
+        """Returns which edits of each crate a run tries, by place, and takes over what it says."""
+        tried, said = turns.Tried(str(self.root)), io.StringIO()
+        trials = [Trial(it, [Edit(f"{at}") for at in range(20)], [], "", print) for it in RT.rtlib.crates_below(str(self.root))]
+        tried.choose(trials, is_all)
+        for it in trials:
+            it.refused = {edit: "refused" for edit in it.edits if it.crate.name not in failing}
+        with contextlib.redirect_stdout(said):
+            report(trials, tried)
+        if notes:
+            self.file.write_text(turns.noted(str(self.root), said.getvalue()), encoding="utf-8")
+        return {it.crate.name: [int(edit.name) for edit in it.edits] for it in trials}
+
+    def whole(self, **how):
+        """Returns the crates of which a run tries all edits."""
+        return [name for name, tried in self.run(**how).items() if len(tried) == 20]
+
+    def changed(self, path):
+        """Returns the crates of which all edits are tried once a file has changed, and once that is noted."""
+        with open(self.root / "crates" / path, "a", encoding="utf-8") as it:
+            it.write("\n")
+        return self.whole(), self.whole()
+
+
+def faults_of_turns():
+    """Returns what isn't as it must be of which edits a run tries, by what has changed since they were last tried."""
+    with tempfile.TemporaryDirectory(prefix="refused-test-") as folder:
+        it = Turns(pathlib.Path(folder, "repository"))
+        both, low = it.crates, it.crates[:1]
+        told = [("with no file tried", it.whole(), both), ("as it was noted", it.whole(), []), ("with --all", it.whole(is_all=True), both)]
+        for path, wanted in (("src/lib.rt", both), ("specs/Halves.antt", both), ("proofs/third/Answers.antt", low), ("refused/lib.edits", low)):
+            told.append((f"behind a change of {path}", it.changed(f"lib_of_halves/{path}"), (wanted, [])))
+        told.append(("behind a change of the crate above", it.changed("lib_above/src/lib.rt"), (both[1:], [])))
+        told.append(("behind a run in which the lower's fail", (it.whole(failing=low), it.whole()), ([], low)))
+        kit, turns.RT.KIT = turns.RT.KIT, folder
+        pathlib.Path(folder, "KIT-ID").write_text("rattle-kit-1 logic other\n", encoding="utf-8")
+        told.append(("under another logic", it.whole(notes=False), both))
+        turns.RT.KIT = kit
+        for notes, has_git in ((True, True), (False, True), (True, False)):
+            if not has_git:
+                (it.root / turns.RUNS).unlink(missing_ok=True)
+                (it.root / ".git").rmdir()
+            tried = [it.run(notes=notes) for _ in range(turns.TURNS)]
+            for name in both:
+                counts = [len(run[name]) for run in tried]
+                places = sorted(at for run in tried for at in run[name])
+                told.append((f"in eight runs, noted: {notes}, with a folder .git: {has_git}", (places, {*counts} <= {2, 3}), ([*range(20)], True)))
+        before = it.run(notes=False)
+        told.append(("in the next run, where none can be noted", it.run(notes=False), before))
+    return [f"{what}, tried whole or by place are {found}, and not {wanted}" for what, found, wanted in told if found != wanted]
+
+
+def run_alone(root):
+    """Returns the status of the tool without `rt ci`, and its last line."""
+    ran = subprocess.run([sys.executable, str(TOOL), "--root", str(root)], stdin=subprocess.DEVNULL, stdout=subprocess.PIPE, text=True)
+    return ran.returncode, ran.stdout.rstrip("\n").split("\n")[-1]
+
+
 def faults_alone():
-    """Returns what isn't as it must be of the tool without `rt ci`: of one edit, which is refused, and of none."""
+    """Returns what isn't as it must be of the tool without `rt ci`: of no edit, and of one that isn't refused though the file `tried` says
+    that all were. (That gate.py finds such with --all, `faults_of_gate` shows.)"""
     faults = []
-    for edits, status, last in ((EDITS[1:2], 0, "1 passed, 0 failed"), ([], 1, "0 passed, 1 failed")):
-        with tempfile.TemporaryDirectory(prefix="refused-test-") as folder:
-            make(pathlib.Path(folder), edits)
-            ran = subprocess.run([sys.executable, str(TOOL), "--root", folder], stdin=subprocess.DEVNULL, stdout=subprocess.PIPE, text=True)
-            if ran.returncode != status or ran.stdout.rstrip("\n").split("\n")[-1] != last:
-                faults.append(f"of {len(edits)} edits it says {ran.stdout[-1000:]}, and ends with {ran.returncode}")
-            if pathlib.Path(folder, "crates", "lib_of_halves", "out").exists():
-                faults.append("it wrote into the repository")
+    with tempfile.TemporaryDirectory(prefix="refused-test-") as folder:
+        make(pathlib.Path(folder), [])
+        if run_alone(folder) != (1, "0 passed, 1 failed"):
+            faults.append("where there is no edit to try, none is told to have failed")
+    with tempfile.TemporaryDirectory(prefix="refused-test-") as folder:
+        root, runs = pathlib.Path(folder), [(0, "")]
+        make(root, [it for it in EDITS if it[0] in ("refused_in_a_method", "accepted")])
+        (root / ".git").mkdir()
+        plant_sums(root)
+        while not runs[-1][0] and len(runs) <= turns.TURNS:
+            runs.append(run_alone(root))
+        if runs[-2:] != [(0, "1 passed, 0 failed"), (1, "0 passed, 1 failed")] or {*runs[1:-2]} != {(0, "0 passed, 0 failed")}:
+            faults.append(f"of an edit that is refused and one that isn't, runs by turns end with {runs[1:]}")
+        if (root / "crates" / "lib_of_halves" / "out").exists():
+            faults.append("it wrote into the repository")
     return faults
 
 
 def main():
-    faults = faults_of_reading() + faults_of_words() + faults_of_lanes() + faults_of_gate() + faults_of_last_look()
+    faults = faults_of_reading() + faults_of_words() + faults_of_turns() + faults_of_lanes() + faults_of_gate() + faults_of_last_look()
     faults += faults_of_libraries() + faults_alone()
     for it in faults:
         print(f"the test of tools/refused: {it}")
