@@ -364,10 +364,12 @@ def faults_of_turns():
             told.append((f"behind a change of {path}", it.changed(f"lib_of_halves/{path}"), (wanted, [])))
         told.append(("behind a change of the crate above", it.changed("lib_above/src/lib.rt"), (both[1:], [])))
         told.append(("behind a run in which the lower's fail", (it.whole(failing=low), it.whole()), ([], low)))
-        kit, turns.RT.KIT = turns.RT.KIT, folder
-        pathlib.Path(folder, "KIT-ID").write_text("rattle-kit-1 logic other\n", encoding="utf-8")
+        logic, turns.logic = turns.logic, lambda: "other"
         told.append(("under another logic", it.whole(notes=False), both))
-        turns.RT.KIT = kit
+        turns.logic = logic
+        part = f"refused: {low[0]}: 3 of 20 tried, 3 refused, of them 0 by search alone, over 0123\n"
+        told.append(("behind a run of some edits", turns.noted(str(it.root), part), it.file.read_text(encoding="utf-8")))
+        told.append(("behind a failed run that isn't noted", it.run(notes=False, failing=low), it.run(notes=False)))
         for notes, has_git in ((True, True), (False, True), (True, False)):
             if not has_git:
                 (it.root / turns.RUNS).unlink(missing_ok=True)

@@ -64,10 +64,13 @@ def sum_of_crate(crate):
         for part in parts:
             found.update(f"{it.name}/{part} ".encode() + sum_of(f"{it.folder}/{part}"))
     words = [it.replace(RT.KIT, "").replace(os.path.dirname(crate.folder), "") for it in crate.words(["--jobs", "1"], keeps=False)]
-    # (behind the kit's name: what its prover and libraries are)
-    kit = (RT.rtlib.text_of(f"{RT.KIT}/KIT-ID") or "").partition(" logic ")[2].strip()
-    found.update(repr((words, kit)).encode())
+    found.update(repr((words, logic())).encode())
     return found.hexdigest()
+
+
+def logic():
+    """Returns the sum that the kit tells behind its name: one with another letter may have the same."""
+    return (RT.rtlib.text_of(f"{RT.KIT}/KIT-ID") or "").partition(" logic ")[2].strip()
 
 
 def noted(root, said):
