@@ -3,12 +3,14 @@
     python3 tools/refused/gate.py FOLDER
 
 It says what `rt ci` says, and has its status. FOLDER/edits has what became of the edits; its last line is `N passed, M failed`.
+FOLDER/seconds has how many seconds the proof of each crate took.
 """
 
 import contextlib
 import os
 import sys
 import threading
+import time
 
 sys.dont_write_bytecode = True
 
@@ -68,17 +70,32 @@ def hastened(tasks):
     return {key: (*tasks[key][:3], by_all(tasks[key][3])) for key in first}
 
 
-def beside(in_lanes, trials):
-    """Returns the kit's lanes, but for this: the edits of each crate run in them too, once its library is proved, and what all wait for
-    is hastened. The lanes take first what has the most lines before it, so that of the edits counts for next to nothing: they fill what
-    rt ci leaves free."""
+def timed(tasks, seconds):
+    """Returns the tasks, of which each proof notes its seconds under its crate's name."""
+
+    def noted(name, call):
+        def run(given, jobs):
+            begun = time.monotonic()
+            well = call(given, jobs)
+            seconds[name] = round(time.monotonic() - begun)
+            return well
+
+        return run
+
+    return {key: (*it[:3], noted(key[0], it[3])) if key[1] == "proof" else it for key, it in tasks.items()}
+
+
+def beside(in_lanes, trials, seconds):
+    """Returns the kit's lanes, but for this: the edits of each crate run in them too, once its library is proved, what all wait for is
+    hastened, and the proof of each crate is timed. The lanes take first what has the most lines before it, so that of the edits counts for
+    next to nothing: they fill what rt ci leaves free."""
 
     def in_lanes_with_edits(tasks):
         # (a kit that names its tasks otherwise tries them behind rt ci)
         known = [it for it in trials if (it.crate.name, "proof") in tasks]
         more = tasks_of(known, lambda name: [(name, "proof")])
         more = {key: (waits, lines / 1e6, needs, call) for key, (waits, lines, needs, call) in more.items()}
-        return in_lanes({**tasks, **hastened(tasks), **more})
+        return in_lanes(timed({**tasks, **hastened(tasks), **more}, seconds))
 
     return in_lanes_with_edits
 
@@ -91,7 +108,8 @@ def main():
     trials = [TrialBeside(it, to) for it in sorted(crates, key=lambda it: len(it.below()))]
     trials = [it for it in trials if it.edits]
     in_lanes = RT.in_lanes
-    RT.in_lanes = beside(in_lanes, trials)
+    seconds = {}
+    RT.in_lanes = beside(in_lanes, trials, seconds)
     name = seeds.name_of_kept()
     if name:
         threading.Thread(target=seeds.watch, args=(f"{to}/seeds", name, os.path.realpath("crates")), daemon=True).start()
@@ -100,6 +118,8 @@ def main():
     status = RT.main(["ci"])
     if not status:
         in_lanes(tasks_of([it for it in trials if not it.is_tried], lambda name: []))
+    with open(f"{to}/seconds", "w", encoding="utf-8") as table:
+        table.writelines(f"{name} {it}\n" for name, it in sorted(seconds.items()))
     with open(f"{to}/edits", "w", encoding="utf-8") as said, contextlib.redirect_stdout(said):
         report(trials)
     return status
