@@ -74,14 +74,14 @@ class Watch:
             at_work = [it for it in [*self.begun] if it not in self.ended]
             if at_work and (at_work != last or time.monotonic() - said >= BETWEEN_LINES):
                 last, said = at_work, time.monotonic()
-                more = len(self.crates) - len(self.begun)
-                say(f"at work: {', '.join(at_work)}; {more} more to begin; about {self.minutes()} minutes left")
+                to_begin = len(self.crates) - len(self.begun)
+                say(f"at work: {', '.join(at_work)}; to begin: {to_begin}; about {self.minutes()} min left")
 
 
 def build_all(crates):
     """Proves and builds these crates, lowest first, and returns whether all went well."""
     watch = Watch(crates)
-    say(f"proving and building {len(crates)} crates by {watch.lanes} processors, in about {watch.minutes()} minutes")
+    say(f"crates to prove and build: {len(crates)}; processors: {watch.lanes}; about {watch.minutes()} min")
     threading.Thread(target=watch.go_on, daemon=True).start()
 
     def build(crate, given, jobs):

@@ -70,22 +70,19 @@ def hastened(tasks):
     return {key: (*tasks[key][:3], by_all(tasks[key][3])) for key in first}
 
 
-def timed(tasks, seconds):
-    """Returns the tasks, of which each proof notes its seconds under its crate's name."""
+def timed(name, call, table):
+    """Returns a task's call that writes its crate's name and its seconds into a table."""
 
-    def noted(name, call):
-        def run(given, jobs):
-            begun = time.monotonic()
-            well = call(given, jobs)
-            seconds[name] = round(time.monotonic() - begun)
-            return well
+    def noted(given, jobs):
+        begun = time.monotonic()
+        well = call(given, jobs)
+        print(name, round(time.monotonic() - begun), file=table, flush=True)
+        return well
 
-        return run
-
-    return {key: (*it[:3], noted(key[0], it[3])) if key[1] == "proof" else it for key, it in tasks.items()}
+    return noted
 
 
-def beside(in_lanes, trials, seconds):
+def beside(in_lanes, trials, table):
     """Returns the kit's lanes, but for this: the edits of each crate run in them too, once its library is proved, what all wait for is
     hastened, and the proof of each crate is timed. The lanes take first what has the most lines before it, so that of the edits counts for
     next to nothing: they fill what rt ci leaves free."""
@@ -95,7 +92,9 @@ def beside(in_lanes, trials, seconds):
         known = [it for it in trials if (it.crate.name, "proof") in tasks]
         more = tasks_of(known, lambda name: [(name, "proof")])
         more = {key: (waits, lines / 1e6, needs, call) for key, (waits, lines, needs, call) in more.items()}
-        return in_lanes(timed({**tasks, **hastened(tasks), **more}, seconds))
+        proofs = {key: it for key, it in {**tasks, **hastened(tasks)}.items() if key[1] == "proof"}
+        proofs = {key: (*it[:3], timed(key[0], it[3], table)) for key, it in proofs.items()}
+        return in_lanes({**tasks, **proofs, **more})
 
     return in_lanes_with_edits
 
@@ -108,8 +107,8 @@ def main():
     trials = [TrialBeside(it, to) for it in sorted(crates, key=lambda it: len(it.below()))]
     trials = [it for it in trials if it.edits]
     in_lanes = RT.in_lanes
-    seconds = {}
-    RT.in_lanes = beside(in_lanes, trials, seconds)
+    table = open(f"{to}/seconds", "w", encoding="utf-8")
+    RT.in_lanes = beside(in_lanes, trials, table)
     name = seeds.name_of_kept()
     if name:
         threading.Thread(target=seeds.watch, args=(f"{to}/seeds", name, os.path.realpath("crates")), daemon=True).start()
@@ -118,8 +117,6 @@ def main():
     status = RT.main(["ci"])
     if not status:
         in_lanes(tasks_of([it for it in trials if not it.is_tried], lambda name: []))
-    with open(f"{to}/seconds", "w", encoding="utf-8") as table:
-        table.writelines(f"{name} {it}\n" for name, it in sorted(seconds.items()))
     with open(f"{to}/edits", "w", encoding="utf-8") as said, contextlib.redirect_stdout(said):
         report(trials)
     return status
