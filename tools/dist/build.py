@@ -1,6 +1,5 @@
 """Proves and builds the program, with crates that don't stand on each other side by side, over what earlier checks kept in out/."""
 
-import fcntl
 import os
 import signal
 import sys
@@ -98,35 +97,25 @@ def build_all(crates):
     return all(RT.in_lanes(tasks).values())
 
 
-def alone():
-    """Waits for another build of this tree to end, and returns what keeps others out."""
-    held = open(made.ROOT / "scisim", "rb")
-    try:
-        fcntl.flock(held, fcntl.LOCK_EX | fcntl.LOCK_NB)
-    except BlockingIOError:
-        say("another build is at work here; this one waits for it")
-        fcntl.flock(held, fcntl.LOCK_EX)
-    return held
-
-
 def main():
     # (with its own handler, Python would wait for the threads)
     signal.signal(signal.SIGINT, signal.SIG_DFL)
     os.chdir(made.ROOT)
-    with alone():
-        sources = made.sources_of("sci_sim")
-        if made.PROGRAM.is_file() and made.line_of("scisim", sources) in made.read(made.OUT):
-            say("the program is built already from the sources as they stand")
-            return 0
-        RT.rtlib.Crate = Crate
-        RT.Crate.allowed = RT.handles_of(str(made.ROOT))
-        program = next(it for it in RT.rtlib.crates_below(str(made.ROOT)) if it.name == "sci_sim")
-        RT.rtlib.lock([*program.below(), program])
-        if not build_all([it for it in [*program.below(), program] if it is program or not it.is_built()]):
-            return 1
-        if made.sources_of("sci_sim") != sources:
-            say("the sources have changed meanwhile, and this program isn't of them: build again")
-            return 1
-        made.write(made.OUT, [made.line_of("scisim", sources)])
-        say("the program is built")
+    RT.rtlib.Crate = Crate
+    RT.Crate.allowed = RT.handles_of(str(made.ROOT))
+    program = next(it for it in RT.rtlib.crates_below(str(made.ROOT)) if it.name == "sci_sim")
+    crates = [*program.below(), program]
+    # (another build, or another rt, ends first, and this one says that it waits)
+    RT.rtlib.lock(crates)
+    sources = made.sources_of("sci_sim")
+    if made.PROGRAM.is_file() and made.line_of("scisim", sources) in made.read(made.OUT):
+        say("the program is built already from the sources as they stand")
         return 0
+    if not build_all([it for it in crates if it is program or not it.is_built()]):
+        return 1
+    if made.sources_of("sci_sim") != sources:
+        say("the sources have changed meanwhile, and this program isn't of them: build again")
+        return 1
+    made.write(made.OUT, [made.line_of("scisim", sources)])
+    say("the program is built")
+    return 0
