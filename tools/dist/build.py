@@ -7,8 +7,7 @@ import threading
 import time
 
 import made
-from kit import RATTLE, RT
-from trying import run
+from kit import RT
 
 # in seconds: from one line to the next at the most; a line of a crate that dist/seconds lacks
 BETWEEN_LINES = 60
@@ -19,27 +18,17 @@ def say(text):
     print(f"scisim: {text}", file=sys.stderr, flush=True)
 
 
-class Crate(RT.Crate):
-    """A crate whose check goes into a log of its own."""
-
-    def call(self, *words):
-        if words[0] != RATTLE:
-            return super().call(*words)
-        status, said, _ = run([*words[1:]], self.folder)
-        self.out.write(said)
-        return status
-
-    def build(self, jobs):
-        """Proves and builds the crate by so many jobs, and returns whether that went well. A program has its name only once it is whole."""
-        os.makedirs(f"{self.folder}/out", exist_ok=True)
-        flags, program = ["--jobs", str(jobs)], f"out/{self.name}"
-        with open(f"{self.folder}/out/build.log", "w", encoding="utf-8") as self.out:
-            if not self.is_program:
-                return not self.build_rlib(flags, anew=False)
-            if self.compile(flags, f"{program}.o") or self.link(f"{program}.o", f"{program}.new"):
-                return False
-        os.replace(f"{self.folder}/{program}.new", f"{self.folder}/{program}")
-        return True
+def is_built(crate, jobs):
+    """Proves and builds a crate by so many jobs, and returns whether that went well. A program has its name only once it is whole."""
+    os.makedirs(f"{crate.folder}/out", exist_ok=True)
+    flags, program = ["--jobs", str(jobs)], f"out/{crate.name}"
+    with open(f"{crate.folder}/out/build.log", "w", encoding="utf-8") as crate.out:
+        if not crate.is_program:
+            return not crate.build_rlib(flags, anew=False)
+        if crate.compile(flags, f"{program}.o") or crate.link(f"{program}.o", f"{program}.new"):
+            return False
+    os.replace(f"{crate.folder}/{program}.new", f"{crate.folder}/{program}")
+    return True
 
 
 class Watch:
@@ -51,7 +40,8 @@ class Watch:
         rows = (made.DIST / "seconds").read_text(encoding="utf-8").split()
         known = dict(zip(rows[::2], map(int, rows[1::2])))
         self.seconds = {it.name: known.get(it.name, A_LINE * it.count(rb"\n")) for it in crates}
-        self.begun, self.ended = {}, set()
+        # by the crates' names: when the check began, and whether it went well
+        self.begun, self.ended = {}, {}
 
     def minutes(self):
         """The minutes of the longest chain of crates that are left, or of all, shared by the processors."""
@@ -62,9 +52,9 @@ class Watch:
             chain[it.name] = left[it.name] + max((chain.get(below.name, 0) for below in it.deps), default=0)
         return int(max(*chain.values(), sum(left.values()) / self.lanes) / 60) + 1
 
-    def ends(self, name, well):
-        self.ended.add(name)
-        say(f"{name} is proved ({len(self.ended)} of {len(self.crates)})" if well else f"{name} is NOT proved: see crates/{name}/out/build.log")
+    def tell_end(self, name):
+        count = f"{sum(self.ended.values())} of {len(self.crates)}"
+        say(f"{name} is proved ({count})" if self.ended[name] else f"{name} is NOT proved: see crates/{name}/out/build.log")
 
     def go_on(self):
         last, said = [], 0
@@ -87,9 +77,9 @@ def build_all(crates):
         if not all(given[it] for it in waits[crate.name]):
             return False
         watch.begun[crate.name] = time.monotonic()
-        well = crate.build(jobs)
-        watch.ends(crate.name, well)
-        return well
+        watch.ended[crate.name] = is_built(crate, jobs)
+        watch.tell_end(crate.name)
+        return watch.ended[crate.name]
 
     waits = {it.name: [(below.name, "proof") for below in it.below() if below in crates] for it in crates}
     calls = {it.name: lambda given, jobs, it=it: build(it, given, jobs) for it in crates}
@@ -101,7 +91,6 @@ def main():
     # (with its own handler, Python would wait for the threads)
     signal.signal(signal.SIGINT, signal.SIG_DFL)
     os.chdir(made.ROOT)
-    RT.rtlib.Crate = Crate
     RT.Crate.allowed = RT.handles_of(str(made.ROOT))
     program = next(it for it in RT.rtlib.crates_below(str(made.ROOT)) if it.name == "sci_sim")
     crates = [*program.below(), program]
