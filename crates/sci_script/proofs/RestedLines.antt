@@ -63,6 +63,10 @@ module _ (n : ℕ) (first items : List (WholeLine AnyWords)) (k p : ℕ) (w v : 
             (cases_eq l k);
       }
 
+-- lines that keep their widths are as wide as before
+pub stay_wide : (n : ℕ) (first items : List (WholeLine AnyWords)) → length items ≡ length first → ((j : ℕ) → nodes_of (whole_of items j) ≡ nodes_of (whole_of first j)) → All (λ w. nodes_of w ≡ n) first → All (λ w. nodes_of w ≡ n) items
+stay_wide n first items count same wide = λ line d lt. ap nodes_of (get_or_default items line d no_line lt) ∙ same line ∙ wide line no_line (subst (λ (m : ℕ). line < m) count lt)
+
 -- lines that stay the same but for their states are still those of a bank, and as wide
 module _ (first items : List (WholeLine AnyWords)) (count : length items ≡ length first) (same : (j : ℕ) → IsSameLine (whole_of first j) (whole_of items j)) where
   pub lines_stay : (keep : AnyWords) (node : ℕ) → AreLinesOf keep node first → AreLinesOf keep node items
@@ -80,10 +84,7 @@ module _ (first items : List (WholeLine AnyWords)) (count : length items ≡ len
   }
 
   pub widths_stay : (n : ℕ) → All (λ w. nodes_of w ≡ n) first → All (λ w. nodes_of w ≡ n) items
-  widths_stay n wide = λ line d lt.
-      let was : nodes_of (whole_of first line) ≡ n = wide line no_line (omega (arith, lt, count)) in
-      let at : nodes_of (whole_of items line) ≡ n = (same line).nodes ∙ was in
-      subst (λ (x : WholeLine AnyWords). nodes_of x ≡ n) (get_or_default items line no_line d lt) at
+  widths_stay n wide = stay_wide n first items count (λ j. (same j).nodes) wide
 
 -- each line that there is comes to rest, and where none is, all is at rest
 pub all_at_rest : (n m : ℕ) (first items : List (WholeLine AnyWords)) (turns : ℕ) → length items ≡ m → ComeToRest n m first turns items → (line : ℕ) → IsAtRest (state_of (whole_of items line))

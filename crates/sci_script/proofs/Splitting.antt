@@ -1,11 +1,14 @@
 -- The words of a line, from the first to the last.
-use Rattle.std.proofs.Common.{◌≡◌, ◌∙◌, ℕ, ◌+◌, ◌-◌, ◌<◌, ◌≤◌, ◌==◌, Ok, true, false, not, List, [], ◌∷◌, ◌++◌, All, length, get_or, take, drop, filter, refl, sym, ap, arith, subst}
+use Rattle.std.proofs.Common.{◌≡◌, ◌∙◌, ℕ, ◌+◌, ◌-◌, ◌<◌, ◌≤◌, ◌==◌, Ok, Err, true, false, not, List, [], ◌∷◌, ◌++◌, All, length, get_or, take, drop, filter, refl, sym, ap, arith, subst}
+use Rattle.std.specs.Char.{is_ascii_graphic}
 use Rattle.std.specs.List.{AllWithin, list_all, slice_split}
 use Rattle.std.proofs.lemmas.List.{append_assoc, drop_more, drop-drop, get_or-take, get_or-drop, get_or_default, length-take, take-append-drop, take_rest}
 use Rattle.std.proofs.lemmas.List.Elements.{AllWithin-more, AllWithin-upto, All-from_all_within, filter-append}
 use Rattle.std.proofs.lemmas.List.Splits.{slice_split_at, slice_split_none}
+use Rattle.std.proofs.lemmas.List.Folds.{list_all_at}
 use Rattle.std.proofs.lemmas.List.Sums.{list_all-from_AllPass}
 use Rattle.std.proofs.lemmas.Bool.Decides.{nat_tests}
+use Rattle.sci_script.specs.declared.refusals.ScriptRefusal.TheVariants.{BadCommand}
 use Rattle.sci_script.specs.Format.{words_at}
 use Rattle.sci_script.specs.Words.{has_bytes, is_blank, is_plain, words_of}
 
@@ -44,14 +47,27 @@ words_more old new more rest left all put cut h = ap (λ (l : List (List ℕ)). 
 pub words_end : (old new last left all : List (List ℕ)) → new ≡ old ++ last → left ≡ last → old ++ left ≡ all → new ≡ all
 words_end old new last left all put cut h = cc
 
--- a blank is plain
-plain_blank : (b : ℕ) → is_blank b ≡ true → is_plain b ≡ true
+-- a byte that prints, or a blank, is plain; one that prints is no blank
+pub plain_blank : (b : ℕ) → is_blank b ≡ true → is_plain b ≡ true
 plain_blank b h = grind (arith, nat_tests)
 
--- a blank behind plain bytes
-pub plain_more : (line : List ℕ) (at : ℕ) → at < length line → AllWithin (λ b. is_plain b ≡ true) line 0 at → is_blank (get_or line at 0) ≡ true → AllWithin (λ b. is_plain b ≡ true) line 0 (at + 1)
-plain_more line at inside h blank =
-    AllWithin-more (λ b. is_plain b ≡ true) line 0 at h (λ d. subst (λ (b : ℕ). is_plain b ≡ true) (get_or_default line at 0 d inside) (plain_blank (get_or line at 0) blank))
+pub plain_graphic : (b : ℕ) → is_ascii_graphic b ≡ true → is_plain b ≡ true
+plain_graphic b h = grind (arith, nat_tests)
+
+pub no_blank : (b : ℕ) → is_ascii_graphic b ≡ true → is_blank b ≡ false
+no_blank b h = grind (arith, nat_tests)
+
+not_plain : (b : ℕ) → is_ascii_graphic b ≡ false → is_blank b ≡ false → is_plain b ≡ false
+not_plain b g h = grind (arith, nat_tests)
+
+-- one more byte of a kind
+pub one_more : (P : ℕ → Type 0) (line : List ℕ) (low at : ℕ) → at < length line → AllWithin P line low at → P (get_or line at 0) → AllWithin P line low (at + 1)
+one_more P line low at inside h here = AllWithin-more P line low at h (λ d. subst P (get_or_default line at 0 d inside) here)
+
+-- a line with a byte that isn't plain is refused
+pub line_refused : (number : ℕ) (line : List ℕ) (at : ℕ) → at < length line → is_ascii_graphic (get_or line at 0) ≡ false → is_blank (get_or line at 0) ≡ false → words_at number line ≡ Err (BadCommand number)
+unfolding words_at
+line_refused number line at inside g h = let odd : list_all is_plain line ≡ false = list_all_at is_plain line at 0 inside (not_plain (get_or line at 0) g h) in rw odd refl
 
 -- a line of plain bytes gives its words
 pub line_read : (number : ℕ) (line : List ℕ) (at : ℕ) (words : List (List ℕ)) → length line ≤ at → AllWithin (λ b. is_plain b ≡ true) line 0 at → words ≡ words_of line → words_at number line ≡ Ok words

@@ -10,7 +10,7 @@ ghost use Rattle.sci_script.specs.Faults.{verb_of, arguments_of, range_of, is_wi
 
 use crate::commands::Size;
 use crate::line_commands::size;
-use crate::line_words::split_line;
+use crate::line_words::{is_word, split_line};
 use crate::numbers::{is_long, number};
 use crate::places::{Place, Stand};
 use crate::reader::first_entry;
@@ -55,33 +55,33 @@ pub(crate) enum Argument {
 fn verb_named(name: &[u8]) -> Option<Verb>
     ensures { result ≡ verb_of name.now }
 {
-    if name == b"load".as_slice() {
+    if is_word(name, b"load") {
         Some(Verb::Load)
-    } else if name == b"store".as_slice() {
+    } else if is_word(name, b"store") {
         Some(Verb::Store)
-    } else if name == b"add".as_slice() {
+    } else if is_word(name, b"add") {
         Some(Verb::Add)
-    } else if name == b"evict".as_slice() {
+    } else if is_word(name, b"evict") {
         Some(Verb::Evict)
-    } else if name == b"turn".as_slice() {
+    } else if is_word(name, b"turn") {
         Some(Verb::Turn)
-    } else if name == b"done".as_slice() {
+    } else if is_word(name, b"done") {
         Some(Verb::Done)
-    } else if name == b"rest".as_slice() {
+    } else if is_word(name, b"rest") {
         Some(Verb::Rest)
-    } else if name == b"end".as_slice() {
+    } else if is_word(name, b"end") {
         Some(Verb::End)
-    } else if name == b"list".as_slice() {
+    } else if is_word(name, b"list") {
         Some(Verb::List)
-    } else if name == b"tag".as_slice() {
+    } else if is_word(name, b"tag") {
         Some(Verb::Tag)
-    } else if name == b"residents".as_slice() {
+    } else if is_word(name, b"residents") {
         Some(Verb::Residents)
-    } else if name == b"memory".as_slice() {
+    } else if is_word(name, b"memory") {
         Some(Verb::Memory)
-    } else if name == b"capacity".as_slice() {
+    } else if is_word(name, b"capacity") {
         Some(Verb::Capacity)
-    } else if name == b"open".as_slice() {
+    } else if is_word(name, b"open") {
         Some(Verb::Open)
     } else {
         None

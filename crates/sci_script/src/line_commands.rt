@@ -5,6 +5,7 @@ ghost use Rattle.sci_script.specs.Size.{IsSize, IsCapacity, IsIn};
 ghost use Rattle.sci_script.specs.Format.{Gives, node_at, line_at, value_at, values_at, place_at, change_at, size_at, opening_at, opening_of, load_at, store_at, add_at, evict_at, turn_at, done_at, rest_at, end_at, list_at, tag_at, residents_at, other_at, command_at, bound_at, bound_of};
 
 use crate::commands::{Command, Opening, Request, Size};
+use crate::line_words::is_word;
 use crate::numbers::number_within;
 use crate::refusals::ScriptRefusal;
 use sci_core::{Line, MOST_NODES};
@@ -17,7 +18,7 @@ pub fn size(number: u64, words: &[&[u8]]) -> Result<Size, ScriptRefusal>
     ensures size { IfOk result IsSize }
 {
     match words {
-        [name, nodes, lines] if *name == b"memory".as_slice() => {
+        [name, nodes, lines] if is_word(name, b"memory") => {
             let nodes = number_within(number, 1, u64::from(MOST_NODES), nodes)? as u16;
             let lines = number_within(number, 1, 1024, lines)? as u16;
             Ok(Size { nodes, lines })
@@ -101,7 +102,7 @@ pub fn bound(number: u64, words: &[&[u8]]) -> Result<Option<u16>, ScriptRefusal>
     ensures range { IfOk result (λ found. IfSome found IsCapacity) }
 {
     match words {
-        [name, args @ ..] if *name == b"capacity".as_slice() => Ok(Some(bounded(number, args)?)),
+        [name, args @ ..] if is_word(name, b"capacity") => Ok(Some(bounded(number, args)?)),
         _ => Ok(None),
     }
 }
@@ -113,7 +114,7 @@ pub fn opening(number: u64, size: Size, words: &[&[u8]]) -> Result<Option<Openin
     ensures { Gives (λ o. o) result (opening_of number size (map (λ w. w.now) words.now)) }
 {
     match words {
-        [name, args @ ..] if *name == b"open".as_slice() => Ok(Some(opened(number, size, args)?)),
+        [name, args @ ..] if is_word(name, b"open") => Ok(Some(opened(number, size, args)?)),
         _ => Ok(None),
     }
 }
@@ -345,19 +346,19 @@ fn other(number: u64, size: Size, name: &[u8], args: &[&[u8]]) -> Result<Command
     ensures exact { Gives (λ c. c) result (other_at number size name.now (map (λ w. w.now) args.now)) }
     ensures fits { IfOk result (IsIn size) }
 {
-    if name == b"turn".as_slice() {
+    if is_word(name, b"turn") {
         turn(number, size, args)
-    } else if name == b"done".as_slice() {
+    } else if is_word(name, b"done") {
         done(number, size, args)
-    } else if name == b"rest".as_slice() {
+    } else if is_word(name, b"rest") {
         rest(number, size, args)
-    } else if name == b"end".as_slice() {
+    } else if is_word(name, b"end") {
         end(number, size, args)
-    } else if name == b"list".as_slice() {
+    } else if is_word(name, b"list") {
         list(number, size, args)
-    } else if name == b"tag".as_slice() {
+    } else if is_word(name, b"tag") {
         tag(number, size, args)
-    } else if name == b"residents".as_slice() {
+    } else if is_word(name, b"residents") {
         residents(number, size, args)
     } else {
         Err(ScriptRefusal::BadCommand(number))
@@ -374,13 +375,13 @@ pub fn command(number: u64, size: Size, words: &[&[u8]]) -> Result<Command, Scri
     let [name, args @ ..] = words else {
         return Err(ScriptRefusal::BadCommand(number));
     };
-    if *name == b"load".as_slice() {
+    if is_word(name, b"load") {
         load(number, size, args)
-    } else if *name == b"store".as_slice() {
+    } else if is_word(name, b"store") {
         store(number, size, args)
-    } else if *name == b"add".as_slice() {
+    } else if is_word(name, b"add") {
         add(number, size, args)
-    } else if *name == b"evict".as_slice() {
+    } else if is_word(name, b"evict") {
         evict(number, size, args)
     } else {
         other(number, size, name, args)

@@ -2,6 +2,7 @@
 
 ghost use Rattle.std.specs.Prelude.{◌≡◌, ◌++◌, ◌∷◌, [], OnOk, filter, map};
 ghost use Rattle.std.specs.List.{list_all};
+ghost use Rattle.std.specs.Str.{bytes_eq};
 ghost use Rattle.sci_script.specs.Words.{has_bytes, is_blank, is_skipped};
 ghost use Rattle.sci_script.specs.Format.{Gives, words_at};
 
@@ -25,6 +26,14 @@ pub fn is_skipped(line: &[u8]) -> bool
     ensures { result ≡ is_skipped line.now }
 {
     line.first() == Some(&b'#') || is_empty_line(line)
+}
+
+/// Whether a word is this name.
+#[inline(always)]
+pub fn is_word(word: &[u8], name: &[u8]) -> bool
+    ensures { result ≡ bytes_eq word.now name.now }
+{
+    word == name
 }
 
 /// Puts a word behind the words, if it has bytes.

@@ -1,4 +1,4 @@
-use Rattle.std.proofs.Common.{◌≡◌, ◌≢◌, ◌<◌, ◌∙◌, ℕ, Some, refl, sym, ap, subst, length, List}
+use Rattle.std.proofs.Common.{◌≡◌, ◌≢◌, ◌<◌, ◌∙◌, ℕ, Some, refl, sym, ap, subst, length, List, All}
 use Rattle.sci_core.specs.declared.keeps.AnyWords.{AnyWords}
 use Rattle.sci_core.specs.Progress.{IsMover}
 use Rattle.sci_core.specs.Whole.{WholeLine, nodes_of, state_of}
@@ -12,6 +12,7 @@ use Rattle.sci_script.specs.Turns.{TurnsOn}
 use Rattle.sci_script.specs.Unused.{no_line}
 use Rattle.sci_script.proofs.Calming.{takes_rest, rest_falls}
 use Rattle.sci_script.proofs.PassedLines.{passed_line}
+use Rattle.sci_script.proofs.RestedLines.{stay_wide}
 use Rattle.sci_script.proofs.wholes.WholeDesk.watched_rest_turn.Goals as goal
 
 pub seat-requires : goal.seat-requires
@@ -27,6 +28,20 @@ seat-requires c =
       some = desk.bank.of.some;
       few = desk.bank.of.few;
       each = λ l d lt. record { number = (desk.bank.of.each l d lt).number; fact = (desk.bank.of.each l d lt).fact; below = subst (λ (n : ℕ). me < n) (sym (desk.widths l d lt)) below };
+    }
+
+pub invariant_of-self : goal.invariant_of-self
+invariant_of-self c =
+    let desk = c.args.self.now in
+    let wholes = c.seat.new.self.wholes.items in
+    let after = c.watched_load_on.new.bank.wholes.items in
+    let lines : wholes ≡ desk.bank.wholes.items = ap (λ v. v.items) c.seat.ensures.same_lines in
+    let wide = subst (λ (l : List (WholeLine AnyWords)). All (λ w. nodes_of w ≡ desk.size.nodes) l) (sym lines) desk.widths in
+    record {
+      lines = c.watched_load_on.ensures.same_lines ∙ ap length lines ∙ desk.lines;
+      widths = stay_wide desk.size.nodes wholes after c.watched_load_on.ensures.same_lines c.watched_load_on.ensures.same_widths wide;
+      count = desk.count;
+      of = desk.of;
     }
 
 pub returns-clause-turned : goal.returns-clause-turned
