@@ -19,7 +19,7 @@ would have another number.
 
 With ample memory, as `rt ci` runs them, all these tests pass. The status is 0 where all is as it must be.
 
-Without a NAME the built program is run with each allocation refused, as program.py says. And docs/MEMORY.md must have each public
+Without a NAME the built program is run with each allocation refused, as program.py says. And tools/allocations/calls.md must have each public
 call, with the test that shows its growths, as calls.py says.
 """
 
@@ -202,7 +202,7 @@ def main():
             for file, of_file in of_crate.items():
                 for it in of_file or ["each growth was answered as it must be" if file.name == "growths.rt" else "no call took memory that takes none"]:
                     print(f"allocations: {file.relative_to(ROOT / 'crates')}: {it}", flush=True)
-        others = {"docs/MEMORY.md": faults_of_calls()} | ({} if given.names else {"sci_sim": faults_of_program(refusing, given.built)})
+        others = {"tools/allocations/calls.md": faults_of_calls()} | ({} if given.names else {"sci_sim": faults_of_program(refusing, given.built)})
     for name, of_name in others.items():
         for it in of_name or ["all is as it must be"]:
             print(f"allocations: {name}: {it}", flush=True)

@@ -1,4 +1,4 @@
-"""The table of public calls, docs/MEMORY.md: that it has each, and that the tests which it names are there and show what it says.
+"""The table of public calls, tools/allocations/calls.md: that it has each, and that the tests which it names are there and show what it says.
 
 A row names calls, as `read_tag` or `Whole::{mem, tag}`; whether they take memory, `yes` or `none`; whether they may wait, `may` or
 `no`; and where that is seen: tests, as `sci_line_tests::whole::growths::refused_growths`, or `in` calls that are made of these.
@@ -95,7 +95,7 @@ def tests_of(root):
 
 def rows_of(root):
     """The rows of the table, each with its crate."""
-    text = (root / "docs/MEMORY.md").read_text(encoding="utf-8")
+    text = (root / "tools/allocations/calls.md").read_text(encoding="utf-8")
     parts = re.split(r"(?m)^## (\w+)$", text)
     return [(crate, *row) for crate, part in zip(parts[1::2], parts[2::2]) for row in ROW.findall(part)]
 

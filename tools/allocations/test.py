@@ -71,32 +71,32 @@ CRATE = {
     "crates/one_tests/src/lib.rt": "",
     "crates/one_tests/src/lines/growths.rt": "/// Growths: 2 of open.\n#[test]\nfn growths() {\n}\n",
     "crates/one_tests/src/lines/memory.rt": "#[test]\nfn reads() {\n    read(0);\n}\n",
-    "docs/MEMORY.md": "## one\n\n| calls | memory | waits | seen in |\n|---|---|---|---|\n"
+    "tools/allocations/calls.md": "## one\n\n| calls | memory | waits | seen in |\n|---|---|---|---|\n"
     "| `old::{read}` | none | no | its signature |\n"
     "| `read` | none | no | its signature |\n| `Line::{open}` | yes | no | `one_tests::lines::growths::growths` |\n",
 }
-OPEN, READ = CRATE["docs/MEMORY.md"].splitlines()[-1], CRATE["docs/MEMORY.md"].splitlines()[-2]
+OPEN, READ = CRATE["tools/allocations/calls.md"].splitlines()[-1], CRATE["tools/allocations/calls.md"].splitlines()[-2]
 
 # what is tried, the file of it that is changed, the old text and the new, and what is told
 TABLES = [
-    ("the table as it is", "docs/MEMORY.md", "", "", None),
-    ("a missing row", "docs/MEMORY.md", READ + "\n", "", "read stands in no row"),
-    ("a missing row of a call with an allocator", "docs/MEMORY.md", OPEN + "\n", "", "Line::open stands in no row"),
-    ("a missing row of a public module's call", "docs/MEMORY.md", "| `old::{read}` | none | no | its signature |\n", "", "old::read stands in no row"),
-    ("a row of a public module's own", "docs/MEMORY.md", "`old::{read}`", "`old::{read, inner}`", "there is no public call old::inner"),
-    ("a stale row", "docs/MEMORY.md", "`read`", "`read`, `write`", "there is no public call write"),
-    ("a row of a call that isn't handed on", "docs/MEMORY.md", "`read`", "`read`, `inner`", "there is no public call inner"),
-    ("two rows of a call", "docs/MEMORY.md", READ, READ + "\n" + READ, "read stands in 2 rows"),
-    ("a test that isn't there", "docs/MEMORY.md", "growths::growths", "growths::more", "there is no test one_tests::lines::growths::more"),
+    ("the table as it is", "tools/allocations/calls.md", "", "", None),
+    ("a missing row", "tools/allocations/calls.md", READ + "\n", "", "read stands in no row"),
+    ("a missing row of a call with an allocator", "tools/allocations/calls.md", OPEN + "\n", "", "Line::open stands in no row"),
+    ("a missing row of a public module's call", "tools/allocations/calls.md", "| `old::{read}` | none | no | its signature |\n", "", "old::read stands in no row"),
+    ("a row of a public module's own", "tools/allocations/calls.md", "`old::{read}`", "`old::{read, inner}`", "there is no public call old::inner"),
+    ("a stale row", "tools/allocations/calls.md", "`read`", "`read`, `write`", "there is no public call write"),
+    ("a row of a call that isn't handed on", "tools/allocations/calls.md", "`read`", "`read`, `inner`", "there is no public call inner"),
+    ("two rows of a call", "tools/allocations/calls.md", READ, READ + "\n" + READ, "read stands in 2 rows"),
+    ("a test that isn't there", "tools/allocations/calls.md", "growths::growths", "growths::more", "there is no test one_tests::lines::growths::more"),
     ("a call without growths", "crates/one_tests/src/lines/growths.rt", "of open", "of close", "Line::open: no test that its row names has growths of it"),
-    ("a row that can't be read", "docs/MEMORY.md", OPEN, "| `Line::open` | none | no | |", "Line::open stands in no row"),
-    ("an allocator, and no test that it isn't used", "docs/MEMORY.md", OPEN, "| `Line::open` | none | no | its signature |", "Line::open: no test shows"),
-    ("a call within one that has no growths", "docs/MEMORY.md", OPEN, "| `Line::open` | yes | no | in `read` |", "the growths of read are shown by no test"),
+    ("a row that can't be read", "tools/allocations/calls.md", OPEN, "| `Line::open` | none | no | |", "Line::open stands in no row"),
+    ("an allocator, and no test that it isn't used", "tools/allocations/calls.md", OPEN, "| `Line::open` | none | no | its signature |", "Line::open: no test shows"),
+    ("a call within one that has no growths", "tools/allocations/calls.md", OPEN, "| `Line::open` | yes | no | in `read` |", "the growths of read are shown by no test"),
     ("a call that may wait, and is said not to", "crates/one/src/calls.rt", "fn read(", "fn read<R: Wait>(", "read: 'none' and 'no'"),
     ("a new call", "crates/one/src/calls.rt", "    fn own(", "    pub fn own(", "Line::own stands in no row"),
     ("a new unsafe call", "crates/one/src/calls.rt", "    fn own(", "    pub unsafe fn own(", "Line::own stands in no row"),
-    ("a call that grows, and is said to take none", "docs/MEMORY.md", "| yes | no | `", "| none | no | `", "Line::open: a test has growths of it"),
-    ("a test that doesn't name the call", "docs/MEMORY.md", OPEN, "| `Line::open` | none | no | `one_tests::lines::memory::reads` |", "Line::open: no test shows"),
+    ("a call that grows, and is said to take none", "tools/allocations/calls.md", "| yes | no | `", "| none | no | `", "Line::open: a test has growths of it"),
+    ("a test that doesn't name the call", "tools/allocations/calls.md", OPEN, "| `Line::open` | none | no | `one_tests::lines::memory::reads` |", "Line::open: no test shows"),
     ("all names handed on", "crates/one/src/lib.rt", "{Line, read}", "*", "its lib.rt has 'pub use calls::*;'"),
     ("a name handed on within another", "crates/one/src/lib.rt", "{Line, read}", "{Line, read, more::{close}}", "its lib.rt has 'pub use"),
     ("another name handed on", "crates/one/src/lib.rt", "{Line, read}", "{Line, read as write}", "its lib.rt has 'pub use"),

@@ -7,6 +7,8 @@
     python3 tools/law readback 4   ask the solver whether the definitions follow from the law, at 4 nodes
     python3 tools/law ask ROW [CLAUSE]   ask the solver whether the row keeps the law, or the clause, and show what breaks it
     python3 tools/law states [--check]   write docs/EVENTS.md, which row an event is in each state; or check that it is so
+    python3 tools/law try CHANGE [NODES]   search a changed table for the shortest run from HOME to a state that breaks the headline
+    python3 tools/law try --check   do the wrong tables of wrong/ lead to what they say?
 """
 import os
 import re
@@ -19,7 +21,7 @@ from clauses import CRATE, GROUPS
 from rows import ROWS
 
 CHECK = os.environ.get('CHECK', 'rt check --jobs 2')
-COMMANDS = ['write', 'hints', 'compact', 'possible', 'readback', 'ask', 'states']
+COMMANDS = ['write', 'hints', 'compact', 'possible', 'readback', 'ask', 'states', 'try']
 
 
 def place(lines, number):
@@ -119,6 +121,11 @@ def main():
     if command == 'states':
         import states
         sys.exit(0 if states.states(more) else 1)
+    if command == 'try':
+        import trial
+        if not more:
+            raise SystemExit('which change? python3 tools/law try CHANGE')
+        sys.exit(0 if trial.trial(more) else 1)
     if command == 'possible':
         import solver
         print('rows that can never be taken:', [row.name for row in ROWS.values() if not solver.possible(row)])

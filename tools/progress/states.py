@@ -59,21 +59,21 @@ def memory_of(word, bound, state):
     return Memory(*(evaluate(parse(text), bound, state) for text in (word.state, word.lent, word.forw)))
 
 
-def choices(kind, nodes):
+def choices(kind, nodes, lines):
     """What an argument may be that the step does not say."""
     links = [None, *((node,) for node in range(nodes))]
-    return {NODE: range(nodes), LINK: links, FLAG: (False, True), LINE: (BYTES,)}[kind]
+    return {NODE: range(nodes), LINK: links, FLAG: (False, True), LINE: lines}[kind]
 
 
-def bindings(row, state, me):
-    """The row's arguments that fit the node's pending step, one set after another."""
+def bindings(row, state, me, lines=(BYTES,)):
+    """The row's arguments that fit the node's pending step, one set after another; a line that the step doesn't keep is one of these."""
     bound = {'me': me}
     phase, *parts = row.step
     step = state.steps[me]
     if step.phase != phase or not all(match(parse(part), each, bound) for part, each in zip(parts, step.parts)):
         return
     left = [(name, kind) for name, kind in row.args if name not in bound]
-    for values in itertools.product(*(choices(kind, len(state.tags)) for _, kind in left)):
+    for values in itertools.product(*(choices(kind, len(state.tags), lines) for _, kind in left)):
         yield {**bound, **dict(zip((name for name, _ in left), values))}
 
 

@@ -1,11 +1,13 @@
 """Reads the texts of tools/law's rows, and evaluates them on a state."""
+import functools
 import re
 
 TOKENS = re.compile(r'\(|\)|,|[^\s(),]+')
 
 
+@functools.cache
 def parse(text):
-    """A text as nested lists: words, applications, tuples and comparisons."""
+    """A text as nested tuples: words, applications, tuples and comparisons."""
     tokens = TOKENS.findall(text)
     tree, rest = sentence(tokens)
     assert not rest, text

@@ -1,6 +1,7 @@
 """Tries the edits of crates/NAME/refused/, many in one check: the prover must refuse each by a goal of its own function.
 
-    python3 tools/refused [--warm] [--built] [--size N] [NAME ..]
+    python3 tools/refused [--warm] [--built] [--all] [--size N] [NAME ..]
+    python3 tools/refused --note LOG
 
 README.md beside this file says how. The last line is `N passed, M failed`; the status is 0 where none failed.
 """
@@ -19,6 +20,7 @@ from edits import edits_of
 from kit import RT, linked
 from tasks import report, say, tasks_of_edits
 from trying import Trial
+from turns import FILE, Tried, noted
 
 ROOT = pathlib.Path(__file__).resolve().parents[2]
 
@@ -66,24 +68,31 @@ def build(trial, given, jobs):
     return is_well
 
 
-def tasks_of(crates, root, room, size, is_built):
-    """Returns the trials of the crates that have edits, and the tasks for them and for the libraries below them."""
-    edits = {it.name: edits_of(it) for it in crates}
-    wanted = [it for it in crates if edits[it.name][0]]
+def tasks_of(trials, root, size, is_built):
+    """Returns the tasks for the edits of these trials, and for the libraries below them."""
+    wanted = [it.crate for it in trials if it.edits]
     used = {below.name for it in wanted for below in it.below()}
     has_libraries = is_built and take_libraries(root, wanted)
-    trials, tasks = [], {}
-    for crate in crates:
-        trial = Trial(crate, *edits[crate.name], f"{room}/kept/{crate.name}", say)
+    tasks = {}
+    for trial in trials:
+        crate = trial.crate
         lines, needs = crate.count(rb"\n"), RT.need(crate)
         waits = [] if has_libraries else [(it.name, "library") for it in crate.below()]
         if crate.name in used and not has_libraries:
             tasks[crate.name, "library"] = waits, lines, needs, lambda given, jobs, it=trial: build(it, given, jobs)
             waits = [(crate.name, "library")]
-        if trial.edits:
-            trials.append(trial)
-            tasks |= tasks_of_edits(trial, waits, size)
-    return trials, tasks
+        tasks |= tasks_of_edits(trial, waits, size)
+    return tasks
+
+
+def take_over(root, log):
+    """Takes over into the file `tried` what a run said that it tried; returns whether it said so."""
+    with open(log, encoding="utf-8", errors="replace") as it:
+        text = noted(root, it.read())
+    if text:
+        with open(f"{root}/{FILE}", "w", encoding="utf-8") as it:
+            it.write(text)
+    return bool(text)
 
 
 def main():
@@ -91,10 +100,15 @@ def main():
     parser.add_argument("--size", type=int, default=100, help="how many edits at most in one check")
     parser.add_argument("--warm", action="store_true", help="begin over what rt check kept in out/, and over the libraries that it built")
     parser.add_argument("--built", action="store_true", help="take the libraries below as rt ci has just built them")
+    parser.add_argument("--all", action="store_true", help="try every edit, whatever was tried before; so it is for a crate that is named")
+    parser.add_argument("--of", action="append", metavar="IT", help="only the edits of this function, as the prover calls it, or of this source file")
+    parser.add_argument("--note", metavar="LOG", help="try nothing, and take over into the file tried what a run said, as it stands in this file")
     parser.add_argument("--root", default=str(ROOT), help="the repository, if another than this one")
     parser.add_argument("names", nargs="*", metavar="NAME", help="the crates; all, if none is named")
     given = parser.parse_args()
     root = os.path.realpath(given.root)
+    if given.note:
+        return 0 if take_over(root, given.note) else parser.error(f"{given.note} says of no crate which of its edits were tried")
     # (over libraries as they are built, no other crate is proved)
     names = given.names if given.built and given.names else os.listdir(f"{root}/crates")
     kept = {it: f"{root}/crates/{it}/out/incremental" for it in names if given.warm}
@@ -108,9 +122,14 @@ def main():
             for it in crates:
                 if it.name not in given.names:
                     shutil.rmtree(f"{it.folder}/refused", ignore_errors=True)
-        trials, tasks = tasks_of(crates, root, room, max(given.size, 1), given.built or given.warm)
-        RT.in_lanes(tasks)
-        return 1 if report(trials) else 0
+        trials = [Trial(it, *edits_of(it), f"{room}/kept/{it.name}", say) for it in crates]
+        tried = Tried(root)
+        tried.choose(trials, given.all or given.names)
+        if given.of:
+            for it in trials:
+                it.keep_of({*given.of})
+        RT.in_lanes(tasks_of(trials, root, max(given.size, 1), given.built or given.warm))
+        return 1 if report(trials, tried) else 0
 
 
 if __name__ == "__main__":

@@ -12,25 +12,52 @@ FOLDER = "refused"
 
 
 class Edit:
-    """An edit of refused/: its name, its text, and the function whose body it changes, or why it can't be tried."""
+    """An edit of refused/: its name, its text as the kit reads one, and the function whose body it changes, or why it can't be tried."""
 
-    def __init__(self, path):
-        self.path, self.name, self.why = path, os.path.basename(path), None
+    def __init__(self, name, text="", why=None):
+        self.name, self.text, self.why = name, text, why
         # the function as the file has it, and what the prover calls it
         self.change, self.function = None, None
         # the file that it changes, the function's whole text as it is then, and whether a copy of the function can stand beside it
         self.file, self.item, self.has_copies = None, None, False
-        self.text = ""
-        if os.path.isfile(path):
-            with open(path, encoding="utf-8", errors="replace") as it:
-                self.text = it.read()
+
+
+def read_edits(folder):
+    """Returns the edits that stand in a folder, those of each file in its order."""
+    found, names = [], set()
+    for at, folders, files in os.walk(folder):
+        folders.sort()
+        for file in (f"{at}/{it}" for it in sorted(files) if not it.endswith(".md")):
+            found += read_file(file, os.path.relpath(file, folder))
+    for it in found:
+        if it.name in names:
+            it.why = "another edit of the crate has its name"
+        names.add(it.name)
+    return found
+
+
+def read_file(file, path):
+    """Returns the edits of a file, which are those of the source file that its path names."""
+    source, end = os.path.splitext(path)
+    if end != ".edits":
+        return [Edit(path, why="a file of refused/ has the path of a source file in src/, and .edits for .rt")]
+    found = []
+    with open(file, encoding="utf-8", errors="replace") as it:
+        lines = it.read().split("\n")
+    for number, line in enumerate(lines, 1):
+        named = re.fullmatch(r"edit: (\w+)", line)
+        if named:
+            found.append(Edit(named[1], f"file: src/{source}.rt\n"))
+        elif found and line.startswith(("old: ", "new:")):
+            found[-1].text += f"{line}\n"
+        elif line and not line.startswith("#"):
+            found.append(Edit(f"{path}:{number}", why="a line is 'edit: NAME', 'old: TEXT' or 'new: TEXT' below one, or begins with #"))
+    return found
 
 
 def edits_of(crate):
     """Returns the crate's edits, each with its function or with why it can't be tried, and the types that the crate declares."""
-    folder = f"{crate.folder}/{FOLDER}"
-    names = sorted(os.listdir(folder)) if os.path.isdir(folder) else []
-    found = [Edit(f"{folder}/{it}") for it in names if not it.endswith(".md")]
+    found = read_edits(f"{crate.folder}/{FOLDER}")
     items = items_of(crate) if found else {}
     with tempfile.TemporaryDirectory(prefix="refused-") as room:
         texts, seen = [], {}
@@ -74,8 +101,7 @@ def items_of(crate):
 
 def changes_of(edit, crate, items):
     """Returns the texts of the files that the edit changes, none where it can't be tried."""
-    if not edit.name.endswith(".edit") or not os.path.isfile(edit.path):
-        edit.why = "an edit is a file whose name ends in .edit"
+    if edit.why:
         return {}
     texts, edit.why = RT.edited(edit.text, crate.folder)
     if texts and not all(it in items for it in texts):

@@ -1,10 +1,11 @@
 """Runs `rt ci`, and beside it tries the edits of refused/, those of a library once it is proved: no processor waits for the last checks.
 
-    python3 tools/refused/gate.py FOLDER
+    python3 tools/refused/gate.py FOLDER [--all]
 
 It says what `rt ci` says, and has its status. FOLDER/edits has what became of the edits; its last line is `N passed, M failed`.
 """
 
+import argparse
 import contextlib
 import os
 import sys
@@ -17,6 +18,7 @@ from edits import edits_of
 from kit import RT, linked
 from tasks import report, say, tasks_of_edits
 from trying import Trial
+from turns import Tried
 
 # how many edits at most in one check
 SIZE = 100
@@ -84,12 +86,17 @@ def beside(in_lanes, trials):
 
 
 def main():
-    to = os.path.realpath(sys.argv[1])
+    parser = argparse.ArgumentParser(prog="gate.py", description=__doc__.split("\n")[0])
+    parser.add_argument("folder")
+    parser.add_argument("--all", action="store_true", help="try every edit, whatever was tried before")
+    given = parser.parse_args()
+    to = os.path.realpath(given.folder)
     os.makedirs(f"{to}/seeds", exist_ok=True)
     # (where there is no crates.txt, rt ci says so)
     crates = RT.rtlib.crates_below(os.getcwd()) if os.path.isfile("crates.txt") else []
     trials = [TrialBeside(it, to) for it in sorted(crates, key=lambda it: len(it.below()))]
-    trials = [it for it in trials if it.edits]
+    tried = Tried(os.getcwd())
+    tried.choose(trials, given.all)
     in_lanes = RT.in_lanes
     RT.in_lanes = beside(in_lanes, trials)
     name = seeds.name_of_kept()
@@ -101,7 +108,7 @@ def main():
     if not status:
         in_lanes(tasks_of([it for it in trials if not it.is_tried], lambda name: []))
     with open(f"{to}/edits", "w", encoding="utf-8") as said, contextlib.redirect_stdout(said):
-        report(trials)
+        report(trials, tried)
     return status
 
 

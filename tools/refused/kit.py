@@ -1,5 +1,6 @@
 """The kit's own `rt`, as a module: how it checks a crate, reads an edit and shares the processors."""
 
+import hashlib
 import importlib.machinery
 import importlib.util
 import os
@@ -32,6 +33,17 @@ def link_or_copy(file, to):
         os.link(file, to)
     except OSError:
         shutil.copy2(file, to)
+
+
+def sum_of(folder):
+    """Returns a sum of all that stands in a folder."""
+    found = hashlib.blake2b()
+    for at, folders, files in os.walk(folder):
+        folders.sort()
+        for file in sorted(files):
+            with open(f"{at}/{file}", "rb") as it:
+                found.update(f"{os.path.relpath(at, folder)}/{file}\n".encode() + hashlib.blake2b(it.read()).digest())
+    return found.digest()
 
 
 RT = load()

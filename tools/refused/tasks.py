@@ -3,6 +3,7 @@
 import threading
 
 from kit import RT
+from turns import TURNS
 
 PRINTING = threading.Lock()
 
@@ -23,6 +24,8 @@ def begin(trial, waits, given, jobs):
 def tasks_of_edits(trial, waits, size):
     """Returns the tasks for a crate's edits: a first one, the batches side by side over what it kept, and a last look. Where the kit
     asks for lines of work, the edits of a batch are counted: so the longest batches begin first, and the last to end is a short one."""
+    if not trial.edits:
+        return {}
     needs, name = RT.need(trial.crate), trial.crate.name
     tasks = {(name, "first"): (waits, 1, needs, lambda given, jobs: begin(trial, waits, given, jobs))}
     batches = trial.batches(size)
@@ -32,11 +35,12 @@ def tasks_of_edits(trial, waits, size):
     return tasks
 
 
-def report(trials):
-    """Prints what became of each edit and of each crate, and returns how many failed; that there is none counts as one."""
-    passed, failed = 0, 0
+def report(trials, tried):
+    """Prints what became of each edit and of each crate, and returns how many failed; that there is none counts as one. Where none
+    failed, the next run tries the edits of the next turn."""
+    passed, failed, trials = 0, 0, [it for it in trials if it.count]
     if not trials:
-        say("there was no edit to try")
+        say("there is no edit to try")
         failed = 1
     for trial in trials:
         for edit in trial.edits:
@@ -48,9 +52,14 @@ def report(trials):
         passed += len(trial.refused)
         failed += len(trial.edits) - len(trial.refused)
     for trial in trials:
-        say(f"{trial.crate.name}: {len(trial.refused)} refused, of them {len(trial.searched)} by search alone")
+        turn = f" (turn {trial.turn} of {TURNS})" if trial.turn else ""
+        told = f"{len(trial.refused)} refused, of them {len(trial.searched)} by search alone, over {trial.over}"
+        say(f"{trial.crate.name}: {len(trial.edits)} of {trial.count} tried{turn}, {told}")
         for edit in (it for it in trial.edits if it in trial.searched):
             say(f"{trial.crate.name}/{edit.name}: by search alone, which did not prove {trial.searched[edit]}")
-    say(f"{sum(it.used for it in trials):.0f} CPU s")
+    count, used = sum(len(it.edits) for it in trials), sum(it.used for it in trials)
+    say(f"{count} edits tried in {used:.0f} CPU s, {sum(it.count for it in trials) - count} left to later runs")
     print(f"{passed} passed, {failed} failed", flush=True)
+    if not failed:
+        tried.go_on(trials)
     return failed

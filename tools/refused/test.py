@@ -1,8 +1,11 @@
 """Tests tools/refused on a small crate: edits that are refused, by search alone too, and each way in which an edit fails, beside
-`rt ci` and without it; that the edits of must-fail/ begin over what `rt ci` proved of the crate; that no edit counts where the folder that they were tried
-over has changed behind them; which libraries are taken as they were built; and which proofs get more jobs."""
+`rt ci` and without it; which edits a run tries; that the edits of must-fail/ begin over what `rt ci` proved of the crate; that no edit
+counts where the folder that they were tried over has changed behind them; which libraries are taken as they were built; and which
+proofs get more jobs."""
 
+import contextlib
 import importlib.util
+import io
 import os
 import pathlib
 import re
@@ -17,7 +20,10 @@ sys.path.insert(0, str(TOOL))
 sys.dont_write_bytecode = True
 
 import gate
+import turns
+from edits import Edit, read_edits
 from kit import RATTLE, RT
+from tasks import report
 from trying import Trial
 
 CODE = """//! Halves and their sums.
@@ -95,24 +101,24 @@ returns-clause-some c = let more = returns-clause-more c in omega arith
 # the name of an edit, its text, and a word of what the tool says of it
 EDITS = [
     # (the first of a function is made in it, and so stands beside refused copies of it)
-    ("accepted_beside_copies", "file: src/lib.rt\nold:     number + 1\nnew:     1 + number\n", "NOT REFUSED"),
-    ("refused_in_a_copy", "file: src/lib.rt\nold:     number + 1\nnew:     number + 2\n", "lib::next_edit_1 did not prove"),
-    ("refused_too_in_a_copy", "file: src/lib.rt\nold:     number + 1\nnew:     number + 3\n", "lib::next_edit_2 did not prove"),
-    ("refused_in_a_method", "file: src/lib.rt\nold:         self.0\nnew:         self.0 / 2\n", "lib::Number::get did not prove"),
+    ("accepted_beside_copies", "old:     number + 1\nnew:     1 + number\n", "NOT REFUSED"),
+    ("refused_in_a_copy", "old:     number + 1\nnew:     number + 2\n", "lib::next_edit_1 did not prove"),
+    ("refused_too_in_a_copy", "old:     number + 1\nnew:     number + 3\n", "lib::next_edit_2 did not prove"),
     # (a square is even where its number is, but the search knows nothing of it)
-    ("refused_by_search_alone", "file: src/lib.rt\nold: like = number;\nnew: like = number * number;\n", "lib::like did not prove"),
-    ("refused_by_an_answer", "file: src/lib.rt\nold:     next(two)\nnew:     next(two) - 1\n", "`returns-clause-more`"),
-    # the same value, without the call that an answer names: in `third`, and the one above in a copy of it
-    ("only_names_fail", "file: src/lib.rt\nold: second(number);\nnew: number + 2;\n", "only a proof file that names"),
-    ("accepted", "file: src/lib.rt\nold:     number / 2\nnew:     number / 3\n", "NOT REFUSED"),
+    ("refused_by_search_alone", "old: like = number;\nnew: like = number * number;\n", "lib::like did not prove"),
+    # the same value, without the call that an answer names: in `third`, and the one below in a copy of it
+    ("only_names_fail", "old: second(number);\nnew: number + 2;\n", "only a proof file that names"),
+    ("refused_by_an_answer", "old:     next(two)\nnew:     next(two) - 1\n", "`returns-clause-more`"),
+    ("refused_in_a_method", "old:         self.0\nnew:         self.0 / 2\n", "lib::Number::get did not prove"),
+    ("accepted", "old:     number / 2\nnew:     number / 3\n", "NOT REFUSED"),
     # the same value, while the function that it calls is edited beside it in the same check
-    ("only_what_it_calls_is_refused", "file: src/lib.rt\nold: next(next(number))\nnew: next(next(number) + 0)\n", "NOT REFUSED"),
-    # (it stands behind the edits of `next`, so that those go together)
-    ("will_not_compile", "file: src/lib.rt\nold:         self.0\nnew:         self.one\n", "BAD EDIT: it doesn't reach the prover"),
-    ("cannot_be_applied", "file: src/lib.rt\nold:     number / 5\nnew:     number / 2\n", "BAD EDIT: an 'old:' text is in"),
-    ("changes_a_contract", "file: src/lib.rt\nold:     ensures { result ≤ number }\nnew:     ensures { result < number }\n", "outside the bodies"),
-    ("changes_two_functions", "file: src/lib.rt\nold:     number / 2\nnew:     number\nold:     number + 1\nnew:     number + 3\n", "bodies of 2 functions"),
-    ("the_same_change", "file: src/lib.rt\nold:   number + 1\nnew:   number + 2\n", "the same change as refused_in_a_copy.edit"),
+    ("only_what_it_calls_is_refused", "old: next(next(number))\nnew: next(next(number) + 0)\n", "NOT REFUSED"),
+    # (it stands behind the edits of `next` and `third`, so that those go together)
+    ("will_not_compile", "old:         self.0\nnew:         self.one\n", "BAD EDIT: it doesn't reach the prover"),
+    ("cannot_be_applied", "old:     number / 5\nnew:     number / 2\n", "BAD EDIT: an 'old:' text is in"),
+    ("changes_a_contract", "old:     ensures { result ≤ number }\nnew:     ensures { result < number }\n", "outside the bodies"),
+    ("changes_two_functions", "old:     number / 2\nnew:     number\nold:     number + 1\nnew:     number + 3\n", "bodies of 2 functions"),
+    ("the_same_change", "old:   number + 1\nnew:   number + 2\n", "the same change as refused_in_a_copy"),
 ]
 
 
@@ -144,8 +150,9 @@ def make(root, edits=EDITS):
     (crate / "src" / "lib.rt").write_text(code, encoding="utf-8")
     (crate / "proofs" / "third").mkdir(parents=True)
     (crate / "proofs" / "third" / "Answers.antt").write_text(ANSWERS, encoding="utf-8")
-    for name, text, _ in edits:
-        (crate / "refused" / f"{name}.edit").write_text(text, encoding="utf-8")
+    if edits:
+        text = "\n".join(f"edit: {name}\n{text}" for name, text, _ in edits)
+        (crate / "refused" / "lib.edits").write_text(f"# of halves\n\n{text}", encoding="utf-8")
 
 
 def add_must_fail(root):
@@ -154,7 +161,7 @@ def add_must_fail(root):
     folder.mkdir()
     for name, text, _ in EDITS:
         if name in ("refused_in_a_copy", "refused_in_a_method"):
-            (folder / f"{name}.edit").write_text(text, encoding="utf-8")
+            (folder / f"{name}.edit").write_text(f"file: src/lib.rt\n{text}", encoding="utf-8")
 
 
 def faults_of_gate():
@@ -163,8 +170,9 @@ def faults_of_gate():
         root = pathlib.Path(folder) / "repository"
         make(root)
         add_must_fail(root)
+        plant_sums(root)
         how = {"cwd": root, "stdin": subprocess.DEVNULL, "stdout": subprocess.PIPE, "stderr": subprocess.STDOUT, "text": True}
-        words = [sys.executable, str(TOOL / "gate.py"), f"{folder}/room"]
+        words = [sys.executable, str(TOOL / "gate.py"), f"{folder}/room", "--all"]
         ran = subprocess.run(words, **how)
         edits = pathlib.Path(folder, "room", "edits").read_text(encoding="utf-8")
         crate = RT.rtlib.crates_below(str(root))[0]
@@ -197,16 +205,16 @@ def faults_of_edits(said):
     """Returns what isn't as it must be of what is said of the edits."""
     faults = []
     for name, _, word in EDITS:
-        line = next((it for it in said.split("\n") if f"/{name}.edit: " in it), "no line")
+        line = next((it for it in said.split("\n") if f"/{name}: " in it), "no line")
         is_refused = ": refused, as it must be: " in line
         if word.replace("lib::", "lib_of_halves::") not in line or is_refused != name.startswith("refused"):
             faults.append(f"{name}: {line}")
-    alone = {name for name, *_ in EDITS if f"/{name}.edit: by search alone, which did not prove `" in said}
+    alone = {name for name, *_ in EDITS if f"/{name}: by search alone, which did not prove `" in said}
     if alone != {name for name, *_ in EDITS if name.startswith("refused_by_search_alone")}:
         faults.append(f"refused by search alone are {sorted(alone)}")
     refused = sum(it[0].startswith("refused") for it in EDITS)
-    if f": {refused} refused, of them {len(alone)} by search alone\n" not in said:
-        faults.append(f"it isn't said that {refused} are refused, and how many of them by search alone")
+    if f": {len(EDITS)} of {len(EDITS)} tried, {refused} refused, of them {len(alone)} by search alone, over " not in said:
+        faults.append(f"it isn't said that all are tried, {refused} refused, and how many of them by search alone")
     last = f"{refused} passed, {len(EDITS) - refused} failed"
     if said.rstrip("\n").split("\n")[-1] != last:
         faults.append(f"the last line is not {last}")
@@ -277,22 +285,136 @@ def faults_of_libraries():
     return faults
 
 
+def faults_of_reading():
+    """Returns what isn't as it must be of which edits are read, and why some can't be tried."""
+    files = {
+        "one.edits": "edit: first\nold: a\nnew:\n# why\nedit: twice\nold:  b\nnew: c\nold: d\nnew: e\n",
+        "folder/two.edits": "old: a\nedit: twice\nold: a\nnew: b\nedit: no name\n",
+        "three.edit": "file: src/one.rt\nold: a\nnew: b\n",
+        "README.md": "what these are\n",
+    }
+    wanted = [
+        ("first", "file: src/one.rt\nold: a\nnew:\n", False),
+        ("twice", "file: src/one.rt\nold:  b\nnew: c\nold: d\nnew: e\n", False),
+        ("three.edit", "", True),
+        ("folder/two.edits:1", "", True),
+        ("twice", "file: src/folder/two.rt\nold: a\nnew: b\n", True),
+        ("folder/two.edits:5", "", True),
+    ]
+    with tempfile.TemporaryDirectory(prefix="refused-test-") as folder:
+        for path, text in files.items():
+            file = pathlib.Path(folder, path)
+            file.parent.mkdir(exist_ok=True)
+            file.write_text(text, encoding="utf-8")
+        read = [(it.name, it.text, bool(it.why)) for it in read_edits(folder)]
+    return [] if sorted(read) == sorted(wanted) else [f"of edits in files these are read: {read}"]
+
+
+def plant_sums(root):
+    """Has the file `tried` say that all edits were tried over what stands there."""
+    tried = turns.Tried(str(root))
+    tried.sums = {it.name: turns.sum_of_crate(it) for it in RT.rtlib.crates_below(str(root))}
+    (root / turns.FILE).parent.mkdir(parents=True, exist_ok=True)
+    (root / turns.FILE).write_text(tried.text(), encoding="utf-8")
+
+
+class Turns:
+    """A crate and one above it, each of 20 edits, of which a run refuses all but those that are to fail."""
+
+    def __init__(self, root):
+        make(root)
+        self.root, self.file, self.crates = root, root / turns.FILE, ["lib_of_halves", "lib_above"]
+        (root / "crates.txt").write_text("lib_of_halves:\nlib_above: lib_of_halves\n", encoding="utf-8")
+        for part in ("crates/lib_above/src", "crates/lib_above/refused", "crates/lib_of_halves/specs", self.file.parent, ".git"):
+            (root / part).mkdir(parents=True, exist_ok=True)
+        for path in ("crates/lib_above/src/lib.rt", "crates/lib_of_halves/specs/Halves.antt"):
+            (root / path).write_text("", encoding="utf-8")
+
+    def run(self, is_all=False, failing=(), notes=True):
+        """Returns which edits of each crate a run tries, by place, and takes over what it says."""
+        tried, said = turns.Tried(str(self.root)), io.StringIO()
+        trials = [Trial(it, [Edit(f"{at}") for at in range(20)], [], "", print) for it in RT.rtlib.crates_below(str(self.root))]
+        tried.choose(trials, is_all)
+        for it in trials:
+            it.refused = {edit: "refused" for edit in it.edits if it.crate.name not in failing}
+        with contextlib.redirect_stdout(said):
+            report(trials, tried)
+        if notes:
+            self.file.write_text(turns.noted(str(self.root), said.getvalue()), encoding="utf-8")
+        return {it.crate.name: [int(edit.name) for edit in it.edits] for it in trials}
+
+    def whole(self, **how):
+        """Returns the crates of which a run tries all edits."""
+        return [name for name, tried in self.run(**how).items() if len(tried) == 20]
+
+    def changed(self, path):
+        """Returns the crates of which all edits are tried once a file has changed, and once that is noted."""
+        with open(self.root / "crates" / path, "a", encoding="utf-8") as it:
+            it.write("\n")
+        return self.whole(), self.whole()
+
+
+def faults_of_turns():
+    """Returns what isn't as it must be of which edits a run tries, by what has changed since they were last tried."""
+    with tempfile.TemporaryDirectory(prefix="refused-test-") as folder:
+        it = Turns(pathlib.Path(folder, "repository"))
+        both, low = it.crates, it.crates[:1]
+        told = [("with no file tried", it.whole(), both), ("as it was noted", it.whole(), []), ("with --all", it.whole(is_all=True), both)]
+        for path, wanted in (("src/lib.rt", both), ("specs/Halves.antt", both), ("proofs/third/Answers.antt", low), ("refused/lib.edits", low)):
+            told.append((f"behind a change of {path}", it.changed(f"lib_of_halves/{path}"), (wanted, [])))
+        told.append(("behind a change of the crate above", it.changed("lib_above/src/lib.rt"), (both[1:], [])))
+        told.append(("behind a run in which the lower's fail", (it.whole(failing=low), it.whole()), ([], low)))
+        logic, turns.logic = turns.logic, lambda: "other"
+        told.append(("under another logic", it.whole(notes=False), both))
+        turns.logic = logic
+        part = f"refused: {low[0]}: 3 of 20 tried, 3 refused, of them 0 by search alone, over 0123\n"
+        told.append(("behind a run of some edits", turns.noted(str(it.root), part), it.file.read_text(encoding="utf-8")))
+        told.append(("behind a failed run that isn't noted", it.run(notes=False, failing=low), it.run(notes=False)))
+        for notes, has_git in ((True, True), (False, True), (True, False)):
+            if not has_git:
+                (it.root / turns.RUNS).unlink(missing_ok=True)
+                (it.root / ".git").rmdir()
+            tried = [it.run(notes=notes) for _ in range(turns.TURNS)]
+            for name in both:
+                counts = [len(run[name]) for run in tried]
+                places = sorted(at for run in tried for at in run[name])
+                told.append((f"in eight runs, noted: {notes}, with a folder .git: {has_git}", (places, {*counts} <= {2, 3}), ([*range(20)], True)))
+        before = it.run(notes=False)
+        told.append(("in the next run, where none can be noted", it.run(notes=False), before))
+    return [f"{what}, tried whole or by place are {found}, and not {wanted}" for what, found, wanted in told if found != wanted]
+
+
+def run_alone(root):
+    """Returns the status of the tool without `rt ci`, and its last line."""
+    ran = subprocess.run([sys.executable, str(TOOL), "--root", str(root)], stdin=subprocess.DEVNULL, stdout=subprocess.PIPE, text=True)
+    return ran.returncode, ran.stdout.rstrip("\n").split("\n")[-1]
+
+
 def faults_alone():
-    """Returns what isn't as it must be of the tool without `rt ci`: of one edit, which is refused, and of none."""
+    """Returns what isn't as it must be of the tool without `rt ci`: of no edit, and of one that isn't refused though the file `tried` says
+    that all were. (That gate.py finds such with --all, `faults_of_gate` shows.)"""
     faults = []
-    for edits, status, last in ((EDITS[1:2], 0, "1 passed, 0 failed"), ([], 1, "0 passed, 1 failed")):
-        with tempfile.TemporaryDirectory(prefix="refused-test-") as folder:
-            make(pathlib.Path(folder), edits)
-            ran = subprocess.run([sys.executable, str(TOOL), "--root", folder], stdin=subprocess.DEVNULL, stdout=subprocess.PIPE, text=True)
-            if ran.returncode != status or ran.stdout.rstrip("\n").split("\n")[-1] != last:
-                faults.append(f"of {len(edits)} edits it says {ran.stdout[-1000:]}, and ends with {ran.returncode}")
-            if pathlib.Path(folder, "crates", "lib_of_halves", "out").exists():
-                faults.append("it wrote into the repository")
+    with tempfile.TemporaryDirectory(prefix="refused-test-") as folder:
+        make(pathlib.Path(folder), [])
+        if run_alone(folder) != (1, "0 passed, 1 failed"):
+            faults.append("where there is no edit to try, none is told to have failed")
+    with tempfile.TemporaryDirectory(prefix="refused-test-") as folder:
+        root, runs = pathlib.Path(folder), [(0, "")]
+        make(root, [it for it in EDITS if it[0] in ("refused_in_a_method", "accepted")])
+        (root / ".git").mkdir()
+        plant_sums(root)
+        while not runs[-1][0] and len(runs) <= turns.TURNS:
+            runs.append(run_alone(root))
+        if runs[-2:] != [(0, "1 passed, 0 failed"), (1, "0 passed, 1 failed")] or {*runs[1:-2]} != {(0, "0 passed, 0 failed")}:
+            faults.append(f"of an edit that is refused and one that isn't, runs by turns end with {runs[1:]}")
+        if (root / "crates" / "lib_of_halves" / "out").exists():
+            faults.append("it wrote into the repository")
     return faults
 
 
 def main():
-    faults = faults_of_words() + faults_of_lanes() + faults_of_gate() + faults_of_last_look() + faults_of_libraries() + faults_alone()
+    faults = faults_of_reading() + faults_of_words() + faults_of_turns() + faults_of_lanes() + faults_of_gate() + faults_of_last_look()
+    faults += faults_of_libraries() + faults_alone()
     for it in faults:
         print(f"the test of tools/refused: {it}")
     if not faults:

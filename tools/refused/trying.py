@@ -1,6 +1,5 @@
 """Tries a crate's edits over one folder of kept work."""
 
-import hashlib
 import os
 import re
 import shutil
@@ -10,7 +9,7 @@ import tempfile
 
 from edits import in_batches, name_of_copy, put, with_numbers
 from functions import modules_of, named, names_of
-from kit import RATTLE, RT, linked
+from kit import RATTLE, RT, linked, sum_of
 
 LINE = re.compile(r"^fn (\S+): (.*)$", re.M)
 # the last line of a check of some functions: how many were asked for, and how many of them are proved
@@ -109,17 +108,6 @@ def names_kept(folder, crate):
     return {file[len(start) : -len(end)].replace("-", "::") for file in files}
 
 
-def sum_of(folder):
-    """Returns a sum of all that stands in a folder."""
-    found = hashlib.blake2b()
-    for at, folders, files in os.walk(folder):
-        folders.sort()
-        for file in sorted(files):
-            with open(f"{at}/{file}", "rb") as it:
-                found.update(f"{at}/{file}\n".encode() + hashlib.blake2b(it.read()).digest())
-    return found.digest()
-
-
 class Trial:
     """A crate, its folder of kept work, and what became of its edits."""
 
@@ -134,6 +122,8 @@ class Trial:
         self.is_proved = False
         # the sum of that folder as the edits began with it, and the CPU seconds of all checks
         self.sum, self.used = None, 0
+        # the sum of the sources, how many edits the crate has, and the turn, where only those of a turn are tried
+        self.over, self.count, self.turn = "", len(edits), None
 
     def asked(self, by):
         """Returns the names, by functions or by their modules, of a copy of each function that is copied, and of what the edits change,
@@ -141,6 +131,11 @@ class Trial:
         copies = [it._replace(name=name_of_copy(it.name, 0)) for those in self.copied.values() for it in those]
         of_edits = [] if self.is_proved else [it.change for it in self.edits if it.change]
         return {path for it in [*of_edits, *copies] for path in by(it, self.types, self.crate.name)}
+
+    def keep_of(self, those):
+        """Keeps the edits of these functions, as the prover calls them, and of these source files."""
+        of_function = lambda it: it.change and named(it.change, self.types, self.crate.name, those)
+        self.edits = [it for it in self.edits if it.why or it.file in those or of_function(it)]
 
     def name_edits(self, known):
         """Finds which of the prover's functions each edit changes; returns whether that is told of all."""
