@@ -1,4 +1,6 @@
-"""Says a script's commands to `scisim talk` one by one, and prints what each prints: talk.py PROGRAM SCRIPT"""
+"""Says a script's commands to `scisim talk` one by one, and prints what each prints: talk.py PROGRAM SCRIPT
+
+A script is bytes: only a line feed ends a line, and a comment may hold any byte. It ends with 1 at a refusal, or where a pipe is closed."""
 
 import subprocess
 import sys
@@ -6,22 +8,33 @@ import sys
 
 def say(scisim, command):
     """The lines that a command prints, and the number of its refusal, or None."""
-    print(command, file=scisim.stdin, flush=True)
+    scisim.stdin.write(command.removesuffix(b"\n") + b"\n")
+    scisim.stdin.flush()
     printed = []
     for line in scisim.stdout:
         match line.split():
-            case ["ok"]:
+            case [b"ok"]:
                 return printed, None
-            case ["refused", number]:
+            case [b"refused", number]:
                 return printed, int(number)
         printed.append(line)
-    raise EOFError(command)
+    raise BrokenPipeError
+
+
+def main(program, script):
+    scisim = subprocess.Popen([program, "talk"], stdin=subprocess.PIPE, stdout=subprocess.PIPE)
+    with open(script, "rb") as commands:
+        for command in commands:
+            printed, refused = say(scisim, command)
+            sys.stdout.buffer.write(b"".join(printed))
+            sys.stdout.flush()
+            if refused:
+                sys.exit(f"refused {refused}: {command.decode(errors='backslashreplace')}")
 
 
 if __name__ == "__main__":
-    scisim = subprocess.Popen([sys.argv[1], "talk"], stdin=subprocess.PIPE, stdout=subprocess.PIPE, text=True)
-    for command in open(sys.argv[2], encoding="utf-8"):
-        printed, refused = say(scisim, command.rstrip("\n"))
-        print("".join(printed), end="")
-        if refused:
-            sys.exit(f"refused {refused}: {command}")
+    try:
+        main(*sys.argv[1:])
+    except BrokenPipeError:
+        sys.stdout = None
+        sys.exit("talk: no answer, or nobody reads on")

@@ -86,13 +86,17 @@ def tasks_of(trials, root, size, is_built):
 
 
 def take_over(root, log):
-    """Takes over into the file `tried` what a run said that it tried; returns whether it said so."""
-    with open(log, encoding="utf-8", errors="replace") as it:
-        text = noted(root, it.read())
-    if text:
-        with open(f"{root}/{FILE}", "w", encoding="utf-8") as it:
-            it.write(text)
-    return bool(text)
+    """Takes over into the file `tried` what a run said that it tried, or returns why it can't."""
+    try:
+        with open(log, encoding="utf-8", errors="replace") as it:
+            text = noted(root, it.read())
+    except OSError as error:
+        return f"{log}: {error.strerror}"
+    if not text:
+        return f"{log} says of no crate which of its edits were tried"
+    with open(f"{root}/{FILE}", "w", encoding="utf-8") as it:
+        it.write(text)
+    return None
 
 
 def main():
@@ -108,7 +112,8 @@ def main():
     given = parser.parse_args()
     root = os.path.realpath(given.root)
     if given.note:
-        return 0 if take_over(root, given.note) else parser.error(f"{given.note} says of no crate which of its edits were tried")
+        why = take_over(root, given.note)
+        return parser.error(why) if why else 0
     # (over libraries as they are built, no other crate is proved)
     names = given.names if given.built and given.names else os.listdir(f"{root}/crates")
     kept = {it: f"{root}/crates/{it}/out/incremental" for it in names if given.warm}

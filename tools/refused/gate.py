@@ -3,6 +3,7 @@
     python3 tools/refused/gate.py FOLDER [--all]
 
 It says what `rt ci` says, and has its status. FOLDER/edits has what became of the edits; its last line is `N passed, M failed`.
+FOLDER/seconds has how many seconds the proof of each crate took.
 """
 
 import argparse
@@ -10,6 +11,7 @@ import contextlib
 import os
 import sys
 import threading
+import time
 
 sys.dont_write_bytecode = True
 
@@ -70,17 +72,31 @@ def hastened(tasks):
     return {key: (*tasks[key][:3], by_all(tasks[key][3])) for key in first}
 
 
-def beside(in_lanes, trials):
-    """Returns the kit's lanes, but for this: the edits of each crate run in them too, once its library is proved, and what all wait for
-    is hastened. The lanes take first what has the most lines before it, so that of the edits counts for next to nothing: they fill what
-    rt ci leaves free."""
+def timed(name, call, table):
+    """Returns a task's call that writes its crate's name and its seconds into a table."""
+
+    def noted(given, jobs):
+        begun = time.monotonic()
+        well = call(given, jobs)
+        print(name, round(time.monotonic() - begun), file=table, flush=True)
+        return well
+
+    return noted
+
+
+def beside(in_lanes, trials, table):
+    """Returns the kit's lanes, but for this: the edits of each crate run in them too, once its library is proved, what all wait for is
+    hastened, and the proof of each crate is timed. The lanes take first what has the most lines before it, so that of the edits counts for
+    next to nothing: they fill what rt ci leaves free."""
 
     def in_lanes_with_edits(tasks):
         # (a kit that names its tasks otherwise tries them behind rt ci)
         known = [it for it in trials if (it.crate.name, "proof") in tasks]
         more = tasks_of(known, lambda name: [(name, "proof")])
         more = {key: (waits, lines / 1e6, needs, call) for key, (waits, lines, needs, call) in more.items()}
-        return in_lanes({**tasks, **hastened(tasks), **more})
+        proofs = {key: it for key, it in {**tasks, **hastened(tasks)}.items() if key[1] == "proof"}
+        proofs = {key: (*it[:3], timed(key[0], it[3], table)) for key, it in proofs.items()}
+        return in_lanes({**tasks, **proofs, **more})
 
     return in_lanes_with_edits
 
@@ -98,7 +114,8 @@ def main():
     tried = Tried(os.getcwd())
     tried.choose(trials, given.all)
     in_lanes = RT.in_lanes
-    RT.in_lanes = beside(in_lanes, trials)
+    table = open(f"{to}/seconds", "w", encoding="utf-8")
+    RT.in_lanes = beside(in_lanes, trials, table)
     name = seeds.name_of_kept()
     if name:
         threading.Thread(target=seeds.watch, args=(f"{to}/seeds", name, os.path.realpath("crates")), daemon=True).start()

@@ -80,8 +80,7 @@ def main():
         peers = build_peers(folder)
         program = ROOT / "crates/sci_sim/out/sci_sim"
         if chosen.only in (None, "scripts", "traces", "races", "works"):
-            # the script scisim starts the program that this builds
-            subprocess.run([ROOT / "scisim", "--help"], stdout=subprocess.DEVNULL, check=True)
+            subprocess.run([ROOT / "scisim", "--build"], check=True)
         if chosen.only in (None, "scripts"):
             programs = {"scisim": program} | ({"plain": peers["sim"]} if peers else {})
             scripts.measure_all(programs, chosen.runs, chosen.check)
