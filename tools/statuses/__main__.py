@@ -35,7 +35,7 @@ import shortages
 import sizes
 import traces
 import wrong as wrongs
-from kinds import CLOSED, FOLDER, FULL, UNREAD
+from kinds import CLOSED, FOLDER, FULL, READ, UNREAD
 from kinds import Begins, Broken, Crowded, Drawn, Filled, Lawful, Legal, Little, Page, Traced, WholePage
 
 PROGRAM = os.path.realpath(sys.argv[1] if sys.argv[1:] else HOME / "crates/sci_sim/out/sci_sim")
@@ -207,6 +207,31 @@ def mixed(room):
     return [] if (status, said) == (0, reasons.MIXED) else [f"with both streams in one file it says {said!r}"]
 
 
+# A name that is no text.
+UNTOLD = b"\xff\xfe"
+
+
+def odd_names(room):
+    """What is wrong where the program's name, its folder, a variable or a file has a name that isn't UTF-8: only a file's may be told."""
+    folder = bytes_of(f"{room}/") + UNTOLD
+    os.mkdir(folder)
+    program = folder + b"/" + UNTOLD
+    os.symlink(PROGRAM, program)
+    script = folder + b"/script"
+    pathlib.Path(os.fsdecode(script)).write_bytes(b"memory 1 1\nlist 0\n")
+    text = b"line 0 HOME\n"
+    starts = [
+        ([program, b"script"], {}, 0, text, b""),
+        ([b"scisim", b"script"], {"executable": program, "env": {UNTOLD: UNTOLD}}, 0, text, b""),
+        ([b"", b"script", b"script"], {"executable": program}, 0, text, b""),
+        ([program, b"script", script], {}, 1, b"", bytes_of(READ)),
+    ]
+    for words, how, *wanted in starts:
+        ran = subprocess.run(words, cwd=folder, input=b"memory 1 1\nlist 0\n", capture_output=True, timeout=120, **how)
+        said = [ran.returncode, ran.stdout, ran.stderr]
+        yield words, "", [] if said == wanted else [f"it ended with {said}"]
+
+
 def main():
     passed, failed = 0, 0
     cases = [it for table in TABLES for it in table.CASES]
@@ -218,6 +243,7 @@ def main():
         told += [(["script", "trace", "draw"], script, differs(script, room)) for script in scripts.ALIKE + traces.ALIKE]
         told += shortened(room)
         told += [(["talk", "--why"], reasons.SAID, mixed(room))]
+        told += odd_names(room)
         told += [(arguments, given, passes((arguments, given, *rest), room)) for arguments, given, *rest in wrongs.CASES]
         told += wrongs.short()
     for arguments, given, wrong in told:

@@ -19,7 +19,36 @@ def without(line):
     return "".join(LINES[: line - 1] + LINES[line:])
 
 
+# A number one above the range of its type, and one of more digits than any type has.
+ABOVE = ("65535", "65536", "70000", "18446744073709551616", "9" * 40)
+EVENT = "memory 2 1\nnode {} line {} {} Done\n"
+ZEROS = " 0" * 9
+
+
+def ranges():
+    """Texts with one number on either side of its range, and the line at which they are refused with 17, or None."""
+    for nodes, lines in (("1024", "1024"), ("1", "1")):
+        yield f"memory {nodes} {lines}\n", None
+    for number in ("0", "1025", *ABOVE):
+        yield f"memory {number} 1\n", 1
+        yield f"memory 1 {number}\n", 1
+    yield f"memory 2 2\nopen 1{ZEROS}\n", None
+    yield EVENT.format("1", "0", "Queue(none)"), None
+    for number in ("2", "1024", *ABOVE):
+        yield f"memory 2 2\nopen {number}{ZEROS}\n", 2
+        yield EVENT.format(number, "0", "Queue(none)"), 2
+        yield EVENT.format("0", number, "Queue(none)"), 2
+        yield EVENT.format("0", "0", f"AttachFresh({number} ONLY_FRESH)"), 2
+
+
+# The head that a node found may be any number: whether memory has it, the next line that names memory shows.
+QUEUED = [EVENT.format("0", "0", f"Queue({number})") for number in ("5", *ABOVE)]
+
 CASES = [
+    *((["follow"], text, 1 if line else 0, "" if line else FOLLOWS, refused(f"17 at line {line}") if line else "") for text, line in ranges()),
+    *((["follow"], text, 0, FOLLOWS, "") for text in QUEUED),
+    *((["follow"], text + "node 0 line 0 PrependValid Done\n", 3, "line 3: another word stood there\n", "") for text in QUEUED),
+    *((["follow"], f"memory {number} 1\n", 1, "", refused("16 at line 1")) for number in ("", "01", "+1", "1_0", "x")),
     (["follow"], PURGE, 0, FOLLOWS, ""),
     (["follow"], "memory 1024 1024\n", 0, FOLLOWS, ""),
     (["follow"], PURGE.replace("\n", "\r\n"), 0, FOLLOWS, ""),

@@ -10,9 +10,9 @@ use Rattle.std.proofs.lemmas.Int.Digits.{digits_value_push}
 use Rattle.std.proofs.lemmas.List.Folds.{list_all-append}
 use Rattle.std.proofs.lemmas.Slice.Eq.{bytes_eq-Decides}
 use Rattle.std.proofs.lemmas.Str.Parse.{IsNumeralModel, IsDigitsTest, numerals_by_value}
-use Rattle.std.proofs.Math.Nat.{pow-succ'}
+use Rattle.std.proofs.Math.Nat.{pow-succ', min-eq_left}
 use Rattle.sci_core.specs.declared.lines.Line.{Line}
-use Rattle.sci_dump.specs.Reading.{◌>>=◌, behind, digits_in_front, is_number, number_at, is_hexadecimal, word_at, value_at, values_at, content_at, numbered_at, count_at}
+use Rattle.sci_dump.specs.Reading.{◌>>=◌, behind, digits_in_front, is_number, is_numeral, number_at, capped_at, is_hexadecimal, word_at, value_at, values_at, content_at, numbered_at, count_at}
 use Rattle.sci_dump.specs.ReadBack.{IsContent}
 use Rattle.sci_dump.specs.Text.{hexadecimal, values_text}
 use Rattle.sci_dump.proofs.Deciding.{each_more}
@@ -57,23 +57,37 @@ digits_before (d ∷ ds) rest h none =
     let p = and_parts (is_ascii_digit d) (list_all is_ascii_digit ds) h in
     rw p.0 (omega (arith, digits_before ds rest p.1 none))
 
+-- no zero stands before another digit
+first_form : (v : ℕ) → v < 2 ^ 64 → (length (decimal v) == 1 || not (slice_index (decimal v) 0 == 48)) ≡ true
+first_form v small = elim (cases_lt 0 v) [
+  | inl more ↦ let f = first_decimal v more small in let n : get_or (decimal v) 0 0 ≢ 48 = omega (arith, f) in rw (ne_eqb (get_or (decimal v) 0 0) 48 n) (elim (cases_Bool (length (decimal v) == 1)) [ inl y ↦ rw y refl | inr y ↦ rw y refl ])
+  | inr none ↦ let e : v ≡ 0 = omega arith in rw (e, decimal_digit 0 (omega arith)) refl
+]
+
 number_form : (v : ℕ) → v < 2 ^ 64 → is_number (decimal v) ≡ true
 number_form v small =
     let some : leb 1 (length (decimal v)) ≡ true = le-leb 1 (length (decimal v)) (omega (arith, decimal_nonempty v small)) in
     let few : leb (length (decimal v)) 20 ≡ true = le-leb (length (decimal v)) 20 (length-decimal-le 20 v (omega arith) (omega (arith, small)) small) in
     let value : ltb (digits_value 10 (decimal v)) (2 ^ 64) ≡ true = rw (digits_value-decimal own v small) (lt-ltb v (2 ^ 64) small) in
-    let first : (length (decimal v) == 1 || not (slice_index (decimal v) 0 == 48)) ≡ true =
-    elim (cases_lt 0 v) [
-      | inl more ↦ let f = first_decimal v more small in let n : get_or (decimal v) 0 0 ≢ 48 = omega (arith, f) in rw (ne_eqb (get_or (decimal v) 0 0) 48 n) (elim (cases_Bool (length (decimal v) == 1)) [ inl y ↦ rw y refl | inr y ↦ rw y refl ])
-      | inr none ↦ let e : v ≡ 0 = omega arith in rw (e, decimal_digit 0 (omega arith)) refl
-    ] in
-    rw (some, few, first, value) refl
+    rw (some, few, first_form v small, value) refl
 
 pub number_own : (v : ℕ) (rest : List ℕ) → v < 2 ^ 64 → NoDigit rest → number_at (decimal v ++ rest) ≡ Some (v, rest)
 unfolding number_at
 number_own v rest small none =
     let long : digits_in_front (decimal v ++ rest) ≡ length (decimal v) = digits_before (decimal v) rest (digits_decimal own v small) none in
     rw (long, whole_front (decimal v) rest, whole_rest (decimal v) rest, number_form v small, digits_value-decimal own v small) refl
+
+numeral_form : (v : ℕ) → v < 2 ^ 64 → is_numeral (decimal v) ≡ true
+numeral_form v small =
+    let some : leb 1 (length (decimal v)) ≡ true = le-leb 1 (length (decimal v)) (omega (arith, decimal_nonempty v small)) in
+    rw (some, first_form v small) refl
+
+-- a number that is no greater
+pub capped_own : (most v : ℕ) (rest : List ℕ) → v < 2 ^ 64 → v ≤ most → NoDigit rest → capped_at most (decimal v ++ rest) ≡ Some (v, rest)
+unfolding capped_at
+capped_own most v rest small within none =
+    let long : digits_in_front (decimal v ++ rest) ≡ length (decimal v) = digits_before (decimal v) rest (digits_decimal own v small) none in
+    rw (long, whole_front (decimal v) rest, whole_rest (decimal v) rest, numeral_form v small, digits_value-decimal own v small, min-eq_left within) refl
 
 pub value_own : (v : ℕ) (rest : List ℕ) → v < 2 ^ 64 → NoDigit rest → value_at (codes " " ++ decimal v ++ rest) ≡ Some (v, rest)
 unfolding value_at

@@ -1,5 +1,5 @@
 -- The code of a word is read as that word.
-use Rattle.std.proofs.Common.{◌≡◌, ℕ, ◌+◌, ◌*◌, ◌/◌, ◌%◌, ◌^◌, ◌-◌, ◌<◌, ◌≤◌, ◌&&◌, ◌||◌, Bool, true, false, not, ◌==◌, Option, Some, None, is_some, refl, sym, ap, ◌∙◌, subst, arith, ltb-true, le-ltb}
+use Rattle.std.proofs.Common.{◌≡◌, ℕ, ◌*◌, ◌/◌, ◌^◌, ◌-◌, ◌≤◌, ◌&&◌, ◌||◌, Bool, true, false, not, ◌==◌, Option, Some, None, is_some, refl, sym, ap, ◌∙◌, subst, arith, le-ltb}
 use Rattle.std.proofs.lemmas.Bool.{and_parts}
 use Rattle.sci_words.specs.declared.layouts.Layout.{Layout}
 use Rattle.sci_words.specs.declared.tags.Kind.{Kind}
@@ -11,7 +11,7 @@ use Rattle.sci_words.specs.declared.refusals.WordRefusal.TheVariants.{UnknownKin
 use Rattle.sci_words.specs.Refused.{tag_refused, mem_refused, lowest, tag_refusal_in, mem_refusal_in}
 use Rattle.sci_words.specs.Codes.{kind_number, state_number, tag_in, mem_in, tag_code_in, mem_code_in}
 use Rattle.sci_words.specs.Layout.{link_width, no_link as no_link_in, field, kind_field}
-use Rattle.sci_words.specs.Tag.{is_invalid, misses_link, has_unwanted_link, is_held_wrongly, tag_well_formed, link_below, tag_links_below}
+use Rattle.sci_words.specs.Tag.{is_invalid, misses_link, has_unwanted_link, is_held_wrongly, tag_well_formed, tag_links_below}
 use Rattle.sci_words.specs.Mem.{misses_head, has_unwanted_head, mem_well_formed, mem_links_below}
 use Rattle.sci_words.proofs.Codes.{tag_in-code, mem_in-code, tag_fields_of_code, mem_fields_of_code}
 use Rattle.sci_core.specs.State.{invalid}

@@ -1,5 +1,5 @@
 -- What a text says as a dump, or its first fault. This project's profile.
-use Rattle.std.specs.Prelude.{◌≡◌, ℕ, zero, suc, ◌+◌, ◌^◌, Bool, not, ◌&&◌, ◌||◌, List, [], ◌∷◌, length, take, drop, Option, Some, None, Result, Ok, Err, codes, nat_le, nat_lt, slice_index, ◌==◌, if◌then◌else◌}
+use Rattle.std.specs.Prelude.{◌≡◌, ℕ, zero, suc, ◌+◌, ◌^◌, Bool, not, ◌&&◌, ◌||◌, List, [], ◌∷◌, length, take, drop, Option, Some, None, Result, Ok, Err, codes, nat_le, nat_lt, slice_index, ◌==◌, if◌then◌else◌, min}
 use Rattle.std.specs.Char.{is_ascii_digit}
 use Rattle.std.specs.List.{list_all, position_or_len}
 use Rattle.std.specs.Str.{bytes_eq}
@@ -48,6 +48,17 @@ unfoldable pub number_at : List ℕ → Option (ℕ × List ℕ)
 number_at text =
     if is_number (take (digits_in_front text) text)
     then Some (digits_value 10 (take (digits_in_front text) text), drop (digits_in_front text) text)
+    else None
+
+-- digits, and no zero before another
+abbrev pub is_numeral : List ℕ → Bool
+is_numeral digits = nat_le 1 (length digits) && (length digits == 1 || not (slice_index digits 0 == 48))
+
+-- a number of any length, in decimal without leading zeros; one above `most` stands for that
+unfoldable pub capped_at : ℕ → List ℕ → Option (ℕ × List ℕ)
+capped_at most text =
+    if is_numeral (take (digits_in_front text) text)
+    then Some (min (digits_value 10 (take (digits_in_front text) text)) most, drop (digits_in_front text) text)
     else None
 
 -- a lower-case hexadecimal digit

@@ -1,10 +1,10 @@
 //! The fields of a line of text: each reader gives a value and the text behind it, or None where the text begins otherwise.
 
-ghost use Rattle.std.specs.Prelude.{◌≡◌, ◌<◌, ◌≤◌, ◌+◌, true, length, codes, IfSome};
+ghost use Rattle.std.specs.Prelude.{◌≡◌, ◌<◌, ◌≤◌, ◌+◌, true, length, codes, min, IfSome};
 ghost use Rattle.std.specs.Char.{is_ascii_digit, digit_value};
 ghost use Rattle.std.specs.List.{list_all};
 ghost use Rattle.std.specs.Str.Parse.{digits_value};
-ghost use Rattle.sci_dump.specs.Reading.{Reads, behind, digits_in_front, number_at, is_hexadecimal, word_at, value_at, values_at, content_at, numbered_at, count_at};
+ghost use Rattle.sci_dump.specs.Reading.{Reads, behind, digits_in_front, number_at, is_hexadecimal, word_at, value_at, values_at, content_at, numbered_at, count_at, capped_at};
 
 use sci_core::Line;
 
@@ -55,6 +55,32 @@ pub fn number(text: &[u8]) -> Option<(u64, &[u8])>
             let value = u64::try_from(decimal_value(digits)).ok()?;
             Some((value, rest))
         }
+    }
+}
+
+/// What decimal digits stand for, or `most` where that is less.
+fn capped_value(most: u16, digits: &[u8]) -> u16
+    requires { list_all is_ascii_digit digits.now ≡ true }
+    ensures { result ≡ min (digits_value 10 digits.now) most }
+{
+    let mut value = 0u32;
+    for digit in digits {
+        value = (value * 10 + u32::from(*digit - b'0')).min(u32::from(most));
+    }
+    value as u16
+}
+
+/// A number of any length, in decimal without leading zeros; one above `most` stands for that.
+#[tactic(auto, unfolding(crate::specs::Reading::capped_at))]
+pub fn capped(most: u16, text: &[u8]) -> Option<(u16, &[u8])>
+    ensures exact { Reads (λ x. (x.0, x.1.now)) result (capped_at most text.now) }
+    ensures range { IfSome result (λ x. x.0 ≤ most) }
+{
+    let (digits, rest) = text.split_at(digits_in_front(text));
+    match digits {
+        [] => None,
+        [b'0', _, ..] => None,
+        _ => Some((capped_value(most, digits), rest)),
     }
 }
 

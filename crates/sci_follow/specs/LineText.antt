@@ -1,5 +1,5 @@
 -- The text of a line of a log: what it tells. This project's profile.
-use Rattle.std.specs.Prelude.{◌≡◌, ℕ, Bool, true, false, not, ◌&&◌, List, [], ◌∷◌, length, Option, Some, None, codes, nat_le, nat_lt, ◌==◌, if◌then◌else◌}
+use Rattle.std.specs.Prelude.{◌≡◌, ℕ, Bool, true, false, not, ◌&&◌, List, [], ◌∷◌, length, Option, Some, None, codes, if◌then◌else◌}
 use Rattle.sci_words.specs.declared.tags.Kind.{Kind}
 use Rattle.sci_words.specs.declared.tags.Tag.{Tag}
 use Rattle.sci_words.specs.declared.refusals.WordRefusal.{WordRefusal}
@@ -8,9 +8,8 @@ use Rattle.sci_words.specs.Codes.{tag_in}
 use Rattle.sci_words.specs.Refused.{tag_refusal_in}
 use Rattle.sci_core.specs.declared.lines.Line.{Line}
 use Rattle.sci_core.specs.declared.events.Event.{Event}
-use Rattle.sci_core.specs.declared.whole.TheConstants.{MOST_NODES}
 use Rattle.sci_script.specs.declared.commands.Size.{Size}
-use Rattle.sci_dump.specs.Reading.{◌>>=◌, behind, number_at, word_at, value_at, values_at, count_at}
+use Rattle.sci_dump.specs.Reading.{◌>>=◌, behind, word_at, value_at, values_at, capped_at}
 use Rattle.sci_follow.specs.declared.entries.Claim.{Claim}
 use Rattle.sci_follow.specs.declared.told.Asks.{Asks}
 use Rattle.sci_follow.specs.declared.told.Found.{Found}
@@ -66,17 +65,13 @@ step_event_at text = either Event.Converted (behind (codes "Converted ") text)
 unfoldable pub bare_event_at : List ℕ → Option (Event × List ℕ)
 bare_event_at text = first_of (own_event_at text) (first_of (memory_event_at text) (first_of (step_event_at text) (leaving_event_at text)))
 
--- a node's number
+-- a node's number; one that no memory has stands for the last
 unfoldable pub node_at : List ℕ → Option (ℕ × List ℕ)
-node_at text = do
-  found ← number_at text
-  if nat_lt found.0 65535 then Some found else None
+node_at text = capped_at 65534 text
 
--- a line's number
+-- a line's number, likewise
 unfoldable pub line_at : List ℕ → Option (ℕ × List ℕ)
-line_at text = do
-  found ← number_at text
-  if nat_le found.0 65535 then Some found else None
+line_at text = capped_at 65535 text
 
 -- a node
 unfoldable pub some_node_at : List ℕ → Option (Option ℕ × List ℕ)
@@ -294,13 +289,13 @@ noted_at text = do
   node ← acting_at text
   placed_at node.0 node.1
 
--- `memory NODES LINES`
+-- `memory NODES LINES`; a number that is too large stays too large
 unfoldable pub memory_at : List ℕ → Option Size
 memory_at text = do
   text ← behind (codes "memory ") text
-  nodes ← count_at MOST_NODES text
+  nodes ← capped_at 65535 text
   text ← behind (codes " ") nodes.1
-  lines ← count_at 1024 text
+  lines ← capped_at 65535 text
   if is_ended lines.1 then Some (record { nodes = nodes.0; lines = lines.0 }) else None
 
 -- `open L S V V V V V V V V`

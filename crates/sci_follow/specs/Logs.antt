@@ -3,6 +3,7 @@ use Rattle.std.specs.Prelude.{◌≡◌, ◌≤◌, ◌<◌, ℕ, Bool, true, fa
 use Rattle.sci_core.specs.declared.lines.Line.{Line}
 use Rattle.sci_core.specs.State.{State}
 use Rattle.sci_script.specs.declared.commands.Size.{Size}
+use Rattle.sci_script.specs.Size.{IsSize}
 use Rattle.sci_script.specs.Words.{is_skipped}
 use Rattle.sci_follow.specs.declared.entries.Deviation.{Deviation}
 use Rattle.sci_follow.specs.declared.lines.Follower.{Follower}
@@ -15,8 +16,9 @@ use Rattle.sci_follow.specs.LineText.{memory_at, noted_at, opening_at}
 
 -- a first line, as it was read: lines of zeros that nobody has used
 abbrev pub Begins : ℕ → Option Size → Result Log LogFault → Type 0
-Begins n (Some size) (Ok (Log.Opening f)) = (f.size ≡ size) × AreUnused size.nodes size.lines f.lines.items
+Begins n (Some size) (Ok (Log.Opening f)) = IsSize size × (f.size ≡ size) × AreUnused size.nodes size.lines f.lines.items
 Begins n (Some size) (Err LogFault.OutOfMemory) = Unit {0}
+Begins n (Some size) (Err (LogFault.BadNumber k)) = (k ≡ n) × (IsSize size → ⊥)
 Begins n None (Err (LogFault.BadLine k)) = k ≡ n
 Begins n read r = ⊥
 

@@ -8,33 +8,24 @@ use crate::event_names::{bare_event, other_asks, own_asks};
 use crate::tag_text::asked;
 use crate::told::{Asks, Found, Told};
 use sci_core::Event;
-use sci_dump::fields::{behind, number, values};
+use sci_dump::fields::{behind, capped, values};
 use sci_words::{LineNo, NodeId};
 
-/// A node's number.
+/// A node's number; one that no memory has stands for the last.
 #[tactic(auto, unfolding(crate::specs::LineText::node_at))]
 pub(crate) fn node(text: &[u8]) -> Option<(NodeId, &[u8])>
     ensures { Reads (λ x. (x.0, x.1.now)) result (node_at text.now) }
 {
-    let (found, rest) = number(text)?;
-    if found < 65535 {
-        Some((NodeId::new(found as u16).unwrap(), rest))
-    } else {
-        None
-    }
+    let (found, rest) = capped(65534, text)?;
+    Some((NodeId::new(found).unwrap(), rest))
 }
 
-/// A line's number.
+/// A line's number, likewise.
 #[tactic(auto, unfolding(crate::specs::LineText::line_at))]
 pub(crate) fn line(text: &[u8]) -> Option<(LineNo, &[u8])>
     ensures { Reads (λ x. (x.0, x.1.now)) result (line_at text.now) }
 {
-    let (found, rest) = number(text)?;
-    if found <= 65535 {
-        Some((found as u16, rest))
-    } else {
-        None
-    }
+    capped(65535, text)
 }
 
 /// A node.

@@ -1,16 +1,14 @@
 //! One line of a log.
 
-ghost use Rattle.std.specs.Prelude.{◌≡◌, ◌≤◌, IfSome};
+ghost use Rattle.std.specs.Prelude.{◌≡◌};
 ghost use Rattle.sci_dump.specs.Reading.{Reads};
-ghost use Rattle.sci_core.specs.declared.whole.TheConstants.{MOST_NODES};
-ghost use Rattle.sci_script.specs.Size.{IsSize};
 ghost use Rattle.sci_follow.specs.LineText.{acting_at, answered_at, busy_at, claim_at, done_at, ended_at, is_told_enough, memory_at, missed_at, noted_at, on_line_at, opening_at, placed_at};
 
 use crate::entries::Claim;
 use crate::event_text::{line, node, told_event};
 use crate::told::{Found, Noted, Told};
-use sci_core::{Line, MOST_NODES};
-use sci_dump::fields::{behind, count, value, values, word};
+use sci_core::Line;
+use sci_dump::fields::{behind, capped, value, values, word};
 use sci_script::Size;
 use sci_words::{LineNo, NodeId};
 
@@ -159,21 +157,17 @@ pub fn read_entry(text: &[u8]) -> Option<Noted>
     }
 }
 
-/// `memory NODES LINES`, with nothing behind: 1 to 1,024 nodes and lines. None where the line is none.
+/// `memory NODES LINES`, with nothing behind; a number that is too large stays too large. None where the line is none.
 #[tactic(auto, unfolding(crate::specs::LineText::memory_at))]
 pub fn read_memory(text: &[u8]) -> Option<Size>
-    ensures exact { Reads (λ s. s) result (memory_at text.now) }
-    ensures range { IfSome result IsSize }
+    ensures { Reads (λ s. s) result (memory_at text.now) }
 {
     let text = behind(b"memory ", text)?;
-    let (nodes, text) = count(u64::from(MOST_NODES), text)?;
+    let (nodes, text) = capped(65535, text)?;
     let text = behind(b" ", text)?;
-    let (lines, rest) = count(1024, text)?;
+    let (lines, rest) = capped(65535, text)?;
     if rest.is_empty() {
-        Some(Size {
-            nodes: nodes as u16,
-            lines: lines as u16,
-        })
+        Some(Size { nodes, lines })
     } else {
         None
     }

@@ -1,6 +1,7 @@
 //! A log, line by line.
 
-ghost use Rattle.std.specs.Prelude.{◌≡◌, ◌≤◌, Some};
+ghost use Rattle.std.specs.Prelude.{◌≡◌, ◌↔◌, ◌≤◌, IsTrue, Some};
+ghost use Rattle.sci_script.specs.Size.{IsSize};
 ghost use Rattle.sci_follow.specs.declared.logs.LogFault.TheVariants.{OutOfMemory};
 ghost use Rattle.sci_follow.specs.LineText.{memory_at, noted_at, opening_at};
 ghost use Rattle.sci_follow.specs.Logs.{Begins, Continues, Ends, Feeds, Notes, Opens};
@@ -10,7 +11,7 @@ use crate::entries::Deviation;
 use crate::line_text::{read_entry, read_memory, read_opening};
 use crate::lines::Follower;
 use crate::told::{Noted, Told};
-use sci_core::Line;
+use sci_core::{Line, MOST_NODES};
 use sci_script::{Size, is_skipped};
 use sci_words::LineNo;
 use std::alloc::{AllocError, Global};
@@ -25,7 +26,7 @@ pub enum LogFault {
     /// Refusal 16: this is no line of a log, or it stands where it may not.
     #[error("refused 16 at line {0}")]
     BadLine(u64),
-    /// Refusal 17: there is no such node, or no such line, at this line of text.
+    /// Refusal 17: there is no such node, no such line, or no memory of this size, at this line of text.
     #[error("refused 17 at line {0}")]
     BadNumber(u64),
     /// The reader failed, or the text doesn't end.
@@ -55,6 +56,13 @@ pub enum Log {
     Running(Follower),
 }
 
+/// Whether a memory may have so many nodes and lines.
+fn is_size(size: Size) -> bool
+    ensures { IsTrue result ↔ IsSize size }
+{
+    (1..=MOST_NODES).contains(&size.nodes) && (1..=1024).contains(&size.lines)
+}
+
 /// The first line.
 fn begin(alloc: Global, number: u64, line: &[u8]) -> Result<Log, LogFault>
     ensures { Begins number (memory_at line.now) result }
@@ -62,6 +70,9 @@ fn begin(alloc: Global, number: u64, line: &[u8]) -> Result<Log, LogFault>
     let Some(size) = read_memory(line) else {
         return Err(LogFault::BadLine(number));
     };
+    if !is_size(size) {
+        return Err(LogFault::BadNumber(number));
+    }
     let follower = Follower::open(alloc, size)?;
     Ok(Log::Opening(follower))
 }

@@ -216,7 +216,7 @@ fn otherwise() -> [Row; 7] {
 fn faulty() -> [Row; 8] {
     [
         (0, "", bad(1)),
-        (0, "memory 0 1\n", bad(1)),
+        (0, "memory 0 1\n", Err(LogFault::BadNumber(1))),
         (
             0,
             "memory 2 1\nopen 1 0 0 0 0 0 0 0 0 0\n",

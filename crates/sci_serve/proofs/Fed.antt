@@ -351,10 +351,10 @@ openings_fed size (o ∷ openings) content text n log (there, (said, ended, plai
 
 -- ---- the first line
 
-module _ (size : Size) where
+module _ (size : Size) (is : IsSize size) where
   begins_fault : (n : ℕ) (e : LogFault) → Begins n (Some size) (Err e) → IsMemory e
   begins_fault n LogFault.OutOfMemory h = refl
-  begins_fault n (LogFault.BadNumber k) h = absurd h
+  begins_fault n (LogFault.BadNumber k) (at, no) = absurd (no is)
   begins_fault n (LogFault.BadLine k) h = absurd h
   begins_fault n (LogFault.Departs k why) h = absurd h
   begins_fault n LogFault.CannotRead h = absurd h
@@ -363,7 +363,7 @@ module _ (size : Size) where
   unfolding content_of
   begins_on n Log.New h = absurd h
   begins_on n (Log.Running f) h = absurd h
-  begins_on n (Log.Opening f) (same, unused_so) = (
+  begins_on n (Log.Opening f) (there, same, unused_so) = (
     same,
     (λ line low. ap (λ (w : WholeLine AnyWords). state_of w) (unused_so line no_line low) ∙ opened_state {K = AnyWords} (whole_at f.lines.items line).keep line size.nodes zeros),
   )
@@ -380,20 +380,20 @@ module _ (size : Size) where
       subst (λ (t : List ℕ). NoFault t 1 Log.New) (ap (λ (l : List ℕ). l ++ rest) (sym ended) ∙ sym (append_assoc line (flat_map opening_line openings) text))
       (line_first said rest 1 Log.New (IsOpening size (λ line. zeros)) plain (memory_passes said reads) (λ k mid next. openings_fine size openings (λ line. zeros) text k mid are next later))
 
-  memory_taken : IsSize size → (line : List ℕ) → memory_at line ≡ Some size → IsTaken line Log.New
-  memory_taken is line reads = λ n.
+  memory_taken : (line : List ℕ) → memory_at line ≡ Some size → IsTaken line Log.New
+  memory_taken line reads = λ n.
       let (f, same, unused_so, kept) = begins_with size is in (
         Log.Opening f,
-        fed_so n line Log.New (Ok (Log.Opening f)) (memory_says line size reads) (subst (λ (r : Option Size). Begins n r (Ok (Log.Opening f))) (sym reads) (same, unused_so)),
+        fed_so n line Log.New (Ok (Log.Opening f)) (memory_says line size reads) (subst (λ (r : Option Size). Begins n r (Ok (Log.Opening f))) (sym reads) (is, same, unused_so)),
         kept,
       )
 
-  pub head_fed : IsSize size → (line : List ℕ) (openings : List Opening) (text : List ℕ) → IsReadAs memory_at line size → AreOpenings size openings
+  pub head_fed : (line : List ℕ) (openings : List Opening) (text : List ℕ) → IsReadAs memory_at line size → AreOpenings size openings
       → ((k : ℕ) (log : Log) → Holds size (Unused size (λ line. content_of line zeros openings)) log → IsKept log → IsFed text k log) → IsFed ((line ++ flat_map opening_line openings) ++ text) 1 Log.New
-  head_fed is line openings text (said, ended, plain, reads) are later =
+  head_fed line openings text (said, ended, plain, reads) are later =
       let rest = flat_map opening_line openings ++ text in
       subst (λ (t : List ℕ). IsFed t 1 Log.New) (ap (λ (l : List ℕ). l ++ rest) (sym ended) ∙ sym (append_assoc line (flat_map opening_line openings) text))
-      (line_fed said rest 1 Log.New (IsOpening size (λ line. zeros)) plain (memory_passes said reads) (memory_taken is said reads)
+      (line_fed said rest 1 Log.New (IsOpening size (λ line. zeros)) plain (memory_passes said reads) (memory_taken said reads)
       (λ k mid next kept. openings_fed size openings (λ line. zeros) text k mid are next kept later))
 
 -- a text without a fault is followed, where it is read and memory lasts

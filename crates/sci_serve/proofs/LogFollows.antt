@@ -113,7 +113,7 @@ run_follows size capacity openings s t log is are opens goes =
     λ end holds. holds_then size (Unused size (λ l. content_of l zeros openings)) (λ lines. Leads size.nodes lines told (At size t)) end (λ lines unused. leads lines (λ l low. unused l low ∙ sym (opens.lines l low))) holds in
     let whole : (line ++ flat_map opening_line openings) ++ added ≡ log = ap (λ (x : List ℕ). x ++ added) (sym front) ∙ sym notes in
     let fine : NoFault ((line ++ flat_map opening_line openings) ++ added) 1 Log.New =
-    head_fine size line openings added memory (openings_read size openings is.few_lines are) (λ k end holds. told_fine size told added (At size t) k end read noted (stands end holds)) in
+    head_fine size is line openings added memory (openings_read size openings is.few_lines are) (λ k end holds. told_fine size told added (At size t) k end read noted (stands end holds)) in
     let fed : IsFed ((line ++ flat_map opening_line openings) ++ added) 1 Log.New =
     head_fed size is line openings added memory (openings_read size openings is.few_lines are) (λ k end holds kept. told_fed size told added (At size t) k end read noted (stands end holds) kept) in
     (follows_so log (subst (λ (x : List ℕ). IsFed x 1 Log.New) whole fed), (λ e stops. stops_only log e (subst (λ (x : List ℕ). NoFault x 1 Log.New) whole fine) stops))

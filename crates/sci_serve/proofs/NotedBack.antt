@@ -8,7 +8,6 @@ use Rattle.sci_words.specs.declared.tags.Tag.{Tag}
 use Rattle.sci_words.specs.Tag.{name_of}
 use Rattle.sci_core.specs.declared.lines.Line.{Line}
 use Rattle.sci_core.specs.declared.events.Event.{Event}
-use Rattle.sci_core.specs.declared.whole.TheConstants.{MOST_NODES}
 use Rattle.sci_script.specs.declared.commands.Opening.{Opening}
 use Rattle.sci_script.specs.declared.commands.Size.{Size}
 use Rattle.sci_script.specs.declared.watching.Ending.{Ending}
@@ -16,9 +15,9 @@ use Rattle.sci_script.specs.declared.watching.Load.{Load}
 use Rattle.sci_script.specs.declared.watching.Passed.{Passed}
 use Rattle.sci_script.specs.Size.{IsSize}
 use Rattle.sci_dump.specs.ReadBack.{IsContent}
-use Rattle.sci_dump.specs.Reading.{◌>>=◌, behind, number_at, word_at, value_at, values_at, count_at}
+use Rattle.sci_dump.specs.Reading.{◌>>=◌, behind, word_at, value_at, values_at, capped_at}
 use Rattle.sci_dump.specs.Text.{hexadecimal, values_text}
-use Rattle.sci_dump.proofs.FieldsBack.{NoDigit, then_read, behind_own, number_own, value_own, values_own, word_own, count_own}
+use Rattle.sci_dump.proofs.FieldsBack.{NoDigit, then_read, behind_own, value_own, values_own, word_own, capped_own}
 use Rattle.sci_follow.specs.declared.entries.Claim.{Claim}
 use Rattle.sci_follow.specs.declared.told.Asks.{Asks}
 use Rattle.sci_follow.specs.declared.told.Found.{Found}
@@ -38,13 +37,11 @@ small_number n small = omega (arith, small)
 -- a node's number, and a line's
 node_own : (node : ℕ) (rest : List ℕ) → node < 65535 → NoDigit rest → node_at (decimal node ++ rest) ≡ Some (node, rest)
 unfolding node_at
-node_own node rest small none =
-    then_read (number_at (decimal node ++ rest)) (λ found. if ltb found.0 65535 then Some found else None) (node, rest) (Some (node, rest)) (number_own node rest (small_number node (omega (arith, small))) none) (rw (lt-ltb node 65535 small) refl)
+node_own node rest small none = capped_own 65534 node rest (small_number node (omega (arith, small))) (omega (arith, small)) none
 
 line_own : (line : ℕ) (rest : List ℕ) → line < 65536 → NoDigit rest → line_at (decimal line ++ rest) ≡ Some (line, rest)
 unfolding line_at
-line_own line rest small none =
-    then_read (number_at (decimal line ++ rest)) (λ found. if leb found.0 65535 then Some found else None) (line, rest) (Some (line, rest)) (number_own line rest (small_number line (omega (arith, small))) none) (rw (le-leb line 65535 (omega (arith, small))) refl)
+line_own line rest small none = capped_own 65535 line rest (small_number line (omega (arith, small))) (omega (arith, small)) none
 
 -- `node N line L `, and what stands behind it
 place_front : (node line : ℕ) (text : List ℕ) → entry_place node line ++ text ≡ codes "node " ++ (decimal node ++ (codes " line " ++ (decimal line ++ (codes " " ++ text))))
@@ -358,15 +355,15 @@ size_read : (size : Size) → IsSize size → memory_at (codes "memory " ++ (dec
 unfolding memory_at
 size_read size is =
     let few : size.nodes ≤ 1024 = is.few_nodes in
-    let lines : count_at 1024 (decimal size.lines) ≡ Some (size.lines, []) =
-    ap (count_at 1024) (sym (append-nil (decimal size.lines))) ∙ count_own 1024 size.lines [] (omega (arith, is.few_lines)) is.some_lines is.few_lines refl in
+    let lines : capped_at 65535 (decimal size.lines) ≡ Some (size.lines, []) =
+    ap (capped_at 65535) (sym (append-nil (decimal size.lines))) ∙ capped_own 65535 size.lines [] (omega (arith, is.few_lines)) (omega (arith, is.few_lines)) refl in
     let last = codes " " ++ decimal size.lines in
-    then_read (behind (codes "memory ") (codes "memory " ++ (decimal size.nodes ++ last))) (λ text. count_at MOST_NODES text >>= λ nodes. behind (codes " ") nodes.1 >>= λ text. count_at 1024 text >>= λ lines. if is_ended lines.1 then Some (record { nodes = nodes.0; lines = lines.0 }) else None)
+    then_read (behind (codes "memory ") (codes "memory " ++ (decimal size.nodes ++ last))) (λ text. capped_at 65535 text >>= λ nodes. behind (codes " ") nodes.1 >>= λ text. capped_at 65535 text >>= λ lines. if is_ended lines.1 then Some (record { nodes = nodes.0; lines = lines.0 }) else None)
     (decimal size.nodes ++ last) (Some size) (behind_own (codes "memory ") (decimal size.nodes ++ last))
-    (then_read (count_at MOST_NODES (decimal size.nodes ++ last)) (λ nodes. behind (codes " ") nodes.1 >>= λ text. count_at 1024 text >>= λ lines. if is_ended lines.1 then Some (record { nodes = nodes.0; lines = lines.0 }) else None)
-    (size.nodes, last) (Some size) (count_own MOST_NODES size.nodes last (omega (arith, few)) is.some_nodes is.few_nodes refl)
-    (then_read (behind (codes " ") last) (λ text. count_at 1024 text >>= λ lines. if is_ended lines.1 then Some (record { nodes = size.nodes; lines = lines.0 }) else None) (decimal size.lines) (Some size) (behind_own (codes " ") (decimal size.lines))
-    (then_read (count_at 1024 (decimal size.lines)) (λ lines. if is_ended lines.1 then Some (record { nodes = size.nodes; lines = lines.0 }) else None) (size.lines, []) (Some size) lines refl)))
+    (then_read (capped_at 65535 (decimal size.nodes ++ last)) (λ nodes. behind (codes " ") nodes.1 >>= λ text. capped_at 65535 text >>= λ lines. if is_ended lines.1 then Some (record { nodes = nodes.0; lines = lines.0 }) else None)
+    (size.nodes, last) (Some size) (capped_own 65535 size.nodes last (omega (arith, few)) (omega (arith, few)) refl)
+    (then_read (behind (codes " ") last) (λ text. capped_at 65535 text >>= λ lines. if is_ended lines.1 then Some (record { nodes = size.nodes; lines = lines.0 }) else None) (decimal size.lines) (Some size) (behind_own (codes " ") (decimal size.lines))
+    (then_read (capped_at 65535 (decimal size.lines)) (λ lines. if is_ended lines.1 then Some (record { nodes = size.nodes; lines = lines.0 }) else None) (size.lines, []) (Some size) lines refl)))
 
 pub size_back : (size : Size) (openings : List Opening) → IsSize size → (line : List ℕ) × (log_head size openings ≡ line ++ flat_map opening_line openings) × IsReadAs memory_at line size
 size_back size openings is =

@@ -6,10 +6,12 @@
 
 ghost use Rattle.std.specs.Prelude.{◌≤◌, length, IfOk};
 
+mod arguments;
 mod commands;
 mod histories;
 mod races;
 
+use arguments::Named;
 use clap::{ArgMatches, Error, error};
 use commands::commands;
 use sci_serve::{
@@ -319,12 +321,13 @@ fn told(rt: &HostRuntime, error: &Error) -> Result<ExitCode, SimFault> {
     }
 }
 
-/// The status of the program with its arguments. An argument that isn't UTF-8 can't be read.
+/// The status of the program with its arguments. An argument that isn't UTF-8 can't be read;
+/// its own name may be any bytes.
 fn scisim<T: Threads + Wait + Eprint + Sync>(
     rt: &HostRuntime,
     threads: &T,
 ) -> Result<ExitCode, SimFault> {
-    let arguments = std::env::args(rt).map_err(|error| match error.kind() {
+    let arguments = std::env::args(&(Named(rt), rt.alloc())).map_err(|error| match error.kind() {
         ErrorKind::OutOfMemory => SimFault::from(AllocError),
         _ => SimFault::CannotRead,
     })?;
