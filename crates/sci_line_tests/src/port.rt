@@ -2,7 +2,6 @@
 ghost use Rattle.std.specs.Prelude.{◌≡◌, ◌<◌, IfSome};
 ghost use Rattle.sci_port.specs.Missing.{MissesOther};
 
-mod memory;
 mod receipts;
 
 use crate::checks::same;
