@@ -2,14 +2,13 @@
 ghost use Rattle.std.specs.Prelude.{◌≡◌, ◌<◌, IfSome};
 ghost use Rattle.sci_port.specs.Missing.{MissesOther};
 
-mod memory;
 mod receipts;
 
 use crate::checks::same;
 use sci_core::{Event, Line, Outcome, Pending, Whole};
 use sci_port::recording::{Recorder, Trace};
 use sci_port::*;
-use sci_words::{Kind, MemState, NodeId, Tag};
+use sci_words::{Kind, LineNo, MemState, NodeId, Tag};
 use std::alloc::Global;
 use std::process::Abort;
 use std::test::Fail;
@@ -114,23 +113,12 @@ fn comes_to(rt: &impl Abort, whole: &mut Whole<AnyWords>, trace: &mut Trace, row
     same(rt, &step(whole, trace, number, event), &outcome);
 }
 
-// At this place among those that passed stands this event of the node.
-fn stands_at(
-    rt: &impl Abort,
-    events: &[(NodeId, Event)],
-    place: usize,
-    node: NodeId,
-    event: Event,
-) {
-    same(rt, &events.get(place), &Some(&(node, event)));
-}
-
 // What passed at the miss and behind it stands in the trace.
 fn shows_the_miss(rt: &impl Abort, trace: &Trace) -> Result<(), Fail> {
     let events = trace.events().ok_or("no room")?;
+    let miss = [(node(0), Event::FreshToGone), (node(0), Event::Unconverted)];
     same(rt, &events.len(), &10);
-    stands_at(rt, events, 7, node(0), Event::FreshToGone);
-    stands_at(rt, events, 8, node(0), Event::Unconverted);
+    same(rt, &events.get(7..9), &Some(miss.as_slice()));
     Ok(())
 }
 
@@ -146,60 +134,51 @@ fn steps_two_readers(rt: HostRuntime) -> Result<(), Fail> {
     shows_the_miss(&rt, &trace)
 }
 
-// The port of node 2 of three to line 7, as it was opened.
-fn stands<P: Port>(rt: &impl Abort, port: &mut P)
-    ensures { P.way port.new ≡ P.way port.old }
-{
-    same(rt, &port.node().get(), &2);
-    same(rt, &port.nodes(), &3);
-    same(rt, &port.number(), &7);
-    same(rt, &port.pending(), &Pending::Idle);
-    same(rt, &port.mem().map(|mem| mem.state), &Some(MemState::Home));
-}
+/// A port's node, the nodes and the number of its line, the pending step, memory's state, and the kinds of the own tag and node 1's.
+type Says = (
+    u16,
+    u16,
+    LineNo,
+    Pending,
+    Option<MemState>,
+    [Option<Kind>; 2],
+);
 
-// The tags of the port's node and of node 1, as they were opened.
-fn tags_stand<P: Port>(rt: &impl Abort, port: &mut P)
+// What a port says, and what it loads.
+fn says<P: Port>(port: &mut P) -> Says
     requires { 1 < (P.way port.old).nodes }
 {
-    same(rt, &port.own().map(|tag| tag.kind), &Some(Kind::Invalid));
-    same(
-        rt,
-        &port.tag(node(1)).map(|tag| tag.kind),
-        &Some(Kind::Invalid),
-    );
+    let (me, nodes, number) = (port.node().get(), port.nodes(), port.number());
+    let pending = port.pending();
+    let mem = port.mem().map(|mem| mem.state);
+    let own = port.own().map(|tag| tag.kind);
+    let other = port.tag(node(1)).map(|tag| tag.kind);
+    (me, nodes, number, pending, mem, [own, other])
 }
 
-// All that, the tags through a recorder of the port.
-fn words_stand<P: Port>(rt: &impl Abort, port: &mut P, trace: &mut Trace)
-    requires { 1 < (P.way port.old).nodes }
-{
-    stands(rt, port);
-    tags_stand(rt, &mut Recorder::new(port, trace));
-}
-
-// The only event that passed is the node's look.
-fn shows_a_look(rt: &impl Abort, trace: &Trace, node: NodeId) -> Result<(), Fail> {
-    let events = trace.events().ok_or("no room")?;
-    stands_at(rt, events, 0, node, Event::Look);
-    same(rt, &events.len(), &1);
-    Ok(())
-}
-
-// The words of such a line stand, as node 2 loads them by its port.
-fn loads(rt: &impl Abort, whole: &mut Whole<AnyWords>, trace: &mut Trace) {
-    let first = node(2);
-    if first.get() < whole.nodes() {
-        let mut receipts = Receipts::new(whole.allocator());
-        words_stand(rt, &mut Solo::new(whole, &mut receipts, first), trace);
+// What node 2's port to a line says, through a recorder of it; if there is that node.
+fn says_recorded(whole: &mut Whole<AnyWords>, trace: &mut Trace) -> Option<Says> {
+    let me = node(2);
+    if me.get() >= whole.nodes() {
+        return None;
     }
+    let mut receipts = Receipts::new(whole.allocator());
+    let mut solo = Solo::new(whole, &mut receipts, me);
+    Some(says(&mut Recorder::new(&mut solo, trace)))
 }
 
 #[test]
 fn loads_the_words_that_stand(rt: HostRuntime) -> Result<(), Fail> {
     let mut whole = Whole::open(rt.alloc(), 3, 7, LINE, AnyWords)?;
     let mut trace = Trace::new(Vec::with_capacity(rt.alloc(), 16)?);
-    loads(&rt, &mut whole, &mut trace);
-    shows_a_look(&rt, &trace, node(2))
+    let said = says_recorded(&mut whole, &mut trace);
+    let (home, invalid) = (Some(MemState::Home), Some(Kind::Invalid));
+    let want = (2, 3, 7, Pending::Idle, home, [invalid; 2]);
+    same(&rt, &said, &Some(want));
+    // the only event that passed is the node's look
+    let look = [(node(2), Event::Look)];
+    same(&rt, &trace.events(), &Some(look.as_slice()));
+    Ok(())
 }
 
 #[test]

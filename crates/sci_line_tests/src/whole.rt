@@ -6,7 +6,6 @@ ghost use Rattle.sci_core.specs.Whole.{nodes_of, state_of};
 mod answers;
 mod closing;
 mod growths;
-mod layout1_words;
 mod memory;
 mod movers;
 mod texts;
@@ -157,15 +156,11 @@ fn all_read(rt: &impl Abort, whole: &mut Whole<AnyWords>, nodes: u16) {
 }
 
 /// The line's list has all nodes, the last one first.
-fn lists_all(
-    rt: &impl Abort,
-    alloc: Global,
-    whole: &Whole<AnyWords>,
-    nodes: u16,
-) -> Result<(), Fail> {
-    let want: Vec<u16> = (0..nodes).rev().collect(alloc)?;
-    is_chain(rt, &whole.chain(alloc)?, &want);
-    Ok(())
+fn lists_all(rt: &impl Abort, chain: &[NodeId], nodes: u16) {
+    same(rt, &chain.len(), &usize::from(nodes));
+    for (number, node) in chain.iter().rev().enumerate() {
+        same_at(rt, &nodes, &usize::from(node.get()), &number);
+    }
 }
 
 #[test]
@@ -175,7 +170,7 @@ fn closes_and_lists_1_to_1024_nodes(rt: HostRuntime) -> Result<(), Fail> {
         let closed = whole.closed(rt.alloc())?;
         same(&rt, &closed.tags.len(), &usize::from(nodes));
         all_read(&rt, &mut whole, nodes);
-        lists_all(&rt, rt.alloc(), &whole, nodes)?;
+        lists_all(&rt, &whole.chain(rt.alloc())?, nodes);
     }
     Ok(())
 }
@@ -225,28 +220,5 @@ fn runs_two_readers(rt: HostRuntime) -> Result<(), Fail> {
     for row in &then() {
         comes_to(&rt, &mut whole, row);
     }
-    Ok(())
-}
-
-#[test]
-fn stops_at_the_first_that_is_not_in_turn(rt: HostRuntime) -> Result<(), Fail> {
-    let mut whole = Whole::open(rt.alloc(), 1, 0, LINE, AnyWords)?;
-    let events = [
-        (node(0), Event::Queue(None)),
-        (node(0), Event::PrependValid),
-        (node(0), Event::Settle),
-        (node(0), Event::ReturnMemory),
-    ];
-    same(&rt, &run(&mut whole, &events), &Some(Err(2)));
-    same(
-        &rt,
-        &step(&mut whole, 0, Event::ReturnMemory),
-        &Some(Ok(Outcome::Done(None))),
-    );
-    same(
-        &rt,
-        &step(&mut whole, 0, Event::Settle),
-        &Some(Ok(Outcome::Done(Some(LINE)))),
-    );
     Ok(())
 }

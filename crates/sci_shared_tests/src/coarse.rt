@@ -1,7 +1,7 @@
 //! A line under its lock word: how it is opened and closed, banks of lines, and threads on it.
 mod banks;
 mod growths;
-mod memory;
+pub(crate) mod memory;
 
 use crate::lines::adding::adds_by_two;
 use crate::lines::keeping::gives_receipts;

@@ -1,5 +1,5 @@
 //! A line on separate words: how it is opened and closed, banks of lines, and threads on it.
-mod banks;
+pub(crate) mod banks;
 mod growths;
 mod memory;
 mod threads;

@@ -11,6 +11,9 @@ mod coarse;
 mod fine;
 #[cfg(test)]
 mod lines;
+pub mod plain;
+#[cfg(test)]
+mod receipts;
 #[cfg(test)]
 mod recorded;
 #[cfg(test)]

@@ -1,4 +1,4 @@
-//! Turns, ports, words and operations alone take no memory. tools/allocations runs each of these tests with the allocation of
+//! Turns, ports, recorders, words and operations alone take no memory. tools/allocations runs each of these tests with the allocation of
 //! its last line refused, and wants it to fail there, and there alone.
 use super::replays::turn;
 use super::{answers_of, opened};
@@ -80,8 +80,10 @@ fn trace(rt: &impl Abort, alloc: Global) -> Trace {
 #[test]
 fn turns_take_no_memory(rt: HostRuntime) {
     let mut whole = line(&rt, rt.alloc());
-    let ended = turns(&mut whole, &mut trace(&rt, rt.alloc()));
-    assert!(rt; matches!(ended, Some(1_000..)));
+    let mut trace = trace(&rt, rt.alloc());
+    assert!(rt; matches!(turns(&mut whole, &mut trace), Some(1_000..)));
+    // more events passed than it had room for
+    assert!(rt; trace.events().is_none());
     allocates(&rt, rt.alloc(), "allocation 5 is refused");
 }
 

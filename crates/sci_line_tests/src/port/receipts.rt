@@ -1,20 +1,14 @@
-//! What a node's steps append to its receipts, and what those of two nodes come to on a line that is lent.
-ghost use Rattle.std.specs.Prelude.{◌<◌};
-ghost use Rattle.sci_core.specs.Whole.{nodes_of};
+//! What a node's steps append to its receipts.
 
 mod growths;
 mod memory;
 
-use super::step_of;
-use crate::checks::{same, same_at};
-use sci_core::{Event, Line, Outcome, Pending, Receipt, Whole};
-use sci_port::{AnyWords, Port, Receipts, Solo};
-use sci_words::{Kind, NodeId, Tag};
+use crate::checks::same_at;
+use sci_core::{Event, Line, Outcome, Receipt};
+use sci_port::Receipts;
 use std::alloc::Global;
 use std::process::Abort;
 use std::test::Fail;
-
-const ZEROS: [u64; 8] = [0; 8];
 
 const SEVEN: [u64; 8] = [7, 0, 0, 0, 0, 0, 0, 0];
 
@@ -127,96 +121,9 @@ fn steps_append_their_receipts(rt: HostRuntime) -> Result<(), Fail> {
     Ok(())
 }
 
-fn dirty(held: bool) -> Tag {
-    Tag {
-        kind: Kind::Dirty,
-        held,
-        forw: None,
-        back: None,
-    }
-}
-
-/// A node, whether it only passes, and its event.
-type Step = (u16, bool, Event);
-
-// Node 0 stores 7 in word 0, and then node 1 loads.
-fn store_and_load() -> [Step; 12] {
-    let zero = NodeId::new(0);
-    [
-        (0, true, Event::Queue(None)),
-        (0, true, Event::HomeWrite),
-        (0, true, Event::ReturnMemory),
-        (0, true, Event::Settle),
-        (0, true, Event::BeginPurge(dirty(false))),
-        (0, true, Event::Look),
-        (0, true, Event::Written(Some(SEVEN))),
-        (1, false, Event::Queue(zero)),
-        (1, false, Event::PrependGone),
-        (1, false, Event::AttachDirty(dirty(false))),
-        (1, false, Event::ReturnCopy),
-        (1, false, Event::Settle),
-    ]
-}
-
-// The line that a node's step keeps to write over it.
-fn kept(whole: &Whole<AnyWords>, node: NodeId) -> Line
-    requires { node < nodes_of whole.now }
-{
-    match whole.pending(node) {
-        Pending::Purging { line, .. } => line,
-        _ => Line::ZERO,
-    }
-}
-
-// A node's event on a line that is lent, with its receipt: whether it is done.
-fn makes(whole: &mut Whole<AnyWords>, receipts: &mut Receipts, step: &Step) -> Option<bool> {
-    let (number, passing, event) = *step;
-    let node = NodeId::new(number)?;
-    if node.get() >= whole.nodes() {
-        return None;
-    }
-    receipts.aim(passing);
-    let before = kept(whole, node);
-    let mut none = Receipts::new(whole.allocator());
-    let outcome = step_of(&mut Solo::new(whole, &mut none, node), event)?;
-    receives(receipts, event, &before, &outcome)?;
-    Some(matches!(outcome, Outcome::Done(_)))
-}
-
 // Receipts with room for so many.
 fn with_room(alloc: Global, room: usize) -> Result<Receipts, Fail> {
     let mut receipts = Receipts::new(alloc);
     receipts.reserve(room)?;
     Ok(receipts)
-}
-
-#[test]
-fn receipts_of_a_store_and_a_load(rt: HostRuntime) -> Result<(), Fail> {
-    let mut whole = Whole::open(rt.alloc(), 2, 0, Line::ZERO, AnyWords)?;
-    let mut of_0 = with_room(rt.alloc(), 3)?;
-    let mut of_1 = with_room(rt.alloc(), 2)?;
-    for step in store_and_load() {
-        let is_done = if step.0 == 0 {
-            makes(&mut whole, &mut of_0, &step)
-        } else {
-            makes(&mut whole, &mut of_1, &step)
-        };
-        same_at(&rt, &step, &is_done, &Some(true));
-    }
-    let wrote = Receipt::Wrote {
-        before: ZEROS,
-        words: SEVEN,
-        stamp: 1,
-    };
-    same(
-        &rt,
-        &of_0.into_vec().as_slice(),
-        &[passed(Line::ZERO), wrote].as_slice(),
-    );
-    same(
-        &rt,
-        &of_1.into_vec().as_slice(),
-        &[read(SEVEN_AT_1)].as_slice(),
-    );
-    Ok(())
 }

@@ -1,5 +1,5 @@
 //! Two nodes on one line: what stands is shown, in a slot or in a hand, and at rest it is closed.
-use super::{ALONE, closed_of, node, opened};
+use super::{ALONE, closed_of, node};
 use crate::checks::{same, same_at};
 use sci_core::{AnyWords, Closed, Event, Line, NotInTurn, Outcome, Whole};
 use sci_words::{Kind, Mem, MemState, NodeId, Tag};
@@ -42,16 +42,6 @@ fn is_closed(rt: &impl Abort, closed: &Closed, mem: &Mem, tags: [Tag; 2], lines:
     same(rt, &closed.memory, &OPENING);
     same(rt, &closed.tags.as_slice(), &tags.as_slice());
     same(rt, &closed.lines.as_slice(), &lines.as_slice());
-}
-
-#[test]
-fn closes_an_unused_line(rt: HostRuntime) -> Result<(), Fail> {
-    let whole = opened(rt.alloc(), 2, 0, OPENING)?;
-    let closed = whole.closed(rt.alloc())?;
-    let home = mem(MemState::Home, None);
-    let invalid = tag(Kind::Invalid, None, None);
-    is_closed(&rt, &closed, &home, [invalid; 2], [OPENING; 2]);
-    Ok(())
 }
 
 const WRITER: Tag = Tag {

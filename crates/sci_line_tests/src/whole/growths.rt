@@ -8,7 +8,7 @@ ghost use Rattle.sci_core.specs.Whole.{nodes_of, state_of};
 use super::{ALONE, LINE, is_chain, node, opened, run};
 use crate::checks::same;
 use sci_core::{AnyWords, Closed, Event, OpenRefusal, Whole};
-use sci_words::{MemState, NodeId, Tag};
+use sci_words::{Kind, Mem, MemState, NodeId, Tag};
 use std::alloc::Global;
 use std::process::Abort;
 use std::test::Fail;
@@ -43,9 +43,22 @@ fn lists(
     Err(Fail::new("chain answered 7"))
 }
 
+const HOME: Mem = Mem {
+    state: MemState::Home,
+    lent: false,
+    forw: None,
+};
+
+const INVALID: Tag = Tag {
+    kind: Kind::Invalid,
+    held: false,
+    forw: None,
+    back: None,
+};
+
 fn is_unused(rt: &impl Abort, closed: &Closed) {
-    same(rt, &closed.memory, &LINE);
-    same(rt, &closed.tags.len(), &2);
+    same(rt, &(closed.mem, closed.memory), &(HOME, LINE));
+    same(rt, &closed.tags.as_slice(), &[INVALID; 2].as_slice());
     same(rt, &closed.lines.as_slice(), &[LINE; 2].as_slice());
 }
 

@@ -134,8 +134,8 @@ fn first(zero: NodeId) -> [(NodeId, Event); 3] {
     ]
 }
 
-/// The same reader, until a second one prepends itself; a missed exchange; and an event that isn't in turn.
-fn then(zero: NodeId, one: NodeId, alone: Tag) -> [(NodeId, Event); 6] {
+/// The same reader, until a second one prepends itself; a missed exchange; an event that isn't in turn; and one that would be.
+fn then(zero: NodeId, one: NodeId, alone: Tag) -> [(NodeId, Event); 7] {
     [
         (zero, Event::Settle),
         (zero, Event::Convert(alone)),
@@ -143,6 +143,7 @@ fn then(zero: NodeId, one: NodeId, alone: Tag) -> [(NodeId, Event); 6] {
         (one, Event::PrependValid),
         (zero, Event::FreshToGone),
         (one, Event::Settle),
+        (zero, Event::Unconverted),
     ]
 }
 
@@ -168,11 +169,13 @@ fn is_unused(rt: &impl Abort, closed: &Closed, nodes: usize) {
     same(rt, &closed.value(), &LINE);
 }
 
-/// Runs of two nodes.
+/// Runs of two nodes. The second stops at the first event that isn't in turn, and makes none behind it.
 fn runs(rt: &impl Abort, whole: &mut Whole<AnyWords>) {
     let (zero, one) = (node(0), node(1));
     same(rt, &run(whole, &first(zero)), &Some(Ok(3)));
     same(rt, &run(whole, &then(zero, one, ALONE)), &Some(Err(5)));
+    let left_out = step(whole, 0, Event::Unconverted);
+    same(rt, &left_out, &Some(Ok(Outcome::Done(None))));
 }
 
 #[test]

@@ -1,15 +1,17 @@
-//! Turns of a node take no memory, nor do evictions, and requests for a line that it names, where there is the room that they need or
-//! the node keeps no receipts. tools/allocations runs each of these tests with the allocation of its last line refused, and wants it
+//! Turns of a node take no memory, nor does its bank, nor do evictions, and requests for a line that it names, where there is the room
+//! that they need or the node keeps no receipts. tools/allocations runs each of these tests with the allocation of its last line refused, and wants it
 //! to fail there, and there alone.
 ghost use Rattle.std.specs.Prelude.{◌≡◌, length};
 
 use super::receipts::of_three;
-use super::{Lent, done, ended, made, opened};
+use super::{Lent, banked, done, ended, made, opened};
 use crate::checks::{allocates, same};
+use crate::lines::turning::turns_in;
 use sci_cache::{Node, Request};
 use sci_core::{AnyWords, Line};
 use sci_port::{Bank, SoloBank};
-use sci_words::LineNo;
+use sci_words::{LineNo, NodeId};
+use std::process::Abort;
 use std::test::Fail;
 
 const ROUNDS: u32 = 2_000;
@@ -120,5 +122,24 @@ fn calls_with_room_take_no_memory(rt: HostRuntime) -> Result<(), Fail> {
     bank.reserve(2, NEED)?;
     begun(&mut node, &mut bank).ok_or("no end")?;
     allocates(&rt, rt.alloc(), "allocation 22 is refused");
+    Ok(())
+}
+
+// How many lines a bank gives back, behind one more seat for its node.
+fn lines_left(mut bank: SoloBank<AnyWords>) -> usize {
+    let me = bank.node();
+    bank.seat(me);
+    bank.into_wholes().len()
+}
+
+#[test]
+fn solo_banks_take_no_memory(rt: HostRuntime) -> Result<(), Fail> {
+    // The lines and their receipts take eleven.
+    let zero = NodeId::new(0).ok_or("no node")?;
+    let lent = opened(rt.alloc(), 1, 3, Line::ZERO)?;
+    let mut bank = banked(lent, zero).ok_or("no bank")?;
+    assert!(rt; matches!(turns_in(&mut bank, 1), Some(1_000..)));
+    same(&rt, &lines_left(bank), &3);
+    allocates(&rt, rt.alloc(), "allocation 12 is refused");
     Ok(())
 }

@@ -26,7 +26,9 @@ fn seats_and_ports_take_no_memory(rt: HostRuntime) -> Result<(), Fail> {
 }
 
 // A line of two nodes, with its seats.
-fn pair_of(alloc: Global) -> Option<(CoarseLine<AnyWords>, Seat<AnyWords>, Seat<AnyWords>)>
+pub(crate) fn pair_of(
+    alloc: Global,
+) -> Option<(CoarseLine<AnyWords>, Seat<AnyWords>, Seat<AnyWords>)>
     ensures { IfSome result (λ r. IsSeatOf r.0 r.1 × IsSeatOf r.0 r.2) }
 {
     let Ok((line, mut seats)) = CoarseLine::new(alloc, 2, 0, Line::ZERO, AnyWords) else {

@@ -12,7 +12,7 @@ use std::process::Abort;
 use std::test::Fail;
 
 // A line of two nodes, with its seats.
-fn pair_of(
+pub(crate) fn pair_of(
     alloc: Global,
     number: LineNo,
     keep: AnyWords,

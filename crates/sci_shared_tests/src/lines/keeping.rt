@@ -3,14 +3,13 @@ ghost use Rattle.std.specs.Prelude.{All};
 
 use super::{SharedLine, finished};
 use crate::checks::same;
+use crate::receipts::expects;
 use sci_core::{Line, Receipt};
 use sci_ops::Op;
 use std::alloc::Global;
 use std::process::Abort;
 use std::sync::Wait;
 use std::test::Fail;
-
-const ZEROS: [u64; 8] = [0; 8];
 
 const SEVEN: [u64; 8] = [7, 0, 0, 0, 0, 0, 0, 0];
 
@@ -43,24 +42,11 @@ fn all_work<L: SharedLine, R: Wait>(rt: &R, line: &L, seats: &mut [L::Seat]) -> 
 
 // What node 0 passed and wrote, and what node 1 read.
 fn are_theirs(rt: &impl Abort, receipts: &[Vec<Receipt>]) {
-    let passed = Receipt::Passed {
-        words: ZEROS,
-        stamp: 0,
-    };
-    let wrote = Receipt::Wrote {
-        before: ZEROS,
-        words: SEVEN,
-        stamp: 1,
-    };
-    let read = Receipt::Read {
-        words: SEVEN,
-        stamp: 1,
-    };
     let [zero, one] = receipts else {
         panic!(rt; "not two nodes")
     };
-    same(rt, &zero.as_slice(), &[passed, wrote].as_slice());
-    same(rt, &one.as_slice(), &[read].as_slice());
+    expects(rt, true, zero.as_slice());
+    expects(rt, false, one.as_slice());
 }
 
 /// Node 0 stores in a line of zeros, and then node 1 loads: the closed line has what both kept.

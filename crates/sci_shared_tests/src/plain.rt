@@ -1,5 +1,5 @@
 //! What definitions of receipts come to in plain cases. No body can turn them, so this is how a definition that says less is seen.
-ghost use Rattle.sci_receipts_tests.specs.Plain.{LastIsNew, LoadAddsRead, NeedIsEnough, NoTwoPassed, OthersStay, RefusalLeavesLists};
+ghost use Rattle.sci_shared_tests.specs.Plain.{LastIsNew, LoadAddsRead, NeedIsEnough, NoTwoPassed, OthersStay, RefusalLeavesLists};
 
 use sci_port::Bank;
 

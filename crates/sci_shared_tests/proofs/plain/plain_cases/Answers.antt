@@ -1,6 +1,6 @@
 use Rattle.std.proofs.Common.{Option, IfSome, ℕ, ◌≢◌, sym, subst}
-use Rattle.sci_receipts_tests.proofs.Cases.{last_is_new, need_is_enough, no_two_passed}
-use Rattle.sci_receipts_tests.proofs.plain.plain_cases.Goals as goal
+use Rattle.sci_shared_tests.proofs.Cases.{last_is_new, need_is_enough, no_two_passed}
+use Rattle.sci_shared_tests.proofs.plain.plain_cases.Goals as goal
 
 pub returns-clause-passed : goal.returns-clause-passed
 returns-clause-passed g c = no_two_passed

@@ -15,7 +15,7 @@ use Rattle.sci_ops.specs.Table.{begun}
 use Rattle.sci_cache.specs.Called.{is_victim}
 use Rattle.sci_cache.proofs.Begun.{if_not, if_so}
 use Rattle.sci_cache.proofs.Ordered.{other_number, same_line}
-use Rattle.sci_receipts_tests.specs.Plain.{LastIsNew, NeedIsEnough, NoTwoPassed}
+use Rattle.sci_shared_tests.specs.Plain.{LastIsNew, NeedIsEnough, NoTwoPassed}
 
 -- ---- two Passed
 

@@ -1,7 +1,7 @@
 //! A port that keeps receipts takes no memory, with room for them and without. tools/allocations runs this test with the allocation
 //! of its last line refused, and wants it to fail there, and there alone.
+use super::carry_out;
 use crate::checks::{allocates, same};
-use crate::kept::carry_out;
 use sci_core::{AnyWords, Line, Whole};
 use sci_ops::Op;
 use sci_port::{Port, Receipted, Receipts, Solo};
@@ -11,12 +11,12 @@ use std::test::Fail;
 const ROUNDS: u32 = 1_000;
 
 // A load, a store and an eviction, so often: how many of them ended.
-fn rounds<P: Port<Keep = AnyWords>>(port: &mut P, receipts: &mut Receipts) -> Option<u32> {
+fn rounds<P: Port<Keep = AnyWords>>(port: &mut P) -> Option<u32> {
     let mut ended: u32 = 0;
     for _ in 0..ROUNDS {
         for op in [Op::load(), Op::store(0, 7).ok()?, Op::evict()] {
             let mut op = op;
-            carry_out(port, receipts, &mut op)?;
+            carry_out(port, &mut op)?;
             ended = ended.saturating_add(1);
         }
     }
@@ -31,8 +31,7 @@ fn rounds_on(whole: &mut Whole<AnyWords>, receipts: &mut Receipts) -> Option<u32
     }
     let mut none = Receipts::new(whole.allocator());
     let mut solo = Solo::new(whole, &mut none, node);
-    let _ = Receipted::new(&mut solo, receipts);
-    rounds(&mut solo, receipts)
+    rounds(&mut Receipted::new(&mut solo, receipts))
 }
 
 #[test]
