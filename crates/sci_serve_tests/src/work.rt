@@ -1,4 +1,4 @@
-//! The workloads, and a node over separate words.
+//! The workloads.
 mod counts;
 mod doors;
 mod gates;
@@ -6,7 +6,6 @@ mod growths;
 mod locked;
 mod lowest;
 mod meeting;
-mod nodes;
 mod overrun;
 mod passing;
 mod receipts;

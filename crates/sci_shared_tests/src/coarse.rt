@@ -1,5 +1,5 @@
 //! A line under its lock word: how it is opened and closed, banks of lines, and threads on it.
-mod banks;
+pub(crate) mod banks;
 mod growths;
 pub(crate) mod memory;
 

@@ -77,7 +77,27 @@ fn has_the_second<B: Bank>(rt: &impl Abort, bank: &mut B)
     same(rt, &bank.own(1).map(|tag| tag.kind), &kinds.1);
 }
 
-/// A node writes on the second line, leaves it, and reads it again.
+/// A node adds to the second line, and writes all of it.
+#[tactic(auto, using(sci_ops::proofs::Storing::any_store_fits))]
+fn adds_and_writes<R: Abort + Wait, B: Bank<Keep = AnyWords>>(rt: &R, node: &mut Node, bank: &mut B)
+    requires node { (B.way bank.old).node ≡ node.old.id }
+    requires lines { ((B.way bank.old).lines ≡ node.old.lines) × (node.old.lines ≡ 2) }
+    ensures same_way { B.way bank.new ≡ B.way bank.old }
+    ensures same_node { (node.new.id ≡ node.old.id) × (node.new.lines ≡ node.old.lines) }
+{
+    let added = Answer::Wrote {
+        before: [0; 8],
+        stamp: 1,
+    };
+    same(rt, &node.add(rt, bank, 1, 0, 1), &Ok(added));
+    let wrote = Answer::Wrote {
+        before: [1, 0, 0, 0, 0, 0, 0, 0],
+        stamp: 2,
+    };
+    same(rt, &node.write_line(rt, bank, 1, [0; 8]), &Ok(wrote));
+}
+
+/// A node stores on the second line, leaves it, and reads it again.
 fn writes_and_reads<R: Abort + Wait, B: Bank<Keep = AnyWords>>(
     rt: &R,
     node: &mut Node,
@@ -88,17 +108,17 @@ fn writes_and_reads<R: Abort + Wait, B: Bank<Keep = AnyWords>>(
 {
     let wrote = Answer::Wrote {
         before: [0; 8],
-        stamp: 1,
+        stamp: 3,
     };
     same(rt, &node.store(rt, bank, 1, 0, 7), &Ok(wrote));
     same(rt, &node.evict(rt, bank, 1), &Ok(Answer::Out));
     let words = [7, 0, 0, 0, 0, 0, 0, 0];
-    let seen = Answer::Seen { words, stamp: 1 };
+    let seen = Answer::Seen { words, stamp: 3 };
     same(rt, &node.load(rt, bank, 1), &Ok(seen));
 }
 
-/// A node of one line at a time works over a bank of two.
-fn works<R: Abort + Wait, B: Bank<Keep = AnyWords>>(
+/// A node of one line at a time works over a bank of two, with each call that waits.
+pub(crate) fn works<R: Abort + Wait, B: Bank<Keep = AnyWords>>(
     rt: &R,
     alloc: Global,
     bank: &mut B,
@@ -110,6 +130,7 @@ fn works<R: Abort + Wait, B: Bank<Keep = AnyWords>>(
     loads_both(rt, &mut node, bank);
     same(rt, &node.resident(alloc)?.as_slice(), &[1].as_slice());
     has_the_second(rt, bank);
+    adds_and_writes(rt, &mut node, bank);
     writes_and_reads(rt, &mut node, bank);
     Ok(())
 }

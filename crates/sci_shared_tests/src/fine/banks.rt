@@ -1,9 +1,10 @@
-//! Seats that make no bank.
+//! A node over a bank of lines, and seats that make no bank.
 ghost use Rattle.std.specs.Prelude.{◌≡◌, IfOk, IfSome, [], ◌∷◌};
 ghost use Rattle.sci_fine.specs.Banks.{AreLines, AreSeatsOf, IsLine};
 ghost use Rattle.sci_fine.specs.Seats.{IsSeatOf};
 
 use crate::checks::same;
+use crate::coarse::banks::works;
 use sci_core::{AnyWords, Line};
 use sci_fine::{FineBank, FineLine, Seat, SeatOfAnother};
 use sci_words::LineNo;
@@ -53,6 +54,16 @@ pub(super) fn two_lines(
         return Err(Fail::new("no line"));
     };
     Ok(([first, second], zero, one, other_zero, other_one))
+}
+
+#[test]
+fn a_node_works_over_a_bank(rt: HostRuntime) -> Result<(), Fail> {
+    let (lines, seat, _, other, _) = two_lines(rt.alloc())?;
+    let seats = vec![in rt.alloc(); seat, other]?;
+    let Ok(mut bank) = FineBank::new(lines.as_slice(), seats) else {
+        panic!(rt; "it was refused")
+    };
+    works(&rt, rt.alloc(), &mut bank)
 }
 
 /// The refusal is 9, and hands back seats of these lines and nodes.
