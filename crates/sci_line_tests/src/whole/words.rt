@@ -71,8 +71,8 @@ fn is_tag(rt: &impl Abort, words: (u64, u64), tag: Tag, text: &str) {
 
 #[test]
 fn reads_and_writes_tags(rt: HostRuntime) {
-    for (word, word_1, kind, links, text) in TAGS {
-        is_tag(&rt, (word, word_1), tag(kind, false, links), text);
+    for (word, word_1, kind, links, text) in &TAGS {
+        is_tag(&rt, (*word, *word_1), tag(*kind, false, *links), text);
     }
     let held = tag(Valid, true, [0, 2]);
     is_tag(&rt, (0x200000017, 0x20017), held, "MID_VALID");
@@ -99,10 +99,10 @@ const NO_TAGS: [Refused; 11] = [
 
 #[test]
 fn refuses_tags(rt: HostRuntime) {
-    for (word, word_1, refusal, number) in NO_TAGS {
-        let read = (read_tag(word), layout1::read_tag(word_1));
-        same_at(&rt, &word, &read, &(Err(refusal), Err(refusal)));
-        same(&rt, &refusal.number(), &number);
+    for (word, word_1, refusal, number) in &NO_TAGS {
+        let read = (read_tag(*word), layout1::read_tag(*word_1));
+        same_at(&rt, word, &read, &(Err(*refusal), Err(*refusal)));
+        same(&rt, &refusal.number(), number);
     }
 }
 
@@ -148,8 +148,8 @@ fn is_mem(rt: &impl Abort, words: (u64, u64), mem: Mem, text: &str) {
 
 #[test]
 fn reads_and_writes_memory_words(rt: HostRuntime) {
-    for (word, word_1, state, lent, head, text) in MEMS {
-        is_mem(&rt, (word, word_1), mem(state, lent, head), text);
+    for (word, word_1, state, lent, head, text) in &MEMS {
+        is_mem(&rt, (*word, *word_1), mem(*state, *lent, *head), text);
     }
 }
 
@@ -166,10 +166,10 @@ const NO_MEMS: [Refused; 6] = [
 
 #[test]
 fn refuses_memory_words(rt: HostRuntime) {
-    for (word, word_1, refusal, number) in NO_MEMS {
-        let read = (read_mem(word), layout1::read_mem(word_1));
-        same_at(&rt, &word, &read, &(Err(refusal), Err(refusal)));
-        same(&rt, &refusal.number(), &number);
+    for (word, word_1, refusal, number) in &NO_MEMS {
+        let read = (read_mem(*word), layout1::read_mem(*word_1));
+        same_at(&rt, word, &read, &(Err(*refusal), Err(*refusal)));
+        same(&rt, &refusal.number(), number);
     }
 }
 
