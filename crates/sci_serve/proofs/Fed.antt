@@ -354,7 +354,7 @@ openings_fed size (o ∷ openings) content text n log (there, (said, ended, plai
 module _ (size : Size) (is : IsSize size) where
   begins_fault : (n : ℕ) (e : LogFault) → Begins n (Some size) (Err e) → IsMemory e
   begins_fault n LogFault.OutOfMemory h = refl
-  begins_fault n (LogFault.BadNumber k) (at, no) = absurd (no is)
+  begins_fault n (LogFault.BadNumber k) (at, out) = absurd (out is)
   begins_fault n (LogFault.BadLine k) h = absurd h
   begins_fault n (LogFault.Departs k why) h = absurd h
   begins_fault n LogFault.CannotRead h = absurd h
