@@ -8,6 +8,7 @@ import time
 
 import made
 from kit import RT
+from turns import logic
 
 # in seconds: from one line to the next at the most; a line of a crate that dist/seconds lacks
 BETWEEN_LINES = 60
@@ -87,6 +88,11 @@ def build_all(crates):
     return all(RT.in_lanes(tasks).values())
 
 
+def lines_of(sources):
+    """Returns the lines that say of which sources the program was built, and by which logic."""
+    return [made.line_of("scisim", sources), f"logic {logic()}"]
+
+
 def main():
     # (with its own handler, Python would wait for the threads)
     signal.signal(signal.SIGINT, signal.SIG_DFL)
@@ -97,7 +103,7 @@ def main():
     # (another build, or another rt, ends first, and this one says that it waits)
     RT.rtlib.lock(crates)
     sources = made.sources_of("sci_sim")
-    if made.PROGRAM.is_file() and made.line_of("scisim", sources) in made.read(made.OUT):
+    if made.PROGRAM.is_file() and {*lines_of(sources)} <= {*made.read(made.OUT)}:
         say("the program is built already from the sources as they stand")
         return 0
     if not build_all([it for it in crates if it is program or not it.is_built()]):
@@ -105,6 +111,6 @@ def main():
     if made.sources_of("sci_sim") != sources:
         say("the sources have changed meanwhile, and this program isn't of them: build again")
         return 1
-    made.write(made.OUT, [made.line_of("scisim", sources)])
+    made.write(made.OUT, lines_of(sources))
     say("the program is built")
     return 0

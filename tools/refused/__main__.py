@@ -129,7 +129,7 @@ def main():
                     shutil.rmtree(f"{it.folder}/refused", ignore_errors=True)
         trials = [Trial(it, *edits_of(it), f"{room}/kept/{it.name}", say) for it in crates]
         tried = Tried(root)
-        tried.choose(trials, given.all or given.names)
+        tried.choose(trials, given.all or given.names or given.of)
         if given.of:
             for it in trials:
                 it.keep_of({*given.of})

@@ -322,15 +322,16 @@ def plant_sums(root):
 
 
 class Turns:
-    """A crate and one above it, each of 20 edits, of which a run refuses all but those that are to fail."""
+    """A crate, one above it, and one above that, each of 20 edits, of which a run refuses all but those that are to fail."""
 
     def __init__(self, root):
         make(root)
-        self.root, self.file, self.crates = root, root / turns.FILE, ["lib_of_halves", "lib_above"]
-        (root / "crates.txt").write_text("lib_of_halves:\nlib_above: lib_of_halves\n", encoding="utf-8")
-        for part in ("crates/lib_above/src", "crates/lib_above/refused", "crates/lib_of_halves/specs", self.file.parent, ".git"):
+        self.root, self.file, self.crates = root, root / turns.FILE, ["lib_of_halves", "lib_above", "lib_top"]
+        (root / "crates.txt").write_text("lib_of_halves:\nlib_above: lib_of_halves\nlib_top: lib_above\n", encoding="utf-8")
+        above = [f"crates/{name}/{part}" for name in self.crates[1:] for part in ("src", "refused")]
+        for part in (*above, "crates/lib_of_halves/specs", self.file.parent, ".git"):
             (root / part).mkdir(parents=True, exist_ok=True)
-        for path in ("crates/lib_above/src/lib.rt", "crates/lib_of_halves/specs/Halves.antt"):
+        for path in ("crates/lib_above/src/lib.rt", "crates/lib_top/src/lib.rt", "crates/lib_of_halves/specs/Halves.antt"):
             (root / path).write_text("", encoding="utf-8")
 
     def run(self, is_all=False, failing=(), notes=True):
@@ -361,14 +362,14 @@ def faults_of_turns():
     """Returns what isn't as it must be of which edits a run tries, by what has changed since they were last tried."""
     with tempfile.TemporaryDirectory(prefix="refused-test-") as folder:
         it = Turns(pathlib.Path(folder, "repository"))
-        both, low = it.crates, it.crates[:1]
-        told = [("with no file tried", it.whole(), both), ("as it was noted", it.whole(), []), ("with --all", it.whole(is_all=True), both)]
-        for path, wanted in (("src/lib.rt", both), ("specs/Halves.antt", both), ("proofs/third/Answers.antt", low), ("refused/lib.edits", low)):
+        every, low = it.crates, it.crates[:1]
+        told = [("with no file tried", it.whole(), every), ("as it was noted", it.whole(), []), ("with --all", it.whole(is_all=True), every)]
+        for path, wanted in (("src/lib.rt", every), ("specs/Halves.antt", every), ("proofs/third/Answers.antt", low), ("refused/lib.edits", low)):
             told.append((f"behind a change of {path}", it.changed(f"lib_of_halves/{path}"), (wanted, [])))
-        told.append(("behind a change of the crate above", it.changed("lib_above/src/lib.rt"), (both[1:], [])))
+        told.append(("behind a change of the crate above", it.changed("lib_above/src/lib.rt"), (every[1:], [])))
         told.append(("behind a run in which the lower's fail", (it.whole(failing=low), it.whole()), ([], low)))
         logic, turns.logic = turns.logic, lambda: "other"
-        told.append(("under another logic", it.whole(notes=False), both))
+        told.append(("under another logic", it.whole(notes=False), every))
         turns.logic = logic
         part = f"refused: {low[0]}: 3 of 20 tried, 3 refused, of them 0 by search alone, over 0123\n"
         told.append(("behind a run of some edits", turns.noted(str(it.root), part), it.file.read_text(encoding="utf-8")))
@@ -378,7 +379,7 @@ def faults_of_turns():
                 (it.root / turns.RUNS).unlink(missing_ok=True)
                 (it.root / ".git").rmdir()
             tried = [it.run(notes=notes) for _ in range(turns.TURNS)]
-            for name in both:
+            for name in every:
                 counts = [len(run[name]) for run in tried]
                 places = sorted(at for run in tried for at in run[name])
                 told.append((f"in eight runs, noted: {notes}, with a folder .git: {has_git}", (places, {*counts} <= {2, 3}), ([*range(20)], True)))
