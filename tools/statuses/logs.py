@@ -41,13 +41,12 @@ def ranges():
         yield EVENT.format("0", "0", f"AttachFresh({number} ONLY_FRESH)"), 2
 
 
-# The head that a node found may be any number: whether memory has it, the next line that names memory shows.
+# The head that a node found is none or a node: of any other number the event isn't in turn.
 QUEUED = [EVENT.format("0", "0", f"Queue({number})") for number in ("5", *ABOVE)]
 
 CASES = [
     *((["follow"], text, 1 if line else 0, "" if line else FOLLOWS, refused(f"17 at line {line}") if line else "") for text, line in ranges()),
-    *((["follow"], text, 0, FOLLOWS, "") for text in QUEUED),
-    *((["follow"], text + "node 0 line 0 PrependValid Done\n", 3, "line 3: another word stood there\n", "") for text in QUEUED),
+    *((["follow"], text, 3, "line 2: not in turn\n", "") for text in QUEUED),
     *((["follow"], f"memory {number} 1\n", 1, "", refused("16 at line 1")) for number in ("", "01", "+1", "1_0", "x")),
     (["follow"], PURGE, 0, FOLLOWS, ""),
     (["follow"], "memory 1024 1024\n", 0, FOLLOWS, ""),
