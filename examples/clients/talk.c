@@ -40,5 +40,6 @@ int main(int count, char **words) {
     if (!script) perror(words[2]);
     if (refused < 0) fputs("talk: no answer, or nobody reads on\n", stderr);
     if (refused > 0) fprintf(stderr, "refused %d: %s", refused, command);
+    free(command);
     return script && !refused && !ferror(script) ? 0 : 1;
 }
