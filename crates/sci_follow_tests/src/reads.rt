@@ -185,7 +185,7 @@ fn no_lines() -> [&'static str; 20] {
         "Look  Done",
         "Look() Done",
         "Queue Done",
-        "Queue(65535) Done",
+        "Queue(+5) Done",
         "Queue(04) Done",
         "Hold(7 MID_VALID) Done",
         "PurgeOne(MID_VALID) Done",
@@ -197,7 +197,7 @@ fn no_lines() -> [&'static str; 20] {
         "Settle Done 9 1 2 3 4 5 6 7 18446744073709551616",
         "Settle Done 9 1 2 3 4 5 6 7 100000000000000000008",
         "Settle Done 340282366920938463463374607431768211465 1 2 3 4 5 6 7 8",
-        "Queue(100000000000000000004) Done",
+        "Queue(4 ) Done",
     ]
 }
 
