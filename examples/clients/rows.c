@@ -1,4 +1,4 @@
-/* rows: asks the library for each row of the table (docs/EVENTS.md), and for words in both layouts, and compares what it answers with
+/* rows: asks the library for each row of the table (docs/PROTOCOL.md), and for words in both layouts, and compares what it answers with
  * what stands here, worked out by hand. Node 1 of four acts. It says which answer is another, and how many were asked for. */
 #include <stddef.h>
 #include <stdio.h>

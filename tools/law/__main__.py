@@ -6,7 +6,7 @@
     python3 tools/law possible     ask the solver whether each row's premises can be met
     python3 tools/law readback 4   ask the solver whether the definitions follow from the law, at 4 nodes
     python3 tools/law ask ROW [CLAUSE]   ask the solver whether the row keeps the law, or the clause, and show what breaks it
-    python3 tools/law states [--check]   write docs/EVENTS.md, which row an event is in each state; or check that it is so
+    python3 tools/law states [--check]   write docs/EVENTS.md and the rows of docs/PROTOCOL.md; or check that they are so
     python3 tools/law try CHANGE [NODES]   search a changed table for the shortest run from HOME to a state that breaks the headline
     python3 tools/law try --check   do the wrong tables of wrong/ lead to what they say?
 """

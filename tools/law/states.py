@@ -1,54 +1,47 @@
-"""Writes docs/EVENTS.md: which row an event is in each state, where it misses, and where it isn't in turn."""
+"""Writes the rows of docs/PROTOCOL.md, and docs/EVENTS.md: which row an event is in each state, where it misses, where it isn't in turn."""
 import difflib
-import os
+import pathlib
 import re
 
 from clauses import TOP, read
 from rows import EVENTS, ROWS, STEP_FIELDS, Word, inside
 
-PAGE = os.path.join(TOP, 'docs', 'EVENTS.md')
 STATES = ['Home', 'Fresh', 'Gone']
 KINDS = ['Invalid', 'Queued', 'Fresh', 'Dirty', 'Convert', 'Purging', 'Leaving', 'Valid', 'Roll', 'Purged']
 HOLDABLE = ['Fresh', 'Dirty', 'Valid']
 ORDER = [row for event in EVENTS for row in ROWS.values() if row.event == event]
 NUMBERS = {row.name: number for number, row in enumerate(ORDER, 1)}
-LABELS = {'written': 'Written(words)', 'unwritten': 'Written(none)'}
 # The events that carry the tag that they found: with another kind they aren't in turn.
 FOUND = set(re.findall(r'(?m)^    (\w+)\(Tag\),', read('src', 'events.rt')))
+ARGUMENTS = {'queue': '(f)', 'requeue': '(f)', 'written': '(words)', 'unwritten': '(none)'}
+SLOTS = {'me': 'own', 'target': "x's", 'memory': "memory's"}
+PLACE = re.compile(r'(?ms)^(<!-- rows ([\w ]+) -->\n).*?^(<!-- end of rows -->\n)')
 NAMES = {'target': 'x', 'line': '', 'seen': 'anything', 'back': 'b', 'old': 'g', 'forw': 'f'}
 HEAD = """# Which event in which state
 
-`python3 tools/law states` writes this page from the rows of [tools/law/rows.py](../tools/law/rows.py), of which the prover checks that
-they are the table of exchanges and keep the law; the gate compares it. [PROTOCOL.md](PROTOCOL.md) has the same rows by topic, with what
-each is for, and the signs used here. `x` is another node.
+`python3 tools/law states` writes this page, and the rows of [PROTOCOL.md](PROTOCOL.md#exchanges), from
+[tools/law/rows.py](../tools/law/rows.py), of which the prover checks that they are the table of exchanges and keep the law; the gate
+compares it. A number is a row's there.
 
-## Which row, by the pending step
+## By the pending step
 
-A number is the row's in the list below. Where there is none, the event isn't in turn. Look is always allowed; where it has no number it
-records nothing.
-
-"""
-LIST = """
-## The rows
-
-`f`, `g` and `b` are any links. `Fresh/Dirty` is Dirty where the step is dirty, else Fresh, and so is `FRESH/GONE`; for Leave the step is
-dirty where the tag was Dirty.
+Where there is no number, the event isn't in turn. Look is always allowed; where it has no number it records nothing.
 
 """
 MEMORY = """
 ## On memory's word
 
-What becomes of an event that is in turn, by the word that it finds: the row's number, where that word names whom the row says, or a
-miss. While memory is lent every event misses but ReturnMemory, which never misses in a lawful state.
+What an event in turn comes to, by the word that it finds: the row, where that word names whom the row says; a miss where the cell is
+blank. While memory is lent every event misses but ReturnMemory, which never misses in a lawful state.
 
 """
 TAGS = """
 ## On a tag
 
-The same by the kind of the tag that an exchange finds, the node's own or another's; the links must be the row's too. `+` is held. An
-event that carries the tag that its node has loaded isn't in turn with a tag of another kind (`-`); with a right one it still misses
-where the tag has changed since. Whether a kind can be met there at all is a matter of the law: what a node's own tag is in each step
-stands in [PROTOCOL.md](PROTOCOL.md#pending-steps).
+The same by the kind of the tag that an exchange finds, the node's own or another's (`x`); the links must be the row's too. `+` is held.
+An event that carries the tag that its node has loaded isn't in turn with a tag of another kind; with a right one it still misses where
+the tag has changed since. Whether a kind can be met there at all is a matter of the law:
+[what a node's own tag is in each step](PROTOCOL.md#pending-steps).
 
 """
 
@@ -190,13 +183,26 @@ def by_step():
     return grid(['event'] + phases, [[event] + cells(event) for event in EVENTS])
 
 
-def listed():
-    """Each row by its number."""
+def label_of(row):
+    """The row's event with its argument."""
+    return row.event + ARGUMENTS.get(row.name, '(found)' if row.event in FOUND else '')
+
+
+def slot_of(row):
+    """Whose slot the row takes or gives, and where the line that it gives isn't the one kept."""
+    for whose, line in row.slots.items():
+        written = ', with the words' if line == '(Some new)' else ''
+        return f'takes {SLOTS[whose]}' if line == 'None' else f'gives {SLOTS[whose]}{written}'
+    return ''
+
+
+def listed(events):
+    """The rows of these events."""
     rows = []
-    for row in ORDER:
+    for row in (it for event in events for it in ORDER if it.event == event):
         before, after = ('own, loaded', 'the same') if row.event == 'Look' else words_of(row)
-        rows.append([str(NUMBERS[row.name]), LABELS.get(row.name, row.event), before_of(row), before, after, step_of(row.after)])
-    return grid(['row', 'event', 'in step', 'finds', 'leaves', 'step after'], rows)
+        rows.append([str(NUMBERS[row.name]), label_of(row), before_of(row), before, after, slot_of(row), step_of(row.after)])
+    return grid(['row', 'event', 'in step', 'finds', 'leaves', 'slot', 'step after'], rows)
 
 
 def by_memory():
@@ -204,11 +210,10 @@ def by_memory():
     rows = []
     for row in ORDER:
         if row.memory:
-            here = states_of(row) if row.memory_before else []
+            here = states_of(row) if row.memory_before else ['lent']
             number = str(NUMBERS[row.name])
-            rows.append([f'{number} {row.event}', step_of(row.step)] + [number if it in here else 'misses' for it in STATES]
-                        + ['misses' if row.memory_before else number])
-    return grid(['row', 'in step'] + [it.upper() for it in STATES] + ['lent'], rows)
+            rows.append([row.event, step_of(row.step)] + [number if it in here else '' for it in STATES + ['lent']])
+    return grid(['event', 'in step'] + [it.upper() for it in STATES] + ['lent'], rows)
 
 
 def by_tag():
@@ -219,29 +224,41 @@ def by_tag():
         if not row.words:
             continue
         node, kinds, held = kinds_of(row)
-        number, other = str(NUMBERS[row.name]), '-' if row.event in FOUND else 'miss'
-        cells = [number if kind in kinds and is_held == held else other for kind, is_held in columns]
-        rows.append([f'{number} {LABELS.get(row.name, row.event)}', 'own' if node == 'me' else 'x'] + cells)
-    return grid(['row', 'tag'] + [kind + ('+' if held else '') for kind, held in columns], rows)
+        number, other = str(NUMBERS[row.name]), 'not in turn' if row.event in FOUND else 'misses'
+        cells = [number if kind in kinds and is_held == held else '' for kind, is_held in columns]
+        rows.append([row.event, 'own' if node == 'me' else 'x'] + cells + [other])
+    return grid(['event', 'tag'] + [kind + ('+' if held else '') for kind, held in columns] + ['another'], rows)
 
 
-def page():
-    """The page's text."""
-    return HEAD + by_step() + LIST + listed() + MEMORY + by_memory() + TAGS + by_tag()
+def events_page(_):
+    """The text of docs/EVENTS.md."""
+    return HEAD + by_step() + MEMORY + by_memory() + TAGS + by_tag()
+
+
+def protocol_page(text):
+    """The text of docs/PROTOCOL.md with the rows in their places, each once."""
+    placed = [event for _, events, _ in PLACE.findall(text) for event in events.split()]
+    if sorted(placed) != sorted(EVENTS):
+        raise SystemExit('states: docs/PROTOCOL.md hasn\'t a place for the rows of each event')
+    return PLACE.sub(lambda place: place[1] + listed(place[2].split()) + place[3], text)
+
+
+def judge(name, made, is_check):
+    """Writes a page as it is made of what stands there; or says where it isn't so. Gives the number of faults."""
+    path = pathlib.Path(TOP, 'docs', name)
+    there = path.read_text(encoding='utf-8')
+    text = made(there)
+    if not is_check:
+        path.write_text(text, encoding='utf-8')
+    elif text != there:
+        print(f'states: docs/{name} isn\'t what the rows give; python3 tools/law states writes it')
+        print('\n'.join(difflib.unified_diff(there.split('\n'), text.split('\n'), lineterm='', n=0)))
+        return 1
+    return 0
 
 
 def states(words):
-    """Writes the page; or, with --check, says where it isn't what would be written, and gives False."""
-    text, there = page(), ''
-    if os.path.exists(PAGE):
-        with open(PAGE, encoding='utf-8') as file:
-            there = file.read()
-    if '--check' not in words:
-        with open(PAGE, 'w', encoding='utf-8') as file:
-            file.write(text)
-    differs = '--check' in words and text != there
-    if differs:
-        print('states: docs/EVENTS.md isn\'t what the rows give; python3 tools/law states writes it')
-        print('\n'.join(difflib.unified_diff(there.split('\n'), text.split('\n'), lineterm='', n=0)))
-    print(f'states: {len(EVENTS)} events, {len(ROWS)} rows, {int(differs)} faults')
-    return not differs
+    """Writes the pages; or, with --check, says where they aren't what would be written, and gives False."""
+    faults = sum(judge(name, made, '--check' in words) for name, made in [('EVENTS.md', events_page), ('PROTOCOL.md', protocol_page)])
+    print(f'states: {len(EVENTS)} events, {len(ROWS)} rows, {faults} faults')
+    return not faults
