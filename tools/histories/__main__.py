@@ -1,5 +1,5 @@
 """histories: makes histories by chance, changes one thing in each, and compares what the built program says of them with what
-checker.py says, which was written from docs/HISTORIES.md alone. So it does with what the program's `history` prints of ten workloads
+checker.py says, which was written from docs/FORMATS.md alone. So it does with what the program's `history` prints of ten workloads
 by chance, which must be legal.
 
     python3 tools/histories [PROGRAM [SEED [COUNT]]]

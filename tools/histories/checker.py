@@ -1,4 +1,4 @@
-"""A second checker of histories, written from docs/HISTORIES.md alone."""
+"""A second checker of histories, written from docs/FORMATS.md alone."""
 
 import re
 
