@@ -25,7 +25,7 @@ compares it. A number is a row's there.
 
 ## By the pending step
 
-Where there is no number, the event isn't in turn. Look is always allowed; where it has no number it records nothing.
+Any other event isn't in turn. Look is always allowed; where it isn't named it records nothing.
 
 """
 MEMORY = """
@@ -176,11 +176,9 @@ def grid(head, rows):
 
 
 def by_step():
-    """Events and pending steps: the numbers of their rows."""
-    phases = list(STEP_FIELDS)
-    cells = lambda event: [', '.join(str(NUMBERS[row.name]) for row in ORDER if row.event == event and row.step[0] == phase)
-                           for phase in phases]
-    return grid(['event'] + phases, [[event] + cells(event) for event in EVENTS])
+    """The rows of each pending step."""
+    rows = {phase: [f'{row.event} {NUMBERS[row.name]}' for row in ORDER if row.step[0] == phase] for phase in STEP_FIELDS}
+    return grid(['in step', 'rows'], [[phase, ', '.join(rows[phase])] for phase in rows])
 
 
 def label_of(row):
