@@ -182,8 +182,8 @@ def by_step():
 
 
 def label_of(row):
-    """The row's event with its argument."""
-    return row.event + ARGUMENTS.get(row.name, '(found)' if row.event in FOUND else '')
+    """The row's number, and its event with its argument."""
+    return f'{NUMBERS[row.name]} {row.event}' + ARGUMENTS.get(row.name, '(found)' if row.event in FOUND else '')
 
 
 def slot_of(row):
@@ -199,8 +199,8 @@ def listed(events):
     rows = []
     for row in (it for event in events for it in ORDER if it.event == event):
         before, after = ('own, loaded', 'the same') if row.event == 'Look' else words_of(row)
-        rows.append([str(NUMBERS[row.name]), label_of(row), before_of(row), before, after, slot_of(row), step_of(row.after)])
-    return grid(['row', 'event', 'in step', 'finds', 'leaves', 'slot', 'step after'], rows)
+        rows.append([label_of(row), before_of(row), before, after, slot_of(row), step_of(row.after)])
+    return grid(['event', 'in step', 'finds', 'leaves', 'slot', 'step after'], rows)
 
 
 def by_memory():
