@@ -39,8 +39,8 @@ TAGS = """
 ## On a tag
 
 The same by the kind of the tag that an exchange finds, the node's own or another's (`x`); the links must be the row's too. `+` is held.
-An event that carries the tag that its node has loaded isn't in turn with a tag of another kind; with a right one it still misses where
-the tag has changed since. Whether a kind can be met there at all is a matter of the law:
+Where the cell is blank, an event that carries the tag that its node has loaded (`found`) isn't in turn, and any other misses. With a right
+tag it still misses where that has changed since. Whether a kind can be met there at all is a matter of the law:
 [what a node's own tag is in each step](PROTOCOL.md#pending-steps).
 
 """
@@ -182,8 +182,8 @@ def by_step():
 
 
 def label_of(row):
-    """The row's number, and its event with its argument."""
-    return f'{NUMBERS[row.name]} {row.event}' + ARGUMENTS.get(row.name, '(found)' if row.event in FOUND else '')
+    """The row's event with its argument."""
+    return row.event + ARGUMENTS.get(row.name, '(found)' if row.event in FOUND else '')
 
 
 def slot_of(row):
@@ -199,7 +199,7 @@ def listed(events):
     rows = []
     for row in (it for event in events for it in ORDER if it.event == event):
         before, after = ('own, loaded', 'the same') if row.event == 'Look' else words_of(row)
-        rows.append([label_of(row), before_of(row), before, after, slot_of(row), step_of(row.after)])
+        rows.append([f'{NUMBERS[row.name]} {label_of(row)}', before_of(row), before, after, slot_of(row), step_of(row.after)])
     return grid(['event', 'in step', 'finds', 'leaves', 'slot', 'step after'], rows)
 
 
@@ -222,10 +222,9 @@ def by_tag():
         if not row.words:
             continue
         node, kinds, held = kinds_of(row)
-        number, other = str(NUMBERS[row.name]), 'not in turn' if row.event in FOUND else 'misses'
-        cells = [number if kind in kinds and is_held == held else '' for kind, is_held in columns]
-        rows.append([row.event, 'own' if node == 'me' else 'x'] + cells + [other])
-    return grid(['event', 'tag'] + [kind + ('+' if held else '') for kind, held in columns] + ['another'], rows)
+        cells = [str(NUMBERS[row.name]) if kind in kinds and is_held == held else '' for kind, is_held in columns]
+        rows.append([label_of(row), 'own' if node == 'me' else 'x'] + cells)
+    return grid(['event', 'tag'] + [kind + ('+' if held else '') for kind, held in columns], rows)
 
 
 def events_page(_):
