@@ -55,8 +55,8 @@ def link(text):
 
 
 def flag(word, text):
-    """A mark of a step: there, not there, or either."""
-    return {'true': [word], 'false': [f'not {word}']}.get(text, [f'{word} or not'])
+    """A mark of a step: there, not there, or unnamed where it may be either."""
+    return {'true': [word], 'false': [f'not {word}']}.get(text, [])
 
 
 def sight(text):
@@ -89,7 +89,7 @@ def step_of(step):
 def before_of(row):
     """The pending step that a row asks for. Where its mark may be wanting, that nobody is behind does instead."""
     text = step_of(row.step)
-    return text.replace('told or not', 'told or f is -') if any(name == 'in_turn' for name, _ in row.needs) else text
+    return text.replace('Rolling', 'Rolling, told or f is -') if any(name == 'in_turn' for name, _ in row.needs) else text
 
 
 def kinds_of(row):
