@@ -25,22 +25,22 @@ compares it. A number is a row's there.
 
 ## By the pending step
 
-Any other event isn't in turn. Look is always allowed; where it isn't named it records nothing.
+An event in another step isn't in turn. Look is always allowed; where it isn't named it records nothing.
 
 """
 MEMORY = """
-## On memory's word
+## By memory's word
 
-What an event in turn comes to, by the word that it finds: the row, where that word names whom the row says; a miss where the cell is
-blank. While memory is lent every event misses but ReturnMemory, which never misses in a lawful state.
+An event in turn that finds another word on memory misses, also where the word names another node than the row's. ReturnMemory never
+misses in a lawful state.
 
 """
 TAGS = """
-## On a tag
+## By the tag
 
-The same by the kind of the tag that an exchange finds, the node's own or another's (`x`); the links must be the row's too. `+` is held.
-Where the cell is blank, an event that carries the tag that its node has loaded (`found`) isn't in turn, and any other misses. With a right
-tag it still misses where that has changed since. Whether a kind can be met there at all is a matter of the law:
+By the kind of the tag that an exchange finds, the node's own or another's; the links must be the row's too. `+` is held. With another tag
+an event that carries the tag that its node has loaded (`found`) isn't in turn, and any other misses; with a right one it still misses
+where that has changed since. Whether a kind can be met there at all is a matter of the law:
 [what a node's own tag is in each step](PROTOCOL.md#pending-steps).
 
 """
@@ -175,10 +175,14 @@ def grid(head, rows):
     return ''.join('|' + ''.join(f' {cell} |' if cell else '|' for cell in line) + '\n' for line in lines)
 
 
+def named(rows):
+    """The events of these rows, each with the row's number."""
+    return ', '.join(f'{row.event} {NUMBERS[row.name]}' for row in rows)
+
+
 def by_step():
     """The rows of each pending step."""
-    rows = {phase: [f'{row.event} {NUMBERS[row.name]}' for row in ORDER if row.step[0] == phase] for phase in STEP_FIELDS}
-    return grid(['in step', 'rows'], [[phase, ', '.join(rows[phase])] for phase in rows])
+    return grid(['in step', 'rows'], [[phase, named(row for row in ORDER if row.step[0] == phase)] for phase in STEP_FIELDS])
 
 
 def label_of(row):
@@ -205,26 +209,20 @@ def listed(events):
 
 def by_memory():
     """The rows on memory's word, by the word that is found."""
-    rows = []
-    for row in ORDER:
-        if row.memory:
-            here = states_of(row) if row.memory_before else ['lent']
-            number = str(NUMBERS[row.name])
-            rows.append([row.event, step_of(row.step)] + [number if it in here else '' for it in STATES + ['lent']])
-    return grid(['event', 'in step'] + [it.upper() for it in STATES] + ['lent'], rows)
+    finds = [(row, states_of(row) if row.memory_before else ['lent']) for row in ORDER if row.memory]
+    return grid(['finds', 'rows'], [[it.upper() if it in STATES else it, named(row for row, there in finds if it in there)]
+                                    for it in STATES + ['lent']])
 
 
 def by_tag():
     """The rows on a tag, by the kind that is found."""
-    columns = [(kind, held) for kind in KINDS for held in ([False, True] if kind in HOLDABLE else [False])]
+    finds = [(row, *kinds_of(row)) for row in ORDER if row.words]
     rows = []
-    for row in ORDER:
-        if not row.words:
-            continue
-        node, kinds, held = kinds_of(row)
-        cells = [str(NUMBERS[row.name]) if kind in kinds and is_held == held else '' for kind, is_held in columns]
-        rows.append([label_of(row), 'own' if node == 'me' else 'x'] + cells)
-    return grid(['event', 'tag'] + [kind + ('+' if held else '') for kind, held in columns], rows)
+    for kind, is_held in [(kind, held) for kind in KINDS for held in ([False, True] if kind in HOLDABLE else [False])]:
+        there = [(row, node) for row, node, kinds, held in finds if kind in kinds and held == is_held]
+        own, others = (named(row for row, node in there if (node == 'me') == is_own) for is_own in (True, False))
+        rows.append([kind + ('+' if is_held else ''), own, others])
+    return grid(['finds', 'on the own tag', 'on another\'s'], rows)
 
 
 def events_page(_):
