@@ -1,4 +1,4 @@
-//! Texts of histories, each with what is said of it, worked out by hand from docs/HISTORIES.md.
+//! Texts of histories, each with what is said of it, worked out by hand from docs/FORMATS.md.
 
 mod growths;
 
