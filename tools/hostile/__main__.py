@@ -1,0 +1,108 @@
+"""hostile: gives the built program texts by chance that were changed in a few places, and compares what it says with second readers.
+
+    python3 tools/hostile [--seed N] [--count N] [--program PATH] [NAME ..]
+
+NAME is scripts or talks; all are tried where none is named. Of each, COUNT texts are tried, 10,000. The seed is that of the commit, or 1.
+PATH is crates/sci_sim/out/sci_sim. No text may end the program by a signal, or take more than ten seconds. A text that fails is kept,
+with lines left out while it fails. The last line is `N passed, M failed`.
+"""
+import argparse
+import multiprocessing
+import os
+import pathlib
+import random
+import subprocess
+import sys
+import tempfile
+
+ROOT = pathlib.Path(__file__).resolve().parents[2]
+sys.path.insert(0, str(ROOT / "tools/hostile"))
+sys.dont_write_bytecode = True
+
+import scripts
+import talks
+from running import Program
+
+FORMATS = {"scripts": scripts, "talks": talks}
+# How many texts that fail are kept of each format, and how many a process is given at once.
+KEPT, PART = 3, 50
+
+
+def seed_of_commit():
+    """The commit's hash, or 1 where git knows none."""
+    found = subprocess.run(["git", "rev-parse", "--short=12", "HEAD"], cwd=ROOT, capture_output=True, text=True, check=False)
+    return found.stdout.strip() or "1"
+
+
+def begin(path):
+    """Gives a process its program."""
+    global program
+    program = Program(path)
+
+
+def fault(name, text):
+    """What is wrong with what the program says of a text, or nothing."""
+    return FORMATS[name].wrong(lambda *words: program.run(text, *words), text)
+
+
+def shrunk(name, text):
+    """The text with as many lines left out as still makes it fail."""
+    lines = text.splitlines(keepends=True)
+    size = len(lines) // 2
+    while size:
+        at = 0
+        while at < len(lines):
+            less = lines[:at] + lines[at + size :]
+            if fault(name, b"".join(less)):
+                lines = less
+            else:
+                at += size
+        size //= 2
+    return b"".join(lines)
+
+
+def tried(work):
+    """The texts of one part that fail, each with its number."""
+    name, seed, numbers = work
+    found = []
+    for number in numbers:
+        text = FORMATS[name].text(random.Random(f"{seed} {name} {number}"))
+        if fault(name, text):
+            found.append((number, text))
+    return found
+
+
+def keep(name, number, text):
+    """Keeps a text that fails, and says what is wrong with it."""
+    text = shrunk(name, text)
+    with tempfile.NamedTemporaryFile(prefix=f"hostile-{name}-", delete=False) as file:
+        file.write(text)
+    print(f"hostile: {name}: text {number}, kept in {file.name}: {fault(name, text)[:600]}", file=sys.stderr)
+
+
+def main():
+    given = argparse.ArgumentParser(prog="hostile")
+    given.add_argument("--seed", default=seed_of_commit())
+    given.add_argument("--count", type=int, default=10_000)
+    given.add_argument("--program", default=ROOT / "crates/sci_sim/out/sci_sim")
+    given.add_argument("names", nargs="*", metavar="NAME")
+    wanted = given.parse_args()
+    if set(wanted.names) - set(FORMATS):
+        given.error(f"the names are {' '.join(FORMATS)}")
+    path, names = os.path.realpath(wanted.program), wanted.names or list(FORMATS)
+    print(f"hostile: seed {wanted.seed}, {wanted.count} texts of {', '.join(names)}", flush=True)
+    parts = [range(at, min(at + PART, wanted.count)) for at in range(0, wanted.count, PART)]
+    begin(path)
+    failed = 0
+    with multiprocessing.Pool(os.cpu_count(), begin, (path,)) as pool:
+        for name in names:
+            found = [it for part in pool.imap(tried, [(name, wanted.seed, it) for it in parts]) for it in part]
+            failed += len(found)
+            for number, text in found[:KEPT]:
+                keep(name, number, text)
+    print(f"{len(names) * wanted.count - failed} passed, {failed} failed")
+    return failed != 0
+
+
+if __name__ == "__main__":
+    sys.exit(main())
