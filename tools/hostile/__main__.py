@@ -2,11 +2,13 @@
 
     python3 tools/hostile [--seed N] [--count N] [--program PATH] [NAME ..]
 
-NAME is scripts or talks; all are tried where none is named. Of each, COUNT texts are tried, 10,000. The seed is that of the commit, or 1.
-PATH is crates/sci_sim/out/sci_sim. No text may end the program by a signal, or take more than ten seconds. A text that fails is kept,
-with lines left out while it fails. The last line is `N passed, M failed`.
+NAME is scripts, talks, dumps, histories, logs or settings; without one all are tried. Of each so many texts are tried, 10,000. The seed
+is the commit's hash where git knows one, else 1. PATH is crates/sci_sim/out/sci_sim. No text may end the program by a signal, or take
+more than ten seconds. Of texts that fail three of each NAME are kept, with lines left out while they fail. The last line is
+`N passed, M failed`.
 """
 import argparse
+import importlib
 import multiprocessing
 import os
 import pathlib
@@ -16,14 +18,14 @@ import sys
 import tempfile
 
 ROOT = pathlib.Path(__file__).resolve().parents[2]
-sys.path.insert(0, str(ROOT / "tools/hostile"))
+sys.path[:0] = [str(ROOT / "tools" / it) for it in ("hostile", "histories", "law")]
 sys.dont_write_bytecode = True
 
-import scripts
-import talks
 from running import Program
 
-FORMATS = {"scripts": scripts, "talks": talks}
+# Python has a reader of TOML since 3.11.
+NAMES = ["scripts", "talks", "dumps", "histories", "logs", "settings"][: 6 if sys.version_info >= (3, 11) else 5]
+FORMATS = {it: importlib.import_module(it) for it in NAMES}
 # How many texts that fail are kept of each format, and how many a process is given at once.
 KEPT, PART = 3, 50
 
@@ -87,14 +89,14 @@ def main():
     given.add_argument("--program", default=ROOT / "crates/sci_sim/out/sci_sim")
     given.add_argument("names", nargs="*", metavar="NAME")
     wanted = given.parse_args()
-    if set(wanted.names) - set(FORMATS):
-        given.error(f"the names are {' '.join(FORMATS)}")
-    path, names = os.path.realpath(wanted.program), wanted.names or list(FORMATS)
+    if set(wanted.names) - set(NAMES):
+        given.error(f"the names are {' '.join(NAMES)}")
+    path, names = os.path.realpath(wanted.program), wanted.names or NAMES
     print(f"hostile: seed {wanted.seed}, {wanted.count} texts of {', '.join(names)}", flush=True)
     parts = [range(at, min(at + PART, wanted.count)) for at in range(0, wanted.count, PART)]
     begin(path)
     failed = 0
-    with multiprocessing.Pool(os.cpu_count(), begin, (path,)) as pool:
+    with multiprocessing.Pool(len(os.sched_getaffinity(0)), begin, (path,)) as pool:
         for name in names:
             found = [it for part in pool.imap(tried, [(name, wanted.seed, it) for it in parts]) for it in part]
             failed += len(found)

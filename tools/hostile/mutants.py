@@ -1,11 +1,20 @@
 """Texts with a few changes by chance."""
+import pathlib
 
+EXAMPLES = pathlib.Path(__file__).resolve().parents[2] / "examples"
 MOST = 2**64 - 1
+# How many bytes a text may have, but for talks, histories and logs.
+LIMIT = 1_048_576
 BYTES = b"\0\t\n\r #-+.x09\x7f\x80\xc3\xff"
 NUMBERS = [0, 1, 2, 7, 8, 9, 63, 64, 65, 255, 256, 1023, 1024, 1025, 65535, 65536, 2**32, 2**63 - 1, 2**63, MOST, MOST + 1]
 # What is a number to some readers, or nearly one.
 SPELLINGS = [b"%d" % it for it in NUMBERS] + [b"00", b"007", b"1" * 20, b"9" * 20, b"1" * 21, b"%020d" % 1, b"%021d" % 1, b"9" * 400]
 SPELLINGS += [b"+1", b"-1", b"-0", b"0x1", b"1_0", b"1.0", b"1e0", b"x", "１".encode(), b"", b'""', b"none", b"NaN"]
+
+
+def known(*patterns):
+    """The texts of examples/ with such names."""
+    return [it.read_bytes() for pattern in patterns for it in sorted(EXAMPLES.glob(pattern))]
 
 
 def some(by, sequence):
@@ -73,3 +82,8 @@ def mutant(by, text):
     for _ in range(by.choice((0, 1, 1, 1, 1, 2, 2, 3, 4))):
         text = by.choice((of_byte, of_word, of_word, of_line, of_blanks))(by, text)
     return text
+
+
+def refused(rest):
+    """The status and both outputs of a refusal."""
+    return 1, b"", f"scisim: refused {rest}\n".encode()

@@ -1,16 +1,13 @@
 """Scripts: a second reader, written from docs/SCRIPTS.md and docs/REFUSALS.md, and what a run may be refused."""
-import pathlib
 import re
 from collections import namedtuple
 
-from mutants import MOST, mutant
+from mutants import LIMIT, MOST, known, mutant
 
-EXAMPLES = pathlib.Path(__file__).resolve().parents[2] / "examples"
-KNOWN = [it.read_bytes() for it in sorted([*EXAMPLES.glob("*.txt"), *EXAMPLES.glob("*.race")])]
-LIMIT = 1_048_576
+KNOWN = known("*.txt", "*.race")
 STATES = "50"
 # Of how many nodes times lines a race is searched: each state has a word of each.
-SEARCHED = 4096
+SEARCHED = 128
 TOO_MANY = f"scisim: too many states\nturns lead to more than {STATES} states\n".encode()
 
 Fault = namedtuple("Fault", "number line why")

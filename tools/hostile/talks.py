@@ -1,7 +1,8 @@
 """Talks: each line is answered by itself."""
 import re
 
-from scripts import BEGINS, LIMIT, Fault, Place, is_skipped, lines_of, open_fault, text  # noqa: F401
+from mutants import LIMIT
+from scripts import BEGINS, Fault, Place, is_skipped, lines_of, open_fault, text  # noqa: F401
 
 ENDS = re.compile(rb"node \d+ (read|wrote|out|refused) ?")
 

@@ -1,0 +1,87 @@
+"""Settings: a second reader, over the standard library's of TOML, written from docs/SETTINGS.md."""
+import tomllib
+
+from chance import settings
+from dumps import verdict
+from mutants import LIMIT, known, mutant, refused
+
+KNOWN = known("*.toml")
+INTEGER = 2**63 - 1
+NODES, CAPACITY, MANY = (1, 64), (1, 1024), (0, 1_000_000)
+# Of each work the range of each number, and how many numbers its array has.
+WORKS = {
+    "stencil": ({"nodes": NODES, "capacity": CAPACITY, "phases": MANY}, {"cells": range(7, 3585, 7)}),
+    "ring": ({"lines": (1, 1023), "capacity": CAPACITY}, {"items": range(100_001)}),
+    "count": ({"nodes": NODES, "adds": MANY, "capacity": CAPACITY}, {}),
+}
+# How many nodes, and how many values of all phases, items or additions a workload has that is run.
+FEW, SMALL = 8, 3000
+
+
+def is_integer(value, low, high):
+    """Whether a value of TOML is an integer in this range."""
+    return type(value) is int and low <= value <= high
+
+
+def read(text):
+    """The settings, or None."""
+    try:
+        found = tomllib.loads(text.decode().removeprefix("\ufeff"))
+    except (UnicodeDecodeError, tomllib.TOMLDecodeError, RecursionError):
+        return None
+    work = found.get("work")
+    numbers, arrays = WORKS.get(work, ({}, {})) if isinstance(work, str) else ({}, {})
+    is_right = (
+        numbers
+        and set(found) | {"dump"} == {"work", "dump", *numbers, *arrays}
+        and type(found.get("dump", False)) is bool
+        and all(is_integer(found[it], *between) for it, between in numbers.items())
+        and all(isinstance(found[it], list) and len(found[it]) in counts for it, counts in arrays.items())
+        and all(is_integer(value, 0, INTEGER) for it in arrays for value in found[it])
+    )
+    return found if is_right else None
+
+
+def result(found):
+    """What the workload gives, without a dump."""
+    match found["work"]:
+        case "count":
+            return f"count {found['nodes'] * found['adds']}\n"
+        case "ring":
+            return f"items{''.join(f' {it}' for it in found['items'])}\n"
+    cells = found["cells"]
+    for _ in range(found["phases"]):
+        cells = [sum(it) % 2**64 for it in zip([0, *cells], cells, [*cells[1:], 0])]
+    return f"cells{''.join(f' {it}' for it in cells)}\n"
+
+
+def is_small(found):
+    """Whether the workload is run here."""
+    size = {"count": found.get("nodes", 1) * found.get("adds", 0), "ring": len(found.get("items", []))}
+    return found.get("nodes", 1) <= FEW and size.get(found["work"], len(found.get("cells", [])) * found.get("phases", 0)) <= SMALL
+
+
+def text(by):
+    """A mutant of settings."""
+    if by.random() < 0.01:
+        opening, closing = by.choice(((b"[", b"]"), (b"{a=", b"}"), (b"a.", b"=1"), (b"'", b"'")))
+        count = by.choice((2, 200, 100_000))
+        return b"cells = " + opening * count + closing * by.choice((0, count))
+    it = by.choice(KNOWN) if by.random() < 0.1 else settings(by)[0].encode()
+    return mutant(by, it + by.choice((b"", b"dump = true\n", b"dump = false\n")))
+
+
+def wrong(run, text):
+    """What is wrong with what `run` says of a text, or nothing; of a large workload nothing is asked."""
+    found = read(text)
+    if found and len(text) <= LIMIT and not is_small(found):
+        return ""
+    status, out, error = told = run("run")
+    if len(text) > LIMIT or not found:
+        wanted = refused("23" if len(text) > LIMIT else "22")
+        return "" if told == wanted else f"{told}, and not {wanted}"
+    wanted = result(found)
+    dump = out.decode().removeprefix(wanted)
+    is_dumped = str(verdict(dump)).endswith("lawful\n") if found.get("dump") else not dump
+    is_right = (status, error) == (0, b"") and out.decode().startswith(wanted) and is_dumped
+    return "" if is_right else f"{told}, and not {wanted}"
