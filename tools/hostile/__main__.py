@@ -16,6 +16,7 @@ import random
 import subprocess
 import sys
 import tempfile
+import time
 
 ROOT = pathlib.Path(__file__).resolve().parents[2]
 sys.path[:0] = [str(ROOT / "tools" / it) for it in ("hostile", "histories", "law")]
@@ -26,8 +27,8 @@ from running import Program
 # Python has a reader of TOML since 3.11.
 NAMES = ["scripts", "talks", "dumps", "histories", "logs", "settings"][: 6 if sys.version_info >= (3, 11) else 5]
 FORMATS = {it: importlib.import_module(it) for it in NAMES}
-# How many texts that fail are kept of each format, and how many a process is given at once.
-KEPT, PART = 3, 50
+# How many texts that fail are kept of each format, how many seconds each is made smaller, and how many texts a process is given at once.
+KEPT, SHRINKING, PART = 3, 20, 50
 
 
 def seed_of_commit():
@@ -48,12 +49,12 @@ def fault(name, text):
 
 
 def shrunk(name, text):
-    """The text with as many lines left out as still makes it fail."""
-    lines = text.splitlines(keepends=True)
+    """The text with lines left out while it still fails, as long as there is time."""
+    lines, end = text.splitlines(keepends=True), time.monotonic() + SHRINKING
     size = len(lines) // 2
     while size:
         at = 0
-        while at < len(lines):
+        while at < len(lines) and time.monotonic() < end:
             less = lines[:at] + lines[at + size :]
             if fault(name, b"".join(less)):
                 lines = less

@@ -133,13 +133,13 @@ def verdict(text):
 
 
 def words_by(by, nodes):
-    """A memory word and the tags of a sharing list by chance, now and then with one thing changed."""
+    """A memory word and the tags of a sharing list by chance, now and then with one or two things changed."""
     chain, state = by.sample(range(nodes), by.randrange(min(nodes, 5) + 1)), by.choice((1, 2))
     links = [None, *chain, None]
     words = [Word(state if chain else 0, False, links[1 % len(links)], 0)]
     words += [Word(VALID if at else state + 1, False, links[at + 2], links[at]) for at in range(len(chain))]
-    if by.random() < 0.3:
-        at, link = by.randrange(len(words)), by.choice((None, by.randrange(nodes + 1)))
+    for _ in range(by.choice((0, 0, 0, 0, 1, 1, 2))):
+        at, link = by.choice((0, -1, by.randrange(len(words)))), by.choice((None, by.randrange(nodes + 1)))
         field, value = by.choice((("kind", by.randrange(11)), ("held", True), ("forw", link), ("back", link)))
         words[at] = words[at]._replace(**{field: value})
     return words[0], sorted(zip(chain, words[1:]))
