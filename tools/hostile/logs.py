@@ -87,11 +87,11 @@ def event(by, nodes):
     name, node = by.choice(EVENTS), by.randrange(nodes + 1)
     kind, forw, back = by.choice((0, 2, 3, 7, 17, 19)), by.choice((65535, 0, 1)), by.choice((65535, 0))
     code = f"{kind | forw << 16 | back << 32:016x}"
-    tag, words = by.choice((by.choice(NAMES), code)), 8 * f" {by.choice((0, 5, MOST))}"
+    tag, words = by.choice((by.choice(NAMES), code)), 8 * f" {by.choice((0, 5, MOST, MOST + 1))}"
     head, new = by.choice(("none", node, MOST + 1)), by.choice(("none", f"words{words}"))
     arguments = {"Queue": head, "Requeue": head, "Written": new} | dict.fromkeys(ON_OWN, tag) | dict.fromkeys(ON_OTHER, f"{node} {tag}")
     argument = f"({arguments[name]})" if name in arguments else ""
-    return f"{name}{argument} {by.choice(('Done', 'Done', f'Done {MOST}{words}', f'Missed {code}', 'Busy'))}"
+    return f"{name}{argument} {by.choice(('Done', 'Done', f'Done {by.choice((MOST, MOST + 1))}{words}', f'Missed {code}', 'Busy'))}"
 
 
 def log(by):

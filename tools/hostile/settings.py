@@ -1,9 +1,10 @@
 """Settings: a second reader, over the standard library's of TOML, written from docs/SETTINGS.md."""
+import re
 import tomllib
 
 from chance import settings
 from dumps import verdict
-from mutants import LIMIT, known, mutant, refused
+from mutants import LIMIT, SPELLINGS, known, mutant, refused
 
 KNOWN = known("*.toml")
 INTEGER = 2**63 - 1
@@ -14,8 +15,8 @@ WORKS = {
     "ring": ({"lines": (1, 1023), "capacity": CAPACITY}, {"items": range(100_001)}),
     "count": ({"nodes": NODES, "adds": MANY, "capacity": CAPACITY}, {}),
 }
-# How many nodes, and how many values of all phases, items or additions a workload has that is run.
-FEW, SMALL = 8, 3000
+# How many values of all phases, items or additions a workload has that is run.
+SMALL = 3000
 
 
 def is_integer(value, low, high):
@@ -57,18 +58,29 @@ def result(found):
 
 def is_small(found):
     """Whether the workload is run here."""
-    size = {"count": found.get("nodes", 1) * found.get("adds", 0), "ring": len(found.get("items", []))}
-    return found.get("nodes", 1) <= FEW and size.get(found["work"], len(found.get("cells", [])) * found.get("phases", 0)) <= SMALL
+    match found["work"]:
+        case "count":
+            return found["nodes"] * found["adds"] <= SMALL
+        case "ring":
+            return len(found["items"]) <= SMALL
+    return len(found["cells"]) * found["phases"] <= SMALL
+
+
+def with_number(by, text):
+    """The text with another number."""
+    place = by.choice(list(re.finditer(by.choice((rb"(?<== )\d+", rb"\d+")), text)))
+    return text[: place.start()] + by.choice(SPELLINGS) + text[place.end() :]
 
 
 def text(by):
-    """A mutant of settings."""
+    """Settings with another number, or a mutant of settings."""
     if by.random() < 0.01:
         opening, closing = by.choice(((b"[", b"]"), (b"{a=", b"}"), (b"a.", b"=1"), (b"'", b"'")))
         count = by.choice((2, 200, 100_000))
         return b"cells = " + opening * count + closing * by.choice((0, count))
     it = by.choice(KNOWN) if by.random() < 0.1 else settings(by)[0].encode()
-    return mutant(by, it + by.choice((b"", b"dump = true\n", b"dump = false\n")))
+    it = by.choice((b"", b"", b"\xef\xbb\xbf")) + it + by.choice((b"", b"dump = true\n", b"dump = false\n"))
+    return with_number(by, it) if by.random() < 0.3 else mutant(by, it)
 
 
 def wrong(run, text):
