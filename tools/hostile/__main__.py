@@ -2,7 +2,7 @@
 
     python3 tools/hostile [--seed N] [--count N] [--program PATH] [NAME ..]
 
-NAME is scripts, talks, dumps, histories, logs or settings; without one all are tried. Of each so many texts are tried, 10,000. The seed
+NAME is scripts, dumps, histories, logs or settings; without one all are tried. Of each so many texts are tried, 10,000. The seed
 is the commit's hash where git knows one, else 1. PATH is crates/sci_sim/out/sci_sim. No text may end the program by a signal, or take
 more than ten seconds. Of texts that fail three of each NAME are kept, with lines left out while they fail. The last line is
 `N passed, M failed`.
@@ -13,6 +13,7 @@ import multiprocessing
 import os
 import pathlib
 import random
+import shutil
 import subprocess
 import sys
 import tempfile
@@ -25,7 +26,7 @@ sys.dont_write_bytecode = True
 from running import Program
 
 # Python has a reader of TOML since 3.11.
-NAMES = ["scripts", "talks", "dumps", "histories", "logs", "settings"][: 6 if sys.version_info >= (3, 11) else 5]
+NAMES = ["scripts", "dumps", "histories", "logs", "settings"][: 5 if sys.version_info >= (3, 11) else 4]
 FORMATS = {it: importlib.import_module(it) for it in NAMES}
 # How many texts that fail are kept of each format, how many seconds each is made smaller, and how many texts a process is given at once.
 KEPT, SHRINKING, PART = 3, 20, 50
@@ -33,8 +34,9 @@ KEPT, SHRINKING, PART = 3, 20, 50
 
 def seed_of_commit():
     """The commit's hash, or 1 where git knows none."""
-    found = subprocess.run(["git", "rev-parse", "--short=12", "HEAD"], cwd=ROOT, capture_output=True, text=True, check=False)
-    return found.stdout.strip() or "1"
+    command = ["git", "rev-parse", "--short=12", "HEAD"]
+    found = shutil.which("git") and subprocess.run(command, cwd=ROOT, capture_output=True, text=True, check=False).stdout
+    return found.strip() if found else "1"
 
 
 def begin(path):

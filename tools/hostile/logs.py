@@ -1,11 +1,11 @@
 """Logs: a second reader, written from docs/LOGS.md. Of a line that reads well it doesn't say whether the table has it so."""
 import re
 
-from dumps import is_tag, word_of
 from checker import NUMBER
+from dumps import is_tag, word_of
 from mutants import MOST, known, mutant, refused
+from reader import is_skipped, lines_of
 from rows import EVENTS
-from scripts import is_skipped, lines_of
 
 KNOWN = known("clients/*.log")
 ON_OWN = ["Hold", "Convert", "BeginPurge", "Roll", "Leave"]
