@@ -6,7 +6,7 @@ MOST = 2**64 - 1
 # How many bytes a text may have, but for talks, histories and logs.
 LIMIT = 1_048_576
 BYTES = b"\0\t\n\r #-+.x09\x7f\x80\xc3\xff"
-NUMBERS = [0, 1, 2, 7, 8, 9, 63, 64, 65, 255, 256, 1023, 1024, 1025, 65535, 65536, 2**32, 2**63 - 1, 2**63, MOST, MOST + 1]
+NUMBERS = [*range(10), 63, 64, 65, 255, 256, 1023, 1024, 1025, 65535, 65536, 2**32, 2**63 - 1, 2**63, MOST, MOST + 1]
 # What is a number to some readers, or nearly one.
 SPELLINGS = [b"%d" % it for it in NUMBERS] + [b"00", b"007", b"1" * 20, b"9" * 20, b"1" * 21, b"%020d" % 1, b"%021d" % 1, b"9" * 400]
 SPELLINGS += [b"+1", b"-1", b"-0", b"0x1", b"1_0", b"1.0", b"1e0", b"x", "１".encode(), b"", b'""', b"none", b"true"]

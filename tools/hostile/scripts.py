@@ -34,7 +34,8 @@ def script(by):
 def text(by):
     """A mutant of a script."""
     if by.random() < 0.001:
-        return script(by).ljust(LIMIT + by.randrange(2))
+        at_limit = script(by).ljust(LIMIT + by.randrange(2))
+        return by.choice((at_limit, script(by) + b" " * (LIMIT + by.randrange(2)) + by.choice((b"", b"\n", b"\r\n"))))
     return mutant(by, by.choice(KNOWN) if by.random() < 0.4 else script(by))
 
 
