@@ -3,7 +3,8 @@ import re
 from collections import namedtuple
 
 from checker import NUMBER
-from mutants import LIMIT, MOST, known, mutant, refused
+from mutants import MOST, known, mutant
+from running import LIMIT, refused
 
 KNOWN = known("*.dump")
 HEAD = re.compile(rf"scidump ([12]) {NUMBER} {NUMBER}")

@@ -1,7 +1,8 @@
 """Histories, and what tools/histories says of them."""
 from chance import change, line_of, text_of
 from checker import verdict
-from mutants import known, mutant, refused
+from mutants import known, mutant
+from running import refused
 
 KNOWN = known("*.history", "*.kept")
 

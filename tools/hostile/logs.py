@@ -3,9 +3,10 @@ import re
 
 from checker import NUMBER
 from dumps import is_tag, word_of
-from mutants import MOST, known, mutant, refused
+from mutants import MOST, known, mutant
 from reader import is_skipped, lines_of
 from rows import EVENTS
+from running import refused
 
 KNOWN = known("clients/*.log")
 ON_OWN = ["Hold", "Convert", "BeginPurge", "Roll", "Leave"]

@@ -3,8 +3,6 @@ import pathlib
 
 EXAMPLES = pathlib.Path(__file__).resolve().parents[2] / "examples"
 MOST = 2**64 - 1
-# How many bytes a text may have, but for talks, histories and logs.
-LIMIT = 1_048_576
 BYTES = b"\0\t\n\r #-+.x09\x7f\x80\xc3\xff"
 NUMBERS = [*range(10), 63, 64, 65, 255, 256, 1023, 1024, 1025, 65535, 65536, 2**32, 2**63 - 1, 2**63, MOST, MOST + 1]
 # What is a number to some readers, or nearly one.
@@ -52,7 +50,7 @@ def of_line(by, text):
     at, other = some(by, lines), some(by, lines)
     kind = by.randrange(6)
     line = lines[at] if kind == 1 else lines.pop(at)
-    more = [line, line, b"#" + by.randbytes(9).replace(b"\n", b""), by.choice((b"", b" ", b"\t ", b"\r")), line * by.choice((2, 300)), line]
+    more = [line, line, b"#" + by.randbytes(9).replace(b"\n", b""), by.choice((b"", b" ", b"\t ", b"\r", b" # 1")), line * by.choice((2, 300)), line]
     if kind:
         lines.insert(other, more[kind])
     if kind in (2, 3):
@@ -82,8 +80,3 @@ def mutant(by, text):
     for _ in range(by.choice((0, 1, 1, 1, 1, 2, 2, 3, 4))):
         text = by.choice((of_byte, of_word, of_word, of_line, of_blanks))(by, text)
     return text
-
-
-def refused(rest):
-    """The status and both outputs of a refusal."""
-    return 1, b"", f"scisim: refused {rest}\n".encode()

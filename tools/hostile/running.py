@@ -1,10 +1,15 @@
-"""Runs a program on a text, within a limit of time."""
+"""Runs a program on a text, within a limit of time; and what it says where it refuses one."""
 import os
 import signal
 import tempfile
 
-# How many seconds a text may take.
-LIMIT = 10
+# How many bytes a text may have, but for talks, histories and logs, and how many seconds it may take.
+LIMIT, SECONDS = 1_048_576, 10
+
+
+def refused(rest):
+    """The status and both outputs of a refusal."""
+    return 1, b"", f"scisim: refused {rest}\n".encode()
 
 
 class Program:
@@ -26,7 +31,7 @@ class Program:
         os.pwrite(given, text, 0)
         actions = [(os.POSIX_SPAWN_DUP2, stream, number) for number, stream in enumerate(self.streams)]
         self.begun = os.posix_spawn(self.path, [self.path, *words], os.environ, file_actions=actions)
-        signal.alarm(LIMIT)
+        signal.alarm(SECONDS)
         status = os.waitpid(self.begun, 0)[1]
         signal.alarm(0)
         return os.waitstatus_to_exitcode(status), *(os.pread(it, os.fstat(it).st_size, 0) for it in written)

@@ -1,6 +1,7 @@
 """Scripts by chance, and what the commands over scripts say of them."""
-from mutants import LIMIT, MOST, known, mutant
+from mutants import MOST, known, mutant
 from reader import read
+from running import LIMIT
 from talks import heard
 
 KNOWN = known("*.txt", "*.race")

@@ -3,7 +3,8 @@ import re
 import tomllib
 
 from chance import settings
-from mutants import LIMIT, SPELLINGS, known, mutant, refused
+from mutants import SPELLINGS, known, mutant
+from running import LIMIT, refused
 
 KNOWN = known("*.toml")
 INTEGER = 2**63 - 1

@@ -1,8 +1,8 @@
 """Talks: each line is answered by itself, which tells whether a turn has ended its call."""
 import re
 
-from mutants import LIMIT
 from reader import Fault, Place, is_skipped, lines_of
+from running import LIMIT
 
 BEGINS = (b"load", b"store", b"add", b"evict")
 ANSWER = re.compile(rb"((?:(?!ok\n|refused ).*\n)*)(ok|refused \d+)\n")
