@@ -28,34 +28,30 @@ def of_byte(by, text):
     return text[:at] + by.choice((flipped, new, b"", here * 2, here + new)) + text[at + 1 :]
 
 
-def of_word(by, text):
-    """One word a number, gone, twice, or that of another place; or two exchanged."""
-    lines = text.split(b"\n")
-    row = some(by, lines)
-    words = lines[row].split(b" ")
-    at, other = some(by, words), some(by, words)
-    kind = by.randrange(6)
-    if kind == 0:
-        words[at], words[other] = words[other], words[at]
+def changed(by, parts, others):
+    """The parts with one gone, twice, or another in its place; or with two exchanged."""
+    at, there, other = some(by, parts), some(by, parts), by.choice(others)
+    if by.random() < 0.2:
+        parts[at], parts[there] = parts[there], parts[at]
     else:
-        elsewhere = by.choice(by.choice(lines).split(b" "))
-        words[at : at + 1] = [[by.choice(SPELLINGS)], [by.choice(SPELLINGS)], [elsewhere], [], [words[at]] * 2][kind - 1]
-    lines[row] = b" ".join(words)
+        parts[at : at + 1] = by.choice(([], 2 * parts[at : at + 1], [other], [other], [parts[at], other]))
+    return parts
+
+
+def of_word(by, text):
+    """One word another, a number, or that of another place."""
+    lines = text.split(b"\n")
+    at = some(by, lines)
+    others = by.choice(SPELLINGS), by.choice(by.choice(lines).split(b" "))
+    lines[at] = b" ".join(changed(by, lines[at].split(b" "), others))
     return b"\n".join(lines)
 
 
 def of_line(by, text):
-    """One line gone, twice, elsewhere, or long; or one more, of a comment or blanks."""
+    """One line another, long, a comment, or blanks."""
     lines = text.split(b"\n")
-    at, other = some(by, lines), some(by, lines)
-    kind = by.randrange(6)
-    line = lines[at] if kind == 1 else lines.pop(at)
-    more = [line, line, b"#" + by.randbytes(9).replace(b"\n", b""), by.choice((b"", b" ", b"\t ", b"\r", b" # 1")), line * by.choice((2, 300)), line]
-    if kind:
-        lines.insert(other, more[kind])
-    if kind in (2, 3):
-        lines.insert(at, line)
-    return b"\n".join(lines)
+    long = by.choice(lines) * by.choice((2, 300))
+    return b"\n".join(changed(by, lines, (long, b"#" + by.randbytes(9), b" # 1", b"", b" ", b"\t ", b"\r")))
 
 
 def of_blanks(by, text):
