@@ -4,8 +4,8 @@
 
 NAME is scripts, dumps, histories, logs or settings; without one all are tried. Of each so many texts are tried, 10,000. The seed
 is the commit's hash where git knows one, else 1. PATH is crates/sci_sim/out/sci_sim. No text may end the program by a signal, or take
-more than ten seconds. Of texts that fail three of each NAME are kept, with lines left out while they fail. The last line is
-`N passed, M failed`.
+more than ten seconds. Of texts that fail three of each NAME are kept, with lines left out while they fail; behind some that fail no
+more are tried. The last line is `N passed, M failed`.
 """
 import argparse
 import importlib
@@ -28,8 +28,9 @@ from running import Program
 # Python has a reader of TOML since 3.11.
 NAMES = ["scripts", "dumps", "histories", "logs", "settings"][: 5 if sys.version_info >= (3, 11) else 4]
 FORMATS = {it: importlib.import_module(it) for it in NAMES}
-# How many texts that fail are kept of each format, how many seconds each is made smaller, and how many texts a process is given at once.
-KEPT, SHRINKING, PART = 3, 20, 50
+# How many texts a process is given at once, behind how many that fail no more of a format are tried, how many of these are kept, and how
+# many seconds each is made smaller.
+PART, ENOUGH, KEPT, SHRINKING = 10, 20, 3, 20
 
 
 def seed_of_commit():
@@ -67,14 +68,26 @@ def shrunk(name, text):
 
 
 def tried(work):
-    """The texts of one part that fail, each with its number."""
+    """How many texts of one part pass, and those that fail, each with its number."""
     name, seed, numbers = work
     found = []
     for number in numbers:
         text = FORMATS[name].text(random.Random(f"{seed} {name} {number}"))
         if fault(name, text):
             found.append((number, text))
-    return found
+    return len(numbers) - len(found), found
+
+
+def tried_all(name, wanted, path):
+    """The same of all texts of a format, as long as few fail."""
+    parts = [(name, wanted.seed, range(at, min(at + PART, wanted.count))) for at in range(0, wanted.count, PART)]
+    passed, found = 0, []
+    with multiprocessing.Pool(len(os.sched_getaffinity(0)), begin, (path,)) as pool:
+        for right, wrong in pool.imap(tried, parts):
+            passed, found = passed + right, found + wrong
+            if len(found) >= ENOUGH:
+                break
+    return passed, found
 
 
 def keep(name, number, text):
@@ -96,16 +109,14 @@ def main():
         given.error(f"the names are {' '.join(NAMES)}")
     path, names = os.path.realpath(wanted.program), wanted.names or NAMES
     print(f"hostile: seed {wanted.seed}, {wanted.count} texts of {', '.join(names)}", flush=True)
-    parts = [range(at, min(at + PART, wanted.count)) for at in range(0, wanted.count, PART)]
     begin(path)
-    failed = 0
-    with multiprocessing.Pool(len(os.sched_getaffinity(0)), begin, (path,)) as pool:
-        for name in names:
-            found = [it for part in pool.imap(tried, [(name, wanted.seed, it) for it in parts]) for it in part]
-            failed += len(found)
-            for number, text in found[:KEPT]:
-                keep(name, number, text)
-    print(f"{len(names) * wanted.count - failed} passed, {failed} failed")
+    passed, failed = 0, 0
+    for name in names:
+        right, found = tried_all(name, wanted, path)
+        passed, failed = passed + right, failed + len(found)
+        for number, text in found[:KEPT]:
+            keep(name, number, text)
+    print(f"{passed} passed, {failed} failed")
     return failed != 0
 
 
