@@ -62,7 +62,7 @@ def opened_fault(lines, row):
 
 
 def read(text):
-    """The number and the line of the first refusal, or None; and in which lines an event is noted."""
+    """The number and the line of the first refusal, or None; and in which lines an event is noted. No log goes on behind a line Busy."""
     size, noted = None, []
     rows = lines_of(text)
     for number, row in enumerate(rows, 1):
@@ -78,9 +78,9 @@ def read(text):
         else:
             fault = noted_fault(*size, row)
             noted += [number] * (fault is None)
-        if fault:
+        if fault or row.endswith(" Busy"):
             return (fault, number), noted
-    return (None if size else (16, len(rows) + 1)), noted
+    return ((None, None) if size else (16, len(rows) + 1)), noted
 
 
 def event(by, nodes):
@@ -115,9 +115,10 @@ def text(by):
 
 def wrong(run, text):
     """What is wrong with what `follow` says of a text, or nothing. A line may depart from the table in front of the first fault."""
-    fault, noted = read(text)
+    (number, line), noted = read(text)
     told = run("follow")
-    wanted = refused(f"{fault[0]} at line {fault[1]}") if fault else (0, b"follows\n", b"")
+    follows = (0, b"follows\n", b"") if line is None else "a line that departs"
+    wanted = refused(f"{number} at line {line}") if number else follows
     departs = re.fullmatch(rb"line (\d+): (.*)\n", told[1])
     is_departed = told[::2] == (3, b"") and departs and int(departs[1]) in noted and departs[2] in WHYS
     if told == wanted or is_departed and text not in KNOWN:

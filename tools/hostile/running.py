@@ -30,7 +30,7 @@ class Program:
             os.lseek(stream, 0, os.SEEK_SET)
         os.pwrite(given, text, 0)
         actions = [(os.POSIX_SPAWN_DUP2, stream, number) for number, stream in enumerate(self.streams)]
-        self.begun = os.posix_spawn(self.path, [self.path, *words], os.environ, file_actions=actions)
+        self.begun = os.posix_spawn(self.path, [self.path, *words], {}, file_actions=actions)
         signal.alarm(SECONDS)
         status = os.waitpid(self.begun, 0)[1]
         signal.alarm(0)
