@@ -1,4 +1,4 @@
-"""The commands of scripts: a second reader, written from docs/SCRIPTS.md and docs/REFUSALS.md."""
+"""The commands of scripts: a second reader, written from docs/SCRIPTS.md and docs/REFUSALS.md, with the texts of sci_script's `Reason`."""
 import re
 from collections import namedtuple
 
