@@ -2,7 +2,7 @@
 
 import re
 
-NUMBER = "(0|[1-9][0-9]*)"
+NUMBER = "(0|[1-9][0-9]{0,19})"
 NINE = f"((?: {NUMBER}){{9}})"
 HEAD = re.compile(rf"scihistory 1 {NUMBER} {NUMBER}")
 ROW = re.compile(rf"(line|closed|read|passed) {NUMBER}{NINE}")
@@ -12,8 +12,8 @@ WRITE = re.compile(rf"(wrote) {NUMBER}{NINE} over((?: {NUMBER}){{8}})")
 def row_of(text):
     """The label, the number, the stamp, the words, and of a write the words before; or None."""
     row = WRITE.fullmatch(text) or ROW.fullmatch(text)
-    values = [int(it) for it in re.findall(" ([0-9]+)", text)]
-    if not row or max(values) >= 2**64:
+    values = [int(it) for it in re.findall(" ([0-9]+)", text)] if row else [2**64]
+    if max(values) >= 2**64:
         return None
     return row[1], values[0], values[1], values[2:10], values[10:]
 
