@@ -1,9 +1,8 @@
 //! What races come to. The numbers of states and of outcomes were counted on another model of the protocol.
 mod growths;
 
-use sci_endings::search_outcomes;
 use sci_outcomes::{SearchRefusal, Unwatched};
-use sci_races::{Report, outcomes_text, race_after};
+use sci_races::{Report, outcomes_text, race_after, search_outcomes};
 use sci_script::read_script;
 use std::alloc::Global;
 use std::process::Abort;

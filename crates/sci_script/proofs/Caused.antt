@@ -1,5 +1,5 @@
 -- Why a command was refused is a reason of that refusal.
-use Rattle.std.proofs.Common.{◌≡◌, ◌∙◌, ℕ, zero, suc, ◌<◌, ◌&&◌, nat_lt, Bool, true, false, true≢false, List, Option, Some, None, Result, Ok, Err, is_some, if◌then◌else◌, refl, sym, ap, subst, arith}
+use Rattle.std.proofs.Common.{◌≡◌, ◌∙◌, ℕ, zero, suc, ◌<◌, ◌&&◌, nat_lt, Bool, true, false, true≢false, List, Option, Some, None, Result, Ok, Err, is_some, if◌then◌else◌, refl, sym, ap, subst, ⊎_elim, arith}
 use Rattle.std.proofs.lemmas.Bool.Decides.{nat_tests}
 use Rattle.sci_core.proofs.Answered.{update_same}
 use Rattle.sci_ops.specs.declared.answers.Turn.{Turn}
@@ -15,18 +15,17 @@ use Rattle.sci_script.specs.declared.reasons.Reason.{Reason}
 use Rattle.sci_script.specs.declared.reasons.Reason.TheVariants.{CallOpen, NoCall}
 use Rattle.sci_script.specs.declared.refusals.ScriptRefusal.{ScriptRefusal}
 use Rattle.sci_script.specs.declared.refusals.ScriptRefusal.TheVariants.{OutOfMemory, BadCommand, BadNumber, NotDone, WriteFailed}
-use Rattle.sci_script.specs.Causes.{refused_for, IsRefusedFor, IsReasonOf, HasReason}
+use Rattle.sci_script.specs.Causes.{refused_for, IsRefusedFor, HasReason}
 use Rattle.sci_script.specs.Event.{Turned, IsNoEnd}
 use Rattle.sci_script.specs.Reasons.{IsWhy, IsUnendedBy, wait_reason, unbegun_reason}
 use Rattle.sci_script.specs.Run.{Unended, StopsAt}
 use Rattle.sci_script.specs.ScriptText.{Opens}
 use Rattle.sci_script.specs.Shared.{Shared, TakesTurnOf, shared_is_open, shared_does}
 use Rattle.sci_script.specs.Size.{is_request, IsIn}
-use Rattle.sci_script.specs.Talks.{said_step, FailsFirst}
-
--- a text that is refused has a reason of that refusal
-pub refused_has : {X : Type 0} (read : Result X ScriptRefusal) (e : ScriptRefusal) (why : Option Reason) → IsReasonOf read why → read ≡ Err e → IsRefusedFor e why
-refused_has {X} read e why h is = subst (λ (r : Result X ScriptRefusal). IsReasonOf r why) is h
+use Rattle.sci_script.specs.Talks.{Standing, Declines, FailsFirst, Refuses, place_of, said_step}
+use Rattle.sci_script.specs.declared.said.Read.{Read}
+use Rattle.sci_script.specs.Format.{Sayings}
+use Rattle.sci_script.specs.Grammar.{line_read}
 
 -- a turn that doesn't end the call leaves it open
 open_after : (c : OpenCall) (victim : Option ℕ) (turn : Turn) → IsNoEnd (shown_by victim turn) → is_some (call_after c victim turn) ≡ true
@@ -151,6 +150,11 @@ first_by size capacity openings (ListLine line) e s end inside o h some = refl
 first_by size capacity openings (ShowTag line node) e s end inside o h some = refl
 first_by size capacity openings (Residents node) e s end inside o h some = refl
 
-pub first_fits : (size : Size) (capacity : ℕ) (openings : List Opening) (command : Command) (e : ScriptRefusal) → IsIn size command → FailsFirst size capacity openings command e → (e ≡ OutOfMemory → ⊥)
-    → HasReason command e (unbegun_reason command)
-first_fits size capacity openings command e inside (s, end, o, h) some = first_by size capacity openings command e s end inside o h some
+pub first_fits : (said : Sayings) (command : Command) (e : ScriptRefusal) → IsIn said.place.size command → FailsFirst said command e → (e ≡ OutOfMemory → ⊥) → HasReason command e (unbegun_reason command)
+first_fits said command e inside (s, end, o, h) some = first_by said.place.size said.capacity said.openings command e s end inside o h some
+
+-- and of a line that isn't taken
+pub line_fits : (s t : Standing) (line : List ℕ) (reason : Reason) (e : ScriptRefusal) → line_read (place_of s) line ≡ Err reason → Refuses s line e t → (e ≡ OutOfMemory → ⊥) → IsRefusedFor e (Some reason)
+line_fits s t line reason e is (kept, h) some =
+    let (refused, same) = subst (λ (r : Result Read Reason). Declines s r e t) is h in
+    (1, reason, refl, ⊎_elim (λ out. absurd (some out)) (λ is_for. is_for) refused)

@@ -1,206 +1,216 @@
--- A script that was read has a size, and its commands are of what there is.
-use Rattle.std.proofs.Common.{◌≡◌, ◌<◌, ◌≤◌, ◌-◌, ◌&&◌, ℕ, Bool, true, false, nat_le, nat_lt, List, [], ◌∷◌, Option, Some, None, Result, Ok, Err, codes, if◌then◌else◌, refl, subst, arith}
-use Rattle.std.proofs.lemmas.Bool.{eq-eqb}
+-- What is read of a line is of what there is, and so is a script that was read.
+use Rattle.std.proofs.Common.{◌≡◌, ◌<◌, ◌≤◌, ◌+◌, ◌-◌, ◌^◌, ◌&&◌, ℕ, Bool, true, false, not, nat_lt, ◌==◌, List, [], ◌∷◌, ◌++◌, length, Option, Some, None, Result, Ok, Err, if◌then◌else◌, refl, sym, subst, ap, ◌∙◌, arith}
+use Rattle.std.proofs.lemmas.Bool.{and_from, eq-eqb, eqb-true}
 use Rattle.std.proofs.lemmas.Bool.Decides.{nat_tests}
+use Rattle.std.proofs.lemmas.List.Folds.{list_all-append}
 use Rattle.std.specs.List.{list_all}
-use Rattle.std.specs.Str.{bytes_eq}
 use Rattle.std.specs.Str.Lines.{lines}
-use Rattle.sci_core.specs.declared.whole.TheConstants.{MOST_NODES}
+use Rattle.sci_core.specs.declared.lines.Line.{Line}
 use Rattle.sci_script.specs.declared.commands.Command.{Command}
 use Rattle.sci_script.specs.declared.commands.Command.TheVariants.{Begin, Turn, Done, Rest, End, List as ListLine, Tag as ShowTag, Residents}
 use Rattle.sci_script.specs.declared.commands.Opening.{Opening}
 use Rattle.sci_script.specs.declared.commands.Request.TheVariants.{Load, Store, Add, Evict}
 use Rattle.sci_script.specs.declared.commands.Size.{Size}
 use Rattle.sci_script.specs.declared.commands.Step.{Step}
-use Rattle.sci_script.specs.declared.refusals.ScriptRefusal.{ScriptRefusal}
-use Rattle.sci_script.specs.declared.refusals.ScriptRefusal.TheVariants.{BadCommand, BadNumber}
-use Rattle.sci_script.specs.Format.{◌>>=◌, within, node_at, line_at, value_at, words_at, size_at, place_at, change_at, load_at, store_at, add_at, evict_at, turn_at, done_at, rest_at, end_at, list_at, tag_at, residents_at, other_at, command_at, openings_of, capacity_of, entries_from, steps_of, sized_script, meaning_of, script_of}
-use Rattle.sci_script.specs.Size.{AreIn, IsIn, IsSize, is_in}
-use Rattle.sci_script.specs.Words.{number_of}
-use Rattle.sci_script.proofs.Arguments.{below, begin_fits}
+use Rattle.sci_script.specs.declared.places.Place.{Place}
+use Rattle.sci_script.specs.declared.places.Stand.TheVariants as stands
+use Rattle.sci_script.specs.declared.reasons.Reason.{Reason}
+use Rattle.sci_script.specs.declared.reasons.Reason.TheVariants.{BadByte}
+use Rattle.sci_script.specs.declared.said.Read.{Read}
+use Rattle.sci_script.specs.declared.said.Read.TheVariants as reads
+use Rattle.sci_script.specs.declared.verbs.Verb.{Verb}
+use Rattle.sci_script.specs.declared.verbs.Verb.TheVariants as verbs
+use Rattle.sci_script.specs.Format.{Sayings, entries_from, script_of, unsaid, with_lines, with_read}
+use Rattle.sci_script.specs.Grammar.{AreFrom, arguments_of, is_in_time, line_read, named_read, number_reason, numbers_of, said_by, unless, verb_of, verb_read, words_read}
+use Rattle.sci_script.specs.Size.{AreIn, IsIn, IsReadIn, IsSize, is_in, is_request}
+use Rattle.sci_script.specs.Words.{is_plain, words_of}
+use Rattle.sci_script.proofs.Ranges.{numbers_in}
+use Rattle.sci_script.proofs.Reading.{first_read, no_lines, said_of}
 
--- what is read, if anything, is so
-abbrev pub Reads : {A : Type 0} → (A → Type 0) → Result A ScriptRefusal → Type 0
-Reads {A} P r = (x : A) → r ≡ Ok x → P x
-
-reads_ok : {A : Type 0} (P : A → Type 0) (a : A) → P a → Reads P (Ok a)
-reads_ok P a h x e = let q : a ≡ x = cc in subst P q h
-
-reads_err : {A : Type 0} (P : A → Type 0) (r : ScriptRefusal) → Reads P (Err r)
-reads_err P r x e = absurd (cc)
-
-pub reads_then : {A B : Type 0} (Q : A → Type 0) (P : B → Type 0) (r : Result A ScriptRefusal) (f : A → Result B ScriptRefusal) → Reads Q r → ((a : A) → Q a → Reads P (f a)) → Reads P (r >>= f)
-reads_then Q P (Ok a) f h k = k a (h a refl)
-reads_then Q P (Err e) f h k = reads_err P e
-
-any_read : {A : Type 0} (r : Result A ScriptRefusal) → Reads (λ (a : A). Unit {0}) r
-any_read r x e = tt
-
-reads_if : {A : Type 0} (P : A → Type 0) (b : Bool) (r p : Result A ScriptRefusal) → Reads P r → Reads P p → Reads P (if b then r else p)
-reads_if P true r p h k = h
-reads_if P false r p h k = k
-
--- a number is from low to high
-abbrev IsFrom : ℕ → ℕ → ℕ → Type 0
-IsFrom low high v = (low ≤ v) × (v ≤ high)
-
-in_range : (n low high v : ℕ) (b : Bool) → (nat_le low v && nat_le v high) ≡ b → Reads (IsFrom low high) (if b then Ok v else Err (BadNumber n))
-in_range n low high v true e = reads_ok (IsFrom low high) v (grind (arith, nat_tests, e), grind (arith, nat_tests, e))
-in_range n low high v false e = reads_err (IsFrom low high) (BadNumber n)
-
-reads_within : (n low high : ℕ) (o : Option ℕ) → Reads (IsFrom low high) (within n low high o)
-reads_within n low high None = reads_err (IsFrom low high) (BadNumber n)
-reads_within n low high (Some v) = in_range n low high v (nat_le low v && nat_le v high) refl
-
-pub reads_size : (n : ℕ) (words : List (List ℕ)) → Reads (λ size. IsSize size) (size_at n words)
-unfolding size_at
-reads_size n (name ∷ nodes ∷ lines ∷ []) = reads_if (λ size. IsSize size) (bytes_eq name (codes "memory")) _ _
-    (reads_then (IsFrom 1 MOST_NODES) (λ size. IsSize size) (within n 1 MOST_NODES (number_of nodes)) _ (reads_within n 1 MOST_NODES (number_of nodes))
-    (λ a f. reads_then (IsFrom 1 1024) (λ size. IsSize size) (within n 1 1024 (number_of lines)) _ (reads_within n 1 1024 (number_of lines))
-    (λ b g. reads_ok (λ size. IsSize size) _ (record { some_nodes = f.0; few_nodes = f.1; some_lines = g.0; few_lines = g.1 }))))
-    (reads_err (λ size. IsSize size) (BadCommand n))
-reads_size n _ = λ x e. absurd (cc)
-
-module _ (n : ℕ) (size : Size) (few : IsSize size) where
-  Of : Command → Type 0
-  Of command = IsIn size command
-
-  reads_node : (word : List ℕ) → Reads (λ v. v < size.nodes) (node_at n size word)
-  reads_node word x e = let f = reads_within n 0 (size.nodes - 1) (number_of word) x e in let some = few.some_nodes in omega (arith, f.1, some)
-
-  reads_line : (word : List ℕ) → Reads (λ v. v < size.lines) (line_at n size word)
-  reads_line word x e = let f = reads_within n 0 (size.lines - 1) (number_of word) x e in let some = few.some_lines in omega (arith, f.1, some)
-
-  reads_word : (word : List ℕ) → Reads (λ v. nat_lt v 8 ≡ true) (within n 0 7 (number_of word))
-  reads_word word x e = let f = reads_within n 0 7 (number_of word) x e in below x 8 (omega (arith, f.1))
-
-  abbrev IsPlace : ℕ × ℕ → Type 0
-  IsPlace p = (p.0 < size.nodes) × (p.1 < size.lines)
-
-  reads_place : (node line : List ℕ) → Reads IsPlace (place_at n size node line)
-  unfolding place_at
-  reads_place node line = reads_then (λ v. v < size.nodes) IsPlace (node_at n size node) _ (reads_node node)
-      (λ a f. reads_then (λ v. v < size.lines) IsPlace (line_at n size line) _ (reads_line line) (λ b g. reads_ok IsPlace (a, b) (f, g)))
-
-  abbrev IsChange : ℕ × ℕ → Type 0
-  IsChange c = nat_lt c.0 8 ≡ true
-
-  reads_change : (word value : List ℕ) → Reads IsChange (change_at n word value)
-  unfolding change_at
-  reads_change word value = reads_then (λ v. nat_lt v 8 ≡ true) IsChange (within n 0 7 (number_of word)) _ (reads_word word)
-      (λ a f. reads_then (λ v. Unit {0}) IsChange (value_at n value) _ (any_read (value_at n value)) (λ b g. reads_ok IsChange (a, b) f))
-
-  reads_load : (words : List (List ℕ)) → Reads Of (load_at n size words)
-  unfolding load_at Of
-  reads_load (node ∷ line ∷ word ∷ []) = reads_then IsPlace Of (place_at n size node line) _ (reads_place node line)
-      (λ p f. reads_then (λ v. nat_lt v 8 ≡ true) Of (within n 0 7 (number_of word)) _ (reads_word word) (λ w g. reads_ok Of (Begin p.0 p.1 (Load w)) (begin_fits size p.0 p.1 (Load w) f.0 f.1 g)))
-  reads_load _ = λ x e. absurd (cc)
-
-  reads_store : (words : List (List ℕ)) → Reads Of (store_at n size words)
-  unfolding store_at Of
-  reads_store (node ∷ line ∷ word ∷ value ∷ []) = reads_then IsPlace Of (place_at n size node line) _ (reads_place node line)
-      (λ p f. reads_then IsChange Of (change_at n word value) _ (reads_change word value) (λ c g. reads_ok Of (Begin p.0 p.1 (Store c.0 c.1)) (begin_fits size p.0 p.1 (Store c.0 c.1) f.0 f.1 g)))
-  reads_store _ = λ x e. absurd (cc)
-
-  reads_add : (words : List (List ℕ)) → Reads Of (add_at n size words)
-  unfolding add_at Of
-  reads_add (node ∷ line ∷ word ∷ delta ∷ []) = reads_then IsPlace Of (place_at n size node line) _ (reads_place node line)
-      (λ p f. reads_then IsChange Of (change_at n word delta) _ (reads_change word delta) (λ c g. reads_ok Of (Begin p.0 p.1 (Add c.0 c.1)) (begin_fits size p.0 p.1 (Add c.0 c.1) f.0 f.1 g)))
-  reads_add _ = λ x e. absurd (cc)
-
-  reads_evict : (words : List (List ℕ)) → Reads Of (evict_at n size words)
-  unfolding evict_at Of
-  reads_evict (node ∷ line ∷ []) = reads_then IsPlace Of (place_at n size node line) _ (reads_place node line) (λ p f. reads_ok Of (Begin p.0 p.1 Evict) (begin_fits size p.0 p.1 Evict f.0 f.1 refl))
-  reads_evict _ = λ x e. absurd (cc)
-
-  reads_turn : (words : List (List ℕ)) → Reads Of (turn_at n size words)
-  unfolding turn_at Of
-  reads_turn (node ∷ []) = reads_then (λ v. v < size.nodes) Of (node_at n size node) _ (reads_node node) (λ a f. reads_ok Of (Turn a) (below a size.nodes f))
-  reads_turn _ = λ x e. absurd (cc)
-
-  reads_done : (words : List (List ℕ)) → Reads Of (done_at n size words)
-  unfolding done_at Of
-  reads_done (node ∷ []) = reads_then (λ v. v < size.nodes) Of (node_at n size node) _ (reads_node node) (λ a f. reads_ok Of (Done a) (below a size.nodes f))
-  reads_done _ = λ x e. absurd (cc)
-
-  reads_rest : (words : List (List ℕ)) → Reads Of (rest_at n size words)
-  unfolding rest_at Of
-  reads_rest [] = reads_ok Of (Rest size.lines) (eq-eqb size.lines size.lines refl)
-  reads_rest _ = λ x e. absurd (cc)
-
-  reads_end : (words : List (List ℕ)) → Reads Of (end_at n size words)
-  unfolding end_at Of
-  reads_end [] = reads_ok Of (End size.nodes size.lines) (rw (eq-eqb size.nodes size.nodes refl) (eq-eqb size.lines size.lines refl))
-  reads_end _ = λ x e. absurd (cc)
-
-  reads_list : (words : List (List ℕ)) → Reads Of (list_at n size words)
-  unfolding list_at Of
-  reads_list (line ∷ []) = reads_then (λ v. v < size.lines) Of (line_at n size line) _ (reads_line line) (λ a f. reads_ok Of (ListLine a) (below a size.lines f))
-  reads_list _ = λ x e. absurd (cc)
-
-  reads_tag : (words : List (List ℕ)) → Reads Of (tag_at n size words)
-  unfolding tag_at Of
-  reads_tag (line ∷ node ∷ []) = reads_then (λ v. v < size.lines) Of (line_at n size line) _ (reads_line line)
-      (λ a f. reads_then (λ v. v < size.nodes) Of (node_at n size node) _ (reads_node node) (λ b g. reads_ok Of (ShowTag a b) (rw (below a size.lines f) (below b size.nodes g))))
-  reads_tag _ = λ x e. absurd (cc)
-
-  reads_residents : (words : List (List ℕ)) → Reads Of (residents_at n size words)
-  unfolding residents_at Of
-  reads_residents (node ∷ []) = reads_then (λ v. v < size.nodes) Of (node_at n size node) _ (reads_node node) (λ a f. reads_ok Of (Residents a) (below a size.nodes f))
-  reads_residents _ = λ x e. absurd (cc)
-
-  reads_other : (name : List ℕ) (args : List (List ℕ)) → Reads Of (other_at n size name args)
-  unfolding other_at
-  reads_other name args = reads_if Of (bytes_eq name (codes "turn")) _ _ (reads_turn args)
-      (reads_if Of (bytes_eq name (codes "done")) _ _ (reads_done args)
-      (reads_if Of (bytes_eq name (codes "rest")) _ _ (reads_rest args)
-      (reads_if Of (bytes_eq name (codes "end")) _ _ (reads_end args)
-      (reads_if Of (bytes_eq name (codes "list")) _ _ (reads_list args)
-      (reads_if Of (bytes_eq name (codes "tag")) _ _ (reads_tag args)
-      (reads_if Of (bytes_eq name (codes "residents")) _ _ (reads_residents args) (reads_err Of (BadCommand n))))))))
-
-  -- a command is of what there is
-  reads_of : (words : List (List ℕ)) → Reads Of (command_at n size words)
-  unfolding command_at
-  reads_of [] = reads_err Of (BadCommand n)
-  reads_of (name ∷ args) = reads_if Of (bytes_eq name (codes "load")) _ _ (reads_load args)
-      (reads_if Of (bytes_eq name (codes "store")) _ _ (reads_store args)
-      (reads_if Of (bytes_eq name (codes "add")) _ _ (reads_add args)
-      (reads_if Of (bytes_eq name (codes "evict")) _ _ (reads_evict args) (reads_other name args))))
-
-  pub reads_command : (words : List (List ℕ)) (command : Command) → command_at n size words ≡ Ok command → IsIn size command
-  unfolding Of
-  reads_command words command e = reads_of words command e
+pub below : (a b : ℕ) → a < b → nat_lt a b ≡ true
+below a b h = grind (arith, nat_tests, h)
 
 pub both_true : (a b : Bool) → a ≡ true → b ≡ true → a && b ≡ true
 both_true true b h k = k
 both_true false b h k = h
 
-reads_steps : (size : Size) (few : IsSize size) (entries : List (ℕ × List ℕ)) → Reads (AreIn size) (steps_of size entries)
-unfolding steps_of
-reads_steps size few [] = reads_ok (AreIn size) [] refl
-reads_steps size few (entry ∷ entries) = reads_then (λ words. Unit {0}) (AreIn size) (words_at entry.0 entry.1) _ (any_read (words_at entry.0 entry.1))
-    (λ words u. reads_then (λ command. IsIn size command) (AreIn size) (command_at entry.0 size words) _ (reads_command entry.0 size few words)
-    (λ command f. reads_then (AreIn size) (AreIn size) (steps_of size entries) _ (reads_steps size few entries)
-    (λ steps g. reads_ok (AreIn size) _ (both_true (is_in size command) (list_all (λ step. is_in size step.command) steps) f g))))
+-- a line's content is of 64 bits
+abbrev pub AreSmall : List ℕ → Type 0
+AreSmall [] = Unit {0}
+AreSmall (value ∷ values) = (value < 2 ^ 64) × AreSmall values
 
--- a script's size, and its commands of that size
-abbrev pub IsInRange : Size × ℕ × List Opening × List Step → Type 0
-IsInRange script = IsSize script.0 × AreIn script.0 script.3
+abbrev pub IsSmall : Line → Type 0
+IsSmall content = (content.stamp < 2 ^ 64) × (length content.words ≡ 8) × AreSmall content.words
 
-reads_sized : (size : Size) (few : IsSize size) (entries : List (ℕ × List ℕ)) → Reads IsInRange (sized_script size entries)
-unfolding sized_script
-reads_sized size few entries = reads_then (λ bound. Unit {0}) IsInRange (capacity_of entries) _ (any_read (capacity_of entries))
-    (λ bound u. reads_then (λ front. Unit {0}) IsInRange (openings_of size bound.1) _ (any_read (openings_of size bound.1))
-    (λ front v. reads_then (AreIn size) IsInRange (steps_of size front.1) _ (reads_steps size few front.1)
-    (λ steps f. reads_ok IsInRange (size, bound.0, front.0, steps) (few, f))))
+-- a value that is stored is
+abbrev pub StoresSmall : Command → Type 0
+StoresSmall (Begin node line (Store word value)) = value < 2 ^ 64
+StoresSmall command = Unit {0}
 
-reads_meaning : (end : ℕ) (entries : List (ℕ × List ℕ)) → Reads IsInRange (meaning_of end entries)
-unfolding meaning_of
-reads_meaning end [] = reads_err IsInRange (BadCommand end)
-reads_meaning end (first ∷ entries) = reads_then (λ words. Unit {0}) IsInRange (words_at first.0 first.1) _ (any_read (words_at first.0 first.1))
-    (λ words u. reads_then (λ size. IsSize size) IsInRange (size_at first.0 words) _ (reads_size first.0 words) (λ size few. reads_sized size few entries))
+-- what a line says is of what there is, and of 64 bits
+abbrev pub IsRanged : Size → Read → Type 0
+IsRanged size (reads.Open opening) = (opening.line < size.lines) × IsSmall opening.content
+IsRanged size (reads.Command command) = IsIn size command × StoresSmall command
+IsRanged size read = IsReadIn size read
+
+pub ranged_in : (size : Size) (read : Read) → IsRanged size read → IsReadIn size read
+ranged_in size (reads.Memory said) h = h
+ranged_in size (reads.Capacity capacity) h = h
+ranged_in size (reads.Open opening) h = tt
+ranged_in size (reads.Command command) h = h.0
+
+module _ (size : Size) (few : IsSize size) where
+  low : (a b : ℕ) → 1 ≤ b → a ≤ b - 1 → a < b
+  low a b some le = omega (arith, some, le)
+
+  in_nodes : (a : ℕ) → a ≤ size.nodes - 1 → nat_lt a size.nodes ≡ true
+  in_nodes a le = below a size.nodes (low a size.nodes few.some_nodes le)
+
+  in_lines : (a : ℕ) → a ≤ size.lines - 1 → nat_lt a size.lines ≡ true
+  in_lines a le = below a size.lines (low a size.lines few.some_lines le)
+
+  begins : (a b : ℕ) (c : Bool) → a ≤ size.nodes - 1 → b ≤ size.lines - 1 → c ≡ true → (nat_lt a size.nodes && (nat_lt b size.lines && c)) ≡ true
+  begins a b c node line word = both_true _ _ (in_nodes a node) (both_true _ _ (in_lines b line) word)
+
+  in_word : (a : ℕ) → a ≤ 7 → nat_lt a 8 ≡ true
+  in_word a le = below a 8 (omega (arith, le))
+
+  in_bits : (a : ℕ) → a ≤ 2 ^ 64 - 1 → a < 2 ^ 64
+  in_bits a le = omega (arith, le)
+
+  pub said_ranged : (verb : Verb) (ns : List ℕ) → AreFrom size 0 (arguments_of verb) ns → IsRanged size (said_by size verb ns)
+  said_ranged verbs.Memory ns f = record { some_nodes = f.0; few_nodes = f.1; some_lines = f.2.0; few_lines = f.2.1 }
+  said_ranged verbs.Capacity ns f = (f.0, f.1)
+  said_ranged verbs.Open ns f = (low _ size.lines few.some_lines f.1, (in_bits _ f.2.1, refl, (in_bits _ f.2.2.1, (in_bits _ f.2.2.2.1, (in_bits _ f.2.2.2.2.1, (in_bits _ f.2.2.2.2.2.1, (in_bits _ f.2.2.2.2.2.2.1, (in_bits _ f.2.2.2.2.2.2.2.1, (in_bits _ f.2.2.2.2.2.2.2.2.1, (in_bits _ f.2.2.2.2.2.2.2.2.2.1, tt))))))))))
+  said_ranged verbs.Load ns f = (begins _ _ _ f.1 f.2.1 (in_word _ f.2.2.1), tt)
+  said_ranged verbs.Store ns f = (begins _ _ _ f.1 f.2.1 (in_word _ f.2.2.1), in_bits _ f.2.2.2.1)
+  said_ranged verbs.Add ns f = (begins _ _ _ f.1 f.2.1 (in_word _ f.2.2.1), tt)
+  said_ranged verbs.Evict ns f = (begins _ _ _ f.1 f.2.1 refl, tt)
+  said_ranged verbs.Turn ns f = (in_nodes _ f.1, tt)
+  said_ranged verbs.Done ns f = (in_nodes _ f.1, tt)
+  said_ranged verbs.Rest ns f = (eq-eqb size.lines size.lines refl, tt)
+  said_ranged verbs.End ns f = (both_true _ _ (eq-eqb size.nodes size.nodes refl) (eq-eqb size.lines size.lines refl), tt)
+  said_ranged verbs.List ns f = (in_lines _ f.1, tt)
+  said_ranged verbs.Tag ns f = (both_true _ _ (in_lines _ f.1) (in_nodes _ f.2.1), tt)
+  said_ranged verbs.Residents ns f = (in_nodes _ f.1, tt)
+
+-- a command that is taken stands in time, has its words, and says what its numbers say
+taken_by : (early long : Bool) (why : Option Reason) (said read : Read) (a b : Reason) → (if not early then Err a else (if long then unless why said else Err b)) ≡ Ok read
+    → (early ≡ true) × (long ≡ true) × (why ≡ None) × (said ≡ read)
+taken_by true true None said read a b e = (refl, refl, refl, cc)
+taken_by true true (Some reason) said read a b e = absurd (cc)
+taken_by true false why said read a b e = absurd (cc)
+taken_by false long why said read a b e = absurd (cc)
+
+verb_taken : (place : Place) (verb : Verb) (args : List (List ℕ)) (read : Read) → verb_read place verb args ≡ Ok read
+    → (is_in_time verb place.stand ≡ true) × ((length (arguments_of verb) == length args) ≡ true) × (number_reason 2 place.size (arguments_of verb) args ≡ None)
+    × (said_by place.size verb (numbers_of args) ≡ read)
+unfolding verb_read
+verb_taken place verb args read e = taken_by (is_in_time verb place.stand) (length (arguments_of verb) == length args) (number_reason 2 place.size (arguments_of verb) args) (said_by place.size verb (numbers_of args)) read _ _ e
+
+named_ranged : (place : Place) → IsSize place.size → (verb : Option Verb) (args : List (List ℕ)) (read : Read) → named_read place verb args ≡ Ok read → IsRanged place.size read
+named_ranged place few None args read e = absurd (cc)
+named_ranged place few (Some verb) args read e =
+    let (early, long, none, is) = verb_taken place verb args read e in
+    subst (IsRanged place.size) is (said_ranged place.size few verb (numbers_of args) (numbers_in 2 place.size (arguments_of verb) args (eqb-true _ _ long) none))
+
+pub words_ranged : (place : Place) → IsSize place.size → (words : List (List ℕ)) (read : Read) → words_read place words ≡ Ok read → IsRanged place.size read
+words_ranged place few [] read e = absurd (cc)
+words_ranged place few (name ∷ args) read e = named_ranged place few (verb_of name) args read e
+
+plain_ok : {X : Type 0} (b : Bool) (r : Result X Reason) (bad : Reason) (x : X) → (if b then r else Err bad) ≡ Ok x → r ≡ Ok x
+plain_ok true r bad x e = e
+plain_ok false r bad x e = absurd (cc)
+
+pub line_ranged : (place : Place) → IsSize place.size → (line : List ℕ) (read : Read) → line_read place line ≡ Ok read → IsRanged place.size read
+line_ranged place few line read e = words_ranged place few (words_of line) read (plain_ok (list_all is_plain line) (words_read place (words_of line)) BadByte read e)
+
+pub line_in : (place : Place) → IsSize place.size → (line : List ℕ) (read : Read) → line_read place line ≡ Ok read → IsReadIn place.size read
+line_in place few line read e = ranged_in place.size read (line_ranged place few line read e)
+
+-- behind a command a line says a command
+abbrev pub IsCommand : Read → Type 0
+IsCommand read = (command : Command) × (read ≡ reads.Command command)
+
+late_said : (size : Size) (verb : Verb) (ns : List ℕ) → is_in_time verb stands.Commands ≡ true → IsCommand (said_by size verb ns)
+late_said size verbs.Memory ns e = absurd (cc)
+late_said size verbs.Capacity ns e = absurd (cc)
+late_said size verbs.Open ns e = absurd (cc)
+late_said size verbs.Load ns e = (_, refl)
+late_said size verbs.Store ns e = (_, refl)
+late_said size verbs.Add ns e = (_, refl)
+late_said size verbs.Evict ns e = (_, refl)
+late_said size verbs.Turn ns e = (_, refl)
+late_said size verbs.Done ns e = (_, refl)
+late_said size verbs.Rest ns e = (_, refl)
+late_said size verbs.End ns e = (_, refl)
+late_said size verbs.List ns e = (_, refl)
+late_said size verbs.Tag ns e = (_, refl)
+late_said size verbs.Residents ns e = (_, refl)
+
+abbrev pub behind_commands : Size → Place
+behind_commands size = record { stand = stands.Commands; size = size }
+
+late_words : (size : Size) (words : List (List ℕ)) (read : Read) → words_read (behind_commands size) words ≡ Ok read → IsCommand read
+late_words size [] read e = absurd (cc)
+late_words size (name ∷ args) read e = by_name (verb_of name) e
+  where
+    by_name : (verb : Option Verb) → named_read (behind_commands size) verb args ≡ Ok read → IsCommand read
+    by_name None e = absurd (cc)
+    by_name (Some verb) e =
+        let (early, long, none, is) = verb_taken (behind_commands size) verb args read e in
+        subst IsCommand is (late_said size verb (numbers_of args) early)
+
+pub late_line : (size : Size) (line : List ℕ) (read : Read) → line_read (behind_commands size) line ≡ Ok read → IsCommand read
+late_line size line read e = late_words size (words_of line) read (plain_ok (list_all is_plain line) (words_read (behind_commands size) (words_of line)) BadByte read e)
+
+-- openings of lines that there are, with values of 64 bits
+abbrev pub AreOpenable : Size → List Opening → Type 0
+AreOpenable size [] = Unit {0}
+AreOpenable size (opening ∷ more) = (opening.line < size.lines) × IsSmall opening.content × AreOpenable size more
+
+abbrev pub StoreSmall : List Step → Type 0
+StoreSmall [] = Unit {0}
+StoreSmall (step ∷ more) = StoresSmall step.command × StoreSmall more
+
+openable_more : (size : Size) (front : List Opening) (opening : Opening) → AreOpenable size front → (opening.line < size.lines) × IsSmall opening.content → AreOpenable size (front ++ opening ∷ [])
+openable_more size [] opening are is = (is.0, is.1, tt)
+openable_more size (first ∷ front) opening are is = (are.0, are.1, openable_more size front opening are.2 is)
+
+store_more : (front : List Step) (step : Step) → StoreSmall front → StoresSmall step.command → StoreSmall (front ++ step ∷ [])
+store_more [] step are is = (is, tt)
+store_more (first ∷ front) step are is = (are.0, store_more front step are.1 is)
+
+pub steps_more : (size : Size) (front : List Step) (step : Step) → AreIn size front → IsIn size step.command → AreIn size (front ++ step ∷ [])
+steps_more size front step are is = rw (list_all-append, are, is) refl
+
+-- what was said so far is of what there is
+abbrev pub AreRanged : Sayings → Type 0
+AreRanged s = IsSize s.place.size × AreOpenable s.place.size s.openings × AreIn s.place.size s.steps × StoreSmall s.steps
+
+read_ranged : (s : Sayings) (n : ℕ) (read : Read) → AreRanged s → IsRanged s.place.size read → AreRanged (with_read s n read)
+read_ranged s n (reads.Memory size) are is = (is, tt, refl, tt)
+read_ranged s n (reads.Capacity capacity) are is = are
+read_ranged s n (reads.Open opening) are is = (are.0, openable_more s.place.size s.openings opening are.1 is, are.2, are.3)
+read_ranged s n (reads.Command command) are is =
+    (are.0, are.1, steps_more s.place.size s.steps (record { number = n; command = command }) are.2 is.0, store_more s.steps (record { number = n; command = command }) are.3 is.1)
+
+lines_ranged : (s : Sayings) (entries : List (ℕ × List ℕ)) (f : Sayings) → AreRanged s → with_lines s entries ≡ Ok f → AreRanged f
+lines_ranged s [] f are e = subst AreRanged (no_lines s f e) are
+lines_ranged s (entry ∷ entries) f are e =
+    let (read, is, more) = first_read s entry entries f e in
+    lines_ranged (with_read s entry.0 read) entries f (read_ranged s entry.0 read are (line_ranged s.place are.0 entry.1 read is)) more
+
+-- what was read
+abbrev pub IsRead : Size × ℕ × List Opening × List Step → Type 0
+IsRead script = IsSize script.0 × AreOpenable script.0 script.2 × AreIn script.0 script.3 × StoreSmall script.3
+
+pub one_node : IsSize (record { nodes = 1; lines = 1 })
+one_node = record { some_nodes = omega arith; few_nodes = omega arith; some_lines = omega arith; few_lines = omega arith }
+
+pub script_read : (input : List ℕ) (script : Size × ℕ × List Opening × List Step) → script_of input ≡ Ok script → IsRead script
+script_read input script e =
+    let (f, all, is) = said_of input script e in subst IsRead is (lines_ranged unsaid (entries_from 1 (lines input)) f (one_node, tt, refl, tt) all)
 
 pub reads_script : (input : List ℕ) (script : Size × ℕ × List Opening × List Step) → script_of input ≡ Ok script → IsSize script.0 × AreIn script.0 script.3
-unfolding script_of
-reads_script input script e = reads_meaning _ (entries_from 1 (lines input)) script e
+reads_script input script e = let r = script_read input script e in (r.0, r.2)

@@ -2,6 +2,8 @@ pub mod Digits
 pub mod Lines
 pub mod Splitting
 pub mod Reading
+pub mod Ranges
+pub mod Refusing
 pub mod Runs
 pub mod Content
 pub mod Opened
@@ -23,17 +25,11 @@ pub mod Through
 pub mod BankDesks
 pub mod Unheard
 pub mod Dealt
-pub mod Arguments
 pub mod Fitting
 pub mod Stuck
-pub mod Renumbered
 pub mod Saying
 pub mod Hearing
-pub mod Explaining
-pub mod Agreeing
-pub mod Agreed
 pub mod Caused
-pub mod CausedWords
 pub mod Spoken
 pub mod Printing
 pub mod Awaiting

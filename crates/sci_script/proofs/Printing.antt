@@ -3,16 +3,14 @@ use Rattle.std.proofs.Common.{◌≡◌, ℕ, zero, suc, Bool, true, false, List
 use Rattle.sci_words.specs.declared.memory.Mem.{Mem}
 use Rattle.sci_words.specs.declared.tags.Tag.{Tag}
 use Rattle.sci_ops.specs.declared.answers.Turn.{Turn as Outcome}
-use Rattle.sci_script.specs.declared.commands.Size.{Size}
-use Rattle.sci_script.specs.declared.commands.Opening.{Opening}
 use Rattle.sci_script.specs.declared.commands.Command.{Command}
 use Rattle.sci_script.specs.declared.commands.Command.TheVariants.{Begin, Turn, Done, Rest, End, List as ListLine, Tag as ShowTag, Residents}
-use Rattle.sci_script.specs.declared.talk.Said.{Said}
-use Rattle.sci_script.specs.declared.talk.Said.TheVariants.{Bound, Opened, Commanded}
+use Rattle.sci_script.specs.declared.said.Read.{Read}
+use Rattle.sci_script.specs.declared.said.Read.TheVariants as reads
 use Rattle.sci_script.specs.Request.{no_words}
 use Rattle.sci_script.specs.Run.{EndsOpen, EndsOpenBy, Prints}
 use Rattle.sci_script.specs.Shared.{Shared, shared_is_open, shared_does}
-use Rattle.sci_script.specs.Talks.{Standing, Silent, Gathering, Going, Accepts, AcceptsBy, Gathers, Takes}
+use Rattle.sci_script.specs.Talks.{Standing, Gathering, Going, Accepts, AcceptsBy, Takes}
 use Rattle.sci_script.specs.Text.{turn_text, list_line, tag_line, residents_line}
 use Rattle.sci_script.specs.Words.{is_skipped}
 
@@ -48,15 +46,15 @@ of_printed P is shown s (ListLine line) text t k = subst P (sym k.5) (is.list li
 of_printed P is shown s (ShowTag line node) text t k = subst P (sym k.2) (is.tag line node k.0)
 of_printed P is shown s (Residents node) text t k = subst P (sym k.2) (is.residents node k.0)
 
-of_gathered : (P : List ℕ → Type 0) → IsOfTexts P → (size : Size) (capacity : ℕ) (openings : List Opening) (said : Said) (text : List ℕ) (t : Standing) → Gathers size capacity openings said text t → P text
-of_gathered P is size capacity openings (Bound bound) text t k = of_nothing P is text k.0
-of_gathered P is size capacity openings (Opened opening) text t k = of_nothing P is text k.0
-of_gathered P is size capacity openings (Commanded command) text t k = of_printed P is no_words k.0 command text k.1 k.3
-
-of_taken : (P : List ℕ → Type 0) → IsOfTexts P → (s : Standing) (words : List (List ℕ)) (text : List ℕ) (t : Standing) → Takes s words text t → P text
-of_taken P is Silent words text t k = of_nothing P is text k.2
-of_taken P is (Gathering bare size capacity openings) words text t k = of_gathered P is size capacity openings k.0 text t k.2
-of_taken P is (Going size shown s) words text t k = of_printed P is shown s k.0 text k.1 k.3
+of_taken : (P : List ℕ → Type 0) → IsOfTexts P → (s : Standing) (read : Read) (text : List ℕ) (t : Standing) → Takes s read text t → P text
+of_taken P is (Gathering said) (reads.Memory size) text t k = of_nothing P is text k.0
+of_taken P is (Gathering said) (reads.Capacity capacity) text t k = of_nothing P is text k.0
+of_taken P is (Gathering said) (reads.Open opening) text t k = of_nothing P is text k.0
+of_taken P is (Gathering said) (reads.Command command) text t k = of_printed P is no_words k.0 command text k.1 k.3
+of_taken P is (Going size shown s) (reads.Memory said) text t k = of_nothing P is text k.0
+of_taken P is (Going size shown s) (reads.Capacity capacity) text t k = of_nothing P is text k.0
+of_taken P is (Going size shown s) (reads.Open opening) text t k = of_nothing P is text k.0
+of_taken P is (Going size shown s) (reads.Command command) text t k = of_printed P is shown s command text k.0 k.1
 
 of_by : (P : List ℕ → Type 0) → IsOfTexts P → (b : Bool) (s t : Standing) (line text : List ℕ) → AcceptsBy b s line text t → P text
 of_by P is true s t line text k = of_nothing P is text k.0

@@ -1,14 +1,16 @@
--- Reading entry by entry.
-use Rattle.std.proofs.Common.{◌≡◌, ℕ, ◌+◌, ◌<◌, ◌∷◌, ◌++◌, List, [], length, get_or, drop, map, true, false, Bool, Some, None, Result, Ok, Err, refl, sym, ap, ◌∙◌, append_assoc}
-use Rattle.std.proofs.lemmas.List.{append-nil, drop_more, drop-map}
+-- Lines that are read one after another.
+use Rattle.std.proofs.Common.{◌≡◌, ℕ, ◌+◌, ◌∷◌, List, [], length, true, false, Bool, Result, Ok, Err, IfOk, if◌then◌else◌, refl, sym, ap, ◌∙◌}
+use Rattle.std.specs.Str.Lines.{lines}
 use Rattle.sci_script.specs.declared.commands.Size.{Size}
 use Rattle.sci_script.specs.declared.commands.Opening.{Opening}
 use Rattle.sci_script.specs.declared.commands.Step.{Step}
-use Rattle.sci_script.specs.declared.commands.Command.{Command}
+use Rattle.sci_script.specs.declared.reasons.Reason.{Reason}
+use Rattle.sci_script.specs.declared.reasons.Reason.TheVariants.{Early}
 use Rattle.sci_script.specs.declared.refusals.ScriptRefusal.{ScriptRefusal}
-use Rattle.sci_script.specs.declared.refusals.ScriptRefusal.TheVariants.{OutOfMemory, BadCommand, BadNumber, NotDone, WriteFailed}
+use Rattle.sci_script.specs.declared.said.Read.{Read}
 use Rattle.sci_script.specs.Words.{is_skipped}
-use Rattle.sci_script.specs.Format.{◌>>=◌, Fails, entries_from, openings_of, opening_of, steps_of, words_at, command_at, value_at, values_at}
+use Rattle.sci_script.specs.Format.{Sayings, ended, entries_from, on_line, reading_of, refused, script_of, unsaid, with_lines, with_read}
+use Rattle.sci_script.specs.Grammar.{is_first, line_read}
 
 pub entries_skip : (n : ℕ) (line : List ℕ) (lines : List (List ℕ)) (r : Bool) → r ≡ is_skipped line → r ≡ true → entries_from n (line ∷ lines) ≡ entries_from (n + 1) lines
 unfolding entries_from
@@ -22,127 +24,75 @@ pub entries_end : (n : ℕ) → entries_from n [] ≡ []
 unfolding entries_from
 entries_end n = refl
 
--- what is read behind these commands
-abbrev pub with_front : List Step → Result (List Step) ScriptRefusal → Result (List Step) ScriptRefusal
-with_front front read = read >>= λ steps. Ok (front ++ steps)
+pub same_ok : {A E : Type 0} (x y : A) → ◌≡◌ {A = Result A E} (Ok x) (Ok y) → x ≡ y
+same_ok x y e = cc
 
-regroup : (front : List Step) (step : Step) (read : Result (List Step) ScriptRefusal) → with_front front (read >>= λ steps. Ok (step ∷ steps)) ≡ with_front (front ++ step ∷ []) read
-regroup front step (Ok steps) = ap (λ (ss : List Step). Ok ss) (simp append_assoc)
-regroup front step (Err e) = refl
+pub if_ok_then : {X E : Type 0} (r : Result X E) (P Q : X → Type 0) → IfOk r P → ((x : X) → P x → Q x) → IfOk r Q
+if_ok_then (Ok x) P Q h f = f x h
+if_ok_then (Err e) P Q h f = tt
 
-pub goes_on : (front : List Step) (size : Size) (n : ℕ) (line : List ℕ) (entries : List (ℕ × List ℕ)) (words : List (List ℕ)) (command : Command) (total : Result (List Step) ScriptRefusal)
-    → words_at n line ≡ Ok words → command_at n size words ≡ Ok command
-    → with_front front (steps_of size ((n, line) ∷ entries)) ≡ total
-    → with_front (front ++ record { number = n; command = command } ∷ []) (steps_of size entries) ≡ total
-unfolding steps_of
-goes_on front size n line entries words command total w h so_far =
-    let step : Step = record { number = n; command = command } in
-    let one : with_front front (steps_of size ((n, line) ∷ entries)) ≡ with_front (front ++ step ∷ []) (steps_of size entries) = rw (w, h) (regroup front step (steps_of size entries)) in
-    sym one ∙ so_far
+-- the first line is taken, or not
+pub lines_more : (s : Sayings) (n : ℕ) (line : List ℕ) (entries : List (ℕ × List ℕ)) (read : Read) → line_read s.place line ≡ Ok read → with_lines s ((n, line) ∷ entries) ≡ with_lines (with_read s n read) entries
+unfolding with_lines
+lines_more s n line entries read is = rw (is, with_lines) refl
 
-pub through : {A B : Type 0} (e : ScriptRefusal) (read : Result A ScriptRefusal) (total : Result B ScriptRefusal) → Fails e read → (read ≡ Err e → total ≡ Err e) → Fails e total
-through OutOfMemory read total h f = tt
-through (BadCommand n) read total h f = f h
-through (BadNumber n) read total h f = f h
-through (NotDone n) read total h f = h
-through WriteFailed read total h f = h
+pub lines_stop : (s : Sayings) (n : ℕ) (line : List ℕ) (entries : List (ℕ × List ℕ)) (reason : Reason) → line_read s.place line ≡ Err reason → with_lines s ((n, line) ∷ entries) ≡ Err (n, reason)
+unfolding with_lines
+lines_stop s n line entries reason is = rw (is, with_lines) refl
 
-pub words_end : (e : ScriptRefusal) (front : List Step) (size : Size) (n : ℕ) (line : List ℕ) (entries : List (ℕ × List ℕ)) (total : Result (List Step) ScriptRefusal)
-    → Fails e (words_at n line) → with_front front (steps_of size ((n, line) ∷ entries)) ≡ total → Fails e total
-unfolding steps_of
-words_end e front size n line entries total h so_far =
-    through e (words_at n line) total h (λ is. let one : with_front front (steps_of size ((n, line) ∷ entries)) ≡ Err e = rw is refl in sym so_far ∙ one)
+pub lines_end : (s : Sayings) → with_lines s [] ≡ Ok s
+unfolding with_lines
+lines_end s = refl
 
-pub command_end : (e : ScriptRefusal) (front : List Step) (size : Size) (n : ℕ) (line : List ℕ) (entries : List (ℕ × List ℕ)) (words : List (List ℕ)) (total : Result (List Step) ScriptRefusal)
-    → words_at n line ≡ Ok words → Fails e (command_at n size words) → with_front front (steps_of size ((n, line) ∷ entries)) ≡ total → Fails e total
-unfolding steps_of
-command_end e front size n line entries words total w h so_far =
-    through e (command_at n size words) total h (λ is. let one : with_front front (steps_of size ((n, line) ∷ entries)) ≡ Err e = rw (w, is) refl in sym so_far ∙ one)
+first_by : (s : Sayings) (n : ℕ) (entries : List (ℕ × List ℕ)) (f : Sayings) (r : Result Read Reason) → ◌≡◌ {A = Result Sayings (ℕ × Reason)} (elim r [
+  | Ok read ↦ with_lines (with_read s n read) entries
+  | Err reason ↦ Err (n, reason)
+]) (Ok f) → (read : Read) × (r ≡ Ok read) × (with_lines (with_read s n read) entries ≡ Ok f)
+first_by s n entries f (Ok read) e = (read, refl, e)
+first_by s n entries f (Err reason) e = absurd (cc)
 
-pub is_done : (front : List Step) (size : Size) (total : Result (List Step) ScriptRefusal) → with_front front (steps_of size []) ≡ total → total ≡ Ok front
-unfolding steps_of
-is_done front size total so_far =
-    let one : with_front front (steps_of size []) ≡ Ok front = ap (λ (ss : List Step). Ok ss) (append-nil front) in
-    sym so_far ∙ one
+on_line_ok : (n : ℕ) (r : Result Read Reason) (read : Read) → on_line n r ≡ Ok read → r ≡ Ok read
+on_line_ok n (Ok said) read e = cc
+on_line_ok n (Err reason) read e = absurd (cc)
 
--- what is read behind these openings
-abbrev pub with_openings : List Opening → Result (List Opening × List (ℕ × List ℕ)) ScriptRefusal → Result (List Opening × List (ℕ × List ℕ)) ScriptRefusal
-with_openings front read = read >>= λ more. Ok (front ++ more.0, more.1)
+-- a line that is taken is gone past
+pub line_taken : (s : Sayings) (n : ℕ) (line : List ℕ) (entries : List (ℕ × List ℕ)) (read : Read) → on_line n (line_read s.place line) ≡ Ok read → with_lines s ((n, line) ∷ entries) ≡ with_lines (with_read s n read) entries
+line_taken s n line entries read e = lines_more s n line entries read (on_line_ok n (line_read s.place line) read e)
 
-regroup_openings : (front : List Opening) (opening : Opening) (read : Result (List Opening × List (ℕ × List ℕ)) ScriptRefusal)
-    → with_openings front (read >>= λ more. Ok (opening ∷ more.0, more.1)) ≡ with_openings (front ++ opening ∷ []) read
-regroup_openings front opening (Ok more) = ap (λ (os : List Opening). Ok (os, more.1)) (simp append_assoc)
-regroup_openings front opening (Err e) = refl
+-- behind the last line all is read
+pub all_read : (text : List ℕ) (s : Sayings) (entries : List (ℕ × List ℕ)) (end : ℕ) → with_lines s entries ≡ with_lines unsaid (entries_from 1 (lines text)) → entries ≡ [] → end ≡ length (lines text) + 1
+    → ended end (Ok s) ≡ reading_of text
+unfolding reading_of
+all_read text s entries end left none is =
+    let said : Ok s ≡ with_lines unsaid (entries_from 1 (lines text)) = sym (lines_end s) ∙ ap (with_lines s) (sym none) ∙ left in
+    ap (λ (e : ℕ). ended e (Ok s)) is ∙ ap (ended (length (lines text) + 1)) said
 
-pub opening_more : (front : List Opening) (size : Size) (n : ℕ) (line : List ℕ) (entries : List (ℕ × List ℕ)) (words : List (List ℕ)) (opening : Opening) (total : Result (List Opening × List (ℕ × List ℕ)) ScriptRefusal)
-    → words_at n line ≡ Ok words → opening_of n size words ≡ Ok (Some opening)
-    → with_openings front (openings_of size ((n, line) ∷ entries)) ≡ total
-    → with_openings (front ++ opening ∷ []) (openings_of size entries) ≡ total
-unfolding openings_of
-opening_more front size n line entries words opening total w h so_far =
-    let one : with_openings front (openings_of size ((n, line) ∷ entries)) ≡ with_openings (front ++ opening ∷ []) (openings_of size entries) = rw (w, h) (regroup_openings front opening (openings_of size entries)) in
-    sym one ∙ so_far
+-- of lines that are all taken the first is
+pub first_read : (s : Sayings) (entry : ℕ × List ℕ) (entries : List (ℕ × List ℕ)) (f : Sayings) → with_lines s (entry ∷ entries) ≡ Ok f
+    → (read : Read) × (line_read s.place entry.1 ≡ Ok read) × (with_lines (with_read s entry.0 read) entries ≡ Ok f)
+unfolding with_lines
+first_read s entry entries f e = first_by s entry.0 entries f (line_read s.place entry.1) e
 
-pub openings_stop : (front : List Opening) (size : Size) (n : ℕ) (line : List ℕ) (entries : List (ℕ × List ℕ)) (words : List (List ℕ)) (total : Result (List Opening × List (ℕ × List ℕ)) ScriptRefusal)
-    → words_at n line ≡ Ok words → opening_of n size words ≡ Ok None
-    → with_openings front (openings_of size ((n, line) ∷ entries)) ≡ total → total ≡ Ok (front, (n, line) ∷ entries)
-unfolding openings_of
-openings_stop front size n line entries words total w h so_far =
-    let one : with_openings front (openings_of size ((n, line) ∷ entries)) ≡ Ok (front, (n, line) ∷ entries) = rw (w, h) (ap (λ (os : List Opening). Ok (os, (n, line) ∷ entries)) (append-nil front)) in
-    sym so_far ∙ one
+pub no_lines : (s f : Sayings) → with_lines s [] ≡ Ok f → s ≡ f
+unfolding with_lines
+no_lines s f e = same_ok s f e
 
-pub openings_words_end : (e : ScriptRefusal) (front : List Opening) (size : Size) (n : ℕ) (line : List ℕ) (entries : List (ℕ × List ℕ)) (total : Result (List Opening × List (ℕ × List ℕ)) ScriptRefusal)
-    → Fails e (words_at n line) → with_openings front (openings_of size ((n, line) ∷ entries)) ≡ total → Fails e total
-unfolding openings_of
-openings_words_end e front size n line entries total h so_far =
-    through e (words_at n line) total h (λ is. let one : with_openings front (openings_of size ((n, line) ∷ entries)) ≡ Err e = rw is refl in sym so_far ∙ one)
+-- a script is what all its lines say
+ended_by : (end : ℕ) (b : Bool) (f : Sayings) (script : Size × ℕ × List Opening × List Step) → ◌≡◌ {A = Result (Size × ℕ × List Opening × List Step) (ℕ × Reason)} (if b then Err (end, Early) else Ok (f.place.size, f.capacity, f.openings, f.steps)) (Ok script)
+    → (f.place.size, f.capacity, f.openings, f.steps) ≡ script
+ended_by end true f script e = absurd (cc)
+ended_by end false f script e = same_ok _ script e
 
-pub opening_end : (e : ScriptRefusal) (front : List Opening) (size : Size) (n : ℕ) (line : List ℕ) (entries : List (ℕ × List ℕ)) (words : List (List ℕ)) (total : Result (List Opening × List (ℕ × List ℕ)) ScriptRefusal)
-    → words_at n line ≡ Ok words → Fails e (opening_of n size words) → with_openings front (openings_of size ((n, line) ∷ entries)) ≡ total → Fails e total
-unfolding openings_of
-opening_end e front size n line entries words total w h so_far =
-    through e (opening_of n size words) total h (λ is. let one : with_openings front (openings_of size ((n, line) ∷ entries)) ≡ Err e = rw (w, is) refl in sym so_far ∙ one)
+ended_of : (end : ℕ) (r : Result Sayings (ℕ × Reason)) (script : Size × ℕ × List Opening × List Step) → ended end r ≡ Ok script
+    → (f : Sayings) × (r ≡ Ok f) × ((f.place.size, f.capacity, f.openings, f.steps) ≡ script)
+ended_of end (Err why) script e = absurd (cc)
+ended_of end (Ok f) script e = (f, refl, ended_by end (is_first f.place.stand) f script e)
 
-pub openings_done : (front : List Opening) (size : Size) (total : Result (List Opening × List (ℕ × List ℕ)) ScriptRefusal) → with_openings front (openings_of size []) ≡ total → total ≡ Ok (front, [])
-unfolding openings_of
-openings_done front size total so_far =
-    let one : with_openings front (openings_of size []) ≡ Ok (front, []) = ap (λ (os : List Opening). Ok (os, [])) (append-nil front) in
-    sym so_far ∙ one
+refused_ok : {X : Type 0} (r : Result X (ℕ × Reason)) (x : X) → refused r ≡ Ok x → r ≡ Ok x
+refused_ok (Ok y) x e = cc
+refused_ok (Err why) x e = absurd (cc)
 
--- what is read behind these values
-abbrev pub with_values : List ℕ → Result (List ℕ) ScriptRefusal → Result (List ℕ) ScriptRefusal
-with_values front read = read >>= λ values. Ok (front ++ values)
-
-regroup_values : (front : List ℕ) (value : ℕ) (read : Result (List ℕ) ScriptRefusal) → with_values front (read >>= λ values. Ok (value ∷ values)) ≡ with_values (front ++ value ∷ []) read
-regroup_values front value (Ok values) = ap (λ (vs : List ℕ). Ok vs) (simp append_assoc)
-regroup_values front value (Err e) = refl
-
-pub value_more : (front : List ℕ) (n : ℕ) (word : List ℕ) (words : List (List ℕ)) (value : ℕ) (total : Result (List ℕ) ScriptRefusal)
-    → value_at n word ≡ Ok value → with_values front (values_at n (word ∷ words)) ≡ total → with_values (front ++ value ∷ []) (values_at n words) ≡ total
-value_more front n word words value total h so_far =
-    let one : with_values front (values_at n (word ∷ words)) ≡ with_values (front ++ value ∷ []) (values_at n words) = rw h (regroup_values front value (values_at n words)) in
-    sym one ∙ so_far
-
-pub value_end : (e : ScriptRefusal) (front : List ℕ) (n : ℕ) (word : List ℕ) (words : List (List ℕ)) (total : Result (List ℕ) ScriptRefusal)
-    → Fails e (value_at n word) → with_values front (values_at n (word ∷ words)) ≡ total → Fails e total
-value_end e front n word words total h so_far =
-    through e (value_at n word) total h (λ is. let one : with_values front (values_at n (word ∷ words)) ≡ Err e = rw is refl in sym so_far ∙ one)
-
-pub values_done : (front : List ℕ) (n : ℕ) (total : Result (List ℕ) ScriptRefusal) → with_values front (values_at n []) ≡ total → total ≡ Ok front
-values_done front n total so_far =
-    let one : with_values front (values_at n []) ≡ Ok front = ap (λ (vs : List ℕ). Ok vs) (append-nil front) in
-    sym so_far ∙ one
-
-pub drop_map_more : {X Y : Type 0} (f : X → Y) (xs : List X) (i : ℕ) (d : X) → i < length xs → drop i (map f xs) ≡ f (get_or xs i d) ∷ drop (i + 1) (map f xs)
-drop_map_more {X} {Y} f xs i d lt =
-    drop-map f i xs ∙ ap (λ (l : List X). map f l) (drop_more xs i d lt) ∙ ap (λ (l : List Y). f (get_or xs i d) ∷ l) (sym (drop-map f (i + 1) xs))
-
-pub value_turn : {X : Type 0} (f : X → List ℕ) (xs : List X) (front : List ℕ) (n i : ℕ) (d : X) (value : ℕ) (total : Result (List ℕ) ScriptRefusal) → i < length xs
-    → value_at n (f (get_or xs i d)) ≡ Ok value → with_values front (values_at n (drop i (map f xs))) ≡ total → with_values (front ++ value ∷ []) (values_at n (drop (i + 1) (map f xs))) ≡ total
-value_turn f xs front n i d value total lt h so_far =
-    value_more front n (f (get_or xs i d)) (drop (i + 1) (map f xs)) value total h (rw (drop_map_more f xs i d lt) at so_far)
-
-pub value_fault : {X : Type 0} (e : ScriptRefusal) (f : X → List ℕ) (xs : List X) (front : List ℕ) (n i : ℕ) (d : X) (total : Result (List ℕ) ScriptRefusal) → i < length xs
-    → Fails e (value_at n (f (get_or xs i d))) → with_values front (values_at n (drop i (map f xs))) ≡ total → Fails e total
-value_fault e f xs front n i d total lt h so_far =
-    value_end e front n (f (get_or xs i d)) (drop (i + 1) (map f xs)) total h (rw (drop_map_more f xs i d lt) at so_far)
+pub said_of : (input : List ℕ) (script : Size × ℕ × List Opening × List Step) → script_of input ≡ Ok script
+    → (f : Sayings) × (with_lines unsaid (entries_from 1 (lines input)) ≡ Ok f) × ((f.place.size, f.capacity, f.openings, f.steps) ≡ script)
+unfolding script_of reading_of
+said_of input script e = ended_of _ _ script (refused_ok _ script e)

@@ -1,5 +1,5 @@
 -- The words of a line, from the first to the last.
-use Rattle.std.proofs.Common.{◌≡◌, ◌∙◌, ℕ, ◌+◌, ◌-◌, ◌<◌, ◌≤◌, ◌==◌, Ok, Err, true, false, not, List, [], ◌∷◌, ◌++◌, All, length, get_or, take, drop, filter, refl, sym, ap, arith, subst}
+use Rattle.std.proofs.Common.{◌≡◌, ◌∙◌, ℕ, ◌+◌, ◌-◌, ◌<◌, ◌≤◌, ◌==◌, true, false, not, List, [], ◌∷◌, ◌++◌, All, length, get_or, take, drop, filter, refl, sym, ap, arith, subst}
 use Rattle.std.specs.Char.{is_ascii_graphic}
 use Rattle.std.specs.List.{AllWithin, list_all, slice_split}
 use Rattle.std.proofs.lemmas.List.{append_assoc, drop_more, drop-drop, get_or-take, get_or-drop, get_or_default, length-take, take-append-drop, take_rest}
@@ -8,8 +8,6 @@ use Rattle.std.proofs.lemmas.List.Splits.{slice_split_at, slice_split_none}
 use Rattle.std.proofs.lemmas.List.Folds.{list_all_at}
 use Rattle.std.proofs.lemmas.List.Sums.{list_all-from_AllPass}
 use Rattle.std.proofs.lemmas.Bool.Decides.{nat_tests}
-use Rattle.sci_script.specs.declared.refusals.ScriptRefusal.TheVariants.{BadCommand}
-use Rattle.sci_script.specs.Format.{words_at}
 use Rattle.sci_script.specs.Words.{has_bytes, is_blank, is_plain, words_of}
 
 -- a word, if it has bytes
@@ -64,14 +62,11 @@ not_plain b g h = grind (arith, nat_tests)
 pub one_more : (P : ℕ → Type 0) (line : List ℕ) (low at : ℕ) → at < length line → AllWithin P line low at → P (get_or line at 0) → AllWithin P line low (at + 1)
 one_more P line low at inside h here = AllWithin-more P line low at h (λ d. subst P (get_or_default line at 0 d inside) here)
 
--- a line with a byte that isn't plain is refused
-pub line_refused : (number : ℕ) (line : List ℕ) (at : ℕ) → at < length line → is_ascii_graphic (get_or line at 0) ≡ false → is_blank (get_or line at 0) ≡ false → words_at number line ≡ Err (BadCommand number)
-unfolding words_at
-line_refused number line at inside g h = let odd : list_all is_plain line ≡ false = list_all_at is_plain line at 0 inside (not_plain (get_or line at 0) g h) in rw odd refl
+-- a line with a byte that isn't plain
+pub line_odd : (line : List ℕ) (at : ℕ) → at < length line → is_ascii_graphic (get_or line at 0) ≡ false → is_blank (get_or line at 0) ≡ false → list_all is_plain line ≡ false
+line_odd line at inside g h = list_all_at is_plain line at 0 inside (not_plain (get_or line at 0) g h)
 
--- a line of plain bytes gives its words
-pub line_read : (number : ℕ) (line : List ℕ) (at : ℕ) (words : List (List ℕ)) → length line ≤ at → AllWithin (λ b. is_plain b ≡ true) line 0 at → words ≡ words_of line → words_at number line ≡ Ok words
-unfolding words_at
-line_read number line at words past h is =
-    let plain : list_all is_plain line ≡ true = list_all-from_AllPass is_plain line (All-from_all_within (λ b. is_plain b ≡ true) line (AllWithin-upto (λ b. is_plain b ≡ true) line 0 at (length line) past h)) in
-    rw (plain, is) refl
+-- a line of plain bytes
+pub line_plain : (line : List ℕ) (at : ℕ) → length line ≤ at → AllWithin (λ b. is_plain b ≡ true) line 0 at → list_all is_plain line ≡ true
+line_plain line at past h =
+    list_all-from_AllPass is_plain line (All-from_all_within (λ b. is_plain b ≡ true) line (AllWithin-upto (λ b. is_plain b ≡ true) line 0 at (length line) past h))

@@ -1,5 +1,5 @@
 -- Which refusal a reason is one of. This project's profile.
-use Rattle.std.specs.Prelude.{◌≡◌, ℕ, Option, Some, None, Result, Ok, Err}
+use Rattle.std.specs.Prelude.{◌≡◌, ℕ, Option, Some, None}
 use Rattle.sci_script.specs.declared.commands.Command.{Command}
 use Rattle.sci_script.specs.declared.commands.Command.TheVariants.{Begin, Turn, Done}
 use Rattle.sci_script.specs.declared.reasons.Reason.{Reason}
@@ -26,12 +26,7 @@ refused_for line (Unended node) = NotDone line
 abbrev pub IsRefusedFor : ScriptRefusal → Option Reason → Type 0
 IsRefusedFor e why = (line : ℕ) × (reason : Reason) × (why ≡ Some reason) × (e ≡ refused_for line reason)
 
--- what is refused has one, and what isn't has none
-abbrev pub IsReasonOf : {X : Type 0} → Result X ScriptRefusal → Option Reason → Type 0
-IsReasonOf (Ok x) why = why ≡ None
-IsReasonOf (Err e) why = IsRefusedFor e why
-
--- so has that of a call, of a turn and of `done`
+-- so has the refusal of a call, of a turn and of `done`; other commands wait for nobody
 abbrev pub HasReason : Command → ScriptRefusal → Option Reason → Type 0
 HasReason (Begin node line request) e why = IsRefusedFor e why
 HasReason (Turn node) e why = IsRefusedFor e why

@@ -1,24 +1,24 @@
--- What a script says: its size, its capacity and its commands, or the first fault. This project's profile.
-use Rattle.std.specs.Prelude.{◌≡◌, ℕ, ◌+◌, ◌-◌, ◌^◌, List, [], ◌∷◌, length, Option, Some, None, Result, Ok, Err, codes, nat_le, ◌==◌, ◌&&◌, if◌then◌else◌}
-use Rattle.std.specs.List.{list_all}
-use Rattle.std.specs.Str.{bytes_eq}
+-- What a script says: its size, its capacity, its openings and its commands, or the first fault. This project's profile.
+use Rattle.std.specs.Prelude.{◌≡◌, ℕ, ◌+◌, List, [], ◌∷◌, ◌++◌, length, Result, Ok, Err, if◌then◌else◌}
 use Rattle.std.specs.Str.Lines.{lines}
-use Rattle.sci_core.specs.declared.whole.TheConstants.{MOST_NODES}
 use Rattle.sci_script.specs.declared.commands.Size.{Size}
 use Rattle.sci_script.specs.declared.commands.Opening.{Opening}
 use Rattle.sci_script.specs.declared.commands.Step.{Step}
 use Rattle.sci_script.specs.declared.commands.Script.{Script}
-use Rattle.sci_script.specs.declared.commands.Command.{Command}
-use Rattle.sci_script.specs.declared.commands.Request.TheVariants.{Load, Store, Add, Evict}
-use Rattle.sci_script.specs.declared.commands.Command.TheVariants.{Begin, Turn, Done, Rest, End, List as ListLine, Tag as ShowTag, Residents}
+use Rattle.sci_script.specs.declared.drafts.Draft.{Draft}
+use Rattle.sci_script.specs.declared.places.Place.{Place}
+use Rattle.sci_script.specs.declared.places.Stand.TheVariants as stands
+use Rattle.sci_script.specs.declared.reasons.Reason.{Reason}
+use Rattle.sci_script.specs.declared.reasons.Reason.TheVariants.{Early}
 use Rattle.sci_script.specs.declared.refusals.ScriptRefusal.{ScriptRefusal}
 use Rattle.sci_script.specs.declared.refusals.ScriptRefusal.TheVariants.{OutOfMemory, BadCommand, BadNumber, NotDone, WriteFailed}
-use Rattle.sci_script.specs.Words.{is_plain, is_skipped, words_of, number_of}
-
-infixl 10 ◌>>=◌
-abbrev pub ◌>>=◌ : {A B : Type 0} → Result A ScriptRefusal → (A → Result B ScriptRefusal) → Result B ScriptRefusal
-(Ok x) >>= f = f x
-(Err e) >>= f = Err e
+use Rattle.sci_script.specs.declared.said.Read.{Read}
+use Rattle.sci_script.specs.declared.said.Read.TheVariants as reads
+use Rattle.sci_script.specs.declared.unread.Unread.{Unread}
+use Rattle.sci_script.specs.declared.unread.Unread.TheVariants as unread
+use Rattle.sci_script.specs.Causes.{refused_for}
+use Rattle.sci_script.specs.Grammar.{first_place, is_first, line_read}
+use Rattle.sci_script.specs.Words.{is_skipped}
 
 -- what a function of the reader returned, seen by view, is what reading gives, unless memory ran out
 abbrev pub Fails : {Y : Type 0} → ScriptRefusal → Result Y ScriptRefusal → Type 0
@@ -32,240 +32,84 @@ abbrev pub Gives : {X Y : Type 0} → (X → Y) → Result X ScriptRefusal → R
 Gives view (Ok x) read = read ≡ Ok (view x)
 Gives view (Err e) read = Fails e read
 
--- the number that a word of line n stands for, from low to high
-abbrev pub within : ℕ → ℕ → ℕ → Option ℕ → Result ℕ ScriptRefusal
-within n low high None = Err (BadNumber n)
-within n low high (Some v) = if nat_le low v && nat_le v high then Ok v else Err (BadNumber n)
+-- the same, with the number of the line that isn't taken, and the reason
+abbrev pub Lacks : {Y : Type 0} → Unread → Result Y (ℕ × Reason) → Type 0
+Lacks unread.OutOfMemory read = Unit {0}
+Lacks (unread.Refused n reason) read = read ≡ Err (n, reason)
 
-abbrev pub number_at : ℕ → ℕ → ℕ → List ℕ → Result ℕ ScriptRefusal
-number_at n low high word = within n low high (number_of word)
+abbrev pub Finds : {X Y : Type 0} → (X → Y) → Result X Unread → Result Y (ℕ × Reason) → Type 0
+Finds view (Ok x) read = read ≡ Ok (view x)
+Finds view (Err e) read = Lacks e read
 
-abbrev pub node_at : ℕ → Size → List ℕ → Result ℕ ScriptRefusal
-node_at n size word = number_at n 0 (size.nodes - 1) word
+-- the refusal of what isn't read
+abbrev pub refusal_of : Unread → ScriptRefusal
+refusal_of unread.OutOfMemory = OutOfMemory
+refusal_of (unread.Refused n reason) = refused_for n reason
 
-abbrev pub line_at : ℕ → Size → List ℕ → Result ℕ ScriptRefusal
-line_at n size word = number_at n 0 (size.lines - 1) word
+abbrev pub refused : {Y : Type 0} → Result Y (ℕ × Reason) → Result Y ScriptRefusal
+refused (Ok y) = Ok y
+refused (Err why) = Err (refused_for why.0 why.1)
 
--- any number that fits 64 bits
-abbrev pub value_at : ℕ → List ℕ → Result ℕ ScriptRefusal
-value_at n word = number_at n 0 (2 ^ 64 - 1) word
-
--- the words of line n
-unfoldable pub words_at : ℕ → List ℕ → Result (List (List ℕ)) ScriptRefusal
-words_at n line = if list_all is_plain line then Ok (words_of line) else Err (BadCommand n)
-
--- `memory NODES LINES`
-unfoldable pub size_at : ℕ → List (List ℕ) → Result Size ScriptRefusal
-size_at n (name ∷ nodes ∷ lines ∷ []) =
-    if bytes_eq name (codes "memory")
-    then (do
-      nodes ← number_at n 1 MOST_NODES nodes
-      lines ← number_at n 1 1024 lines
-      Ok (record { nodes = nodes; lines = lines }))
-    else Err (BadCommand n)
-size_at n _ = Err (BadCommand n)
-
-abbrev pub values_at : ℕ → List (List ℕ) → Result (List ℕ) ScriptRefusal
-values_at n [] = Ok []
-values_at n (word ∷ words) = do
-  value ← value_at n word
-  values ← values_at n words
-  Ok (value ∷ values)
-
--- the words behind the name: `open L S V V V V V V V V`
-unfoldable pub opening_at : ℕ → Size → List (List ℕ) → Result Opening ScriptRefusal
-opening_at n size (line ∷ stamp ∷ words) =
-    if length words == 8
-    then (do
-      line ← line_at n size line
-      stamp ← value_at n stamp
-      words ← values_at n words
-      Ok (record { line = line; content = record { words = words; stamp = stamp } }))
-    else Err (BadCommand n)
-opening_at n size _ = Err (BadCommand n)
-
--- `N L` and `W V`
-unfoldable pub place_at : ℕ → Size → List ℕ → List ℕ → Result (ℕ × ℕ) ScriptRefusal
-place_at n size node line = do
-  node ← node_at n size node
-  line ← line_at n size line
-  Ok (node, line)
-
-unfoldable pub change_at : ℕ → List ℕ → List ℕ → Result (ℕ × ℕ) ScriptRefusal
-change_at n word value = do
-  word ← number_at n 0 7 word
-  value ← value_at n value
-  Ok (word, value)
-
--- the words behind the name: `load N L W`, `store N L W V`, `add N L W V`, `evict N L`, `turn N`, `done N`, `list L`, `tag L N`,
--- `residents N`
-unfoldable pub load_at : ℕ → Size → List (List ℕ) → Result Command ScriptRefusal
-load_at n size (node ∷ line ∷ word ∷ []) = do
-  place ← place_at n size node line
-  word ← number_at n 0 7 word
-  Ok (Begin place.0 place.1 (Load word))
-load_at n size _ = Err (BadCommand n)
-
-unfoldable pub store_at : ℕ → Size → List (List ℕ) → Result Command ScriptRefusal
-store_at n size (node ∷ line ∷ word ∷ value ∷ []) = do
-  place ← place_at n size node line
-  change ← change_at n word value
-  Ok (Begin place.0 place.1 (Store change.0 change.1))
-store_at n size _ = Err (BadCommand n)
-
-unfoldable pub add_at : ℕ → Size → List (List ℕ) → Result Command ScriptRefusal
-add_at n size (node ∷ line ∷ word ∷ delta ∷ []) = do
-  place ← place_at n size node line
-  change ← change_at n word delta
-  Ok (Begin place.0 place.1 (Add change.0 change.1))
-add_at n size _ = Err (BadCommand n)
-
-unfoldable pub evict_at : ℕ → Size → List (List ℕ) → Result Command ScriptRefusal
-evict_at n size (node ∷ line ∷ []) = do
-  place ← place_at n size node line
-  Ok (Begin place.0 place.1 Evict)
-evict_at n size _ = Err (BadCommand n)
-
-unfoldable pub turn_at : ℕ → Size → List (List ℕ) → Result Command ScriptRefusal
-turn_at n size (node ∷ []) = do
-  node ← node_at n size node
-  Ok (Turn node)
-turn_at n size _ = Err (BadCommand n)
-
-unfoldable pub done_at : ℕ → Size → List (List ℕ) → Result Command ScriptRefusal
-done_at n size (node ∷ []) = do
-  node ← node_at n size node
-  Ok (Done node)
-done_at n size _ = Err (BadCommand n)
-
-unfoldable pub rest_at : ℕ → Size → List (List ℕ) → Result Command ScriptRefusal
-rest_at n size [] = Ok (Rest size.lines)
-rest_at n size _ = Err (BadCommand n)
-
-unfoldable pub end_at : ℕ → Size → List (List ℕ) → Result Command ScriptRefusal
-end_at n size [] = Ok (End size.nodes size.lines)
-end_at n size _ = Err (BadCommand n)
-
-unfoldable pub list_at : ℕ → Size → List (List ℕ) → Result Command ScriptRefusal
-list_at n size (line ∷ []) = do
-  line ← line_at n size line
-  Ok (ListLine line)
-list_at n size _ = Err (BadCommand n)
-
-unfoldable pub tag_at : ℕ → Size → List (List ℕ) → Result Command ScriptRefusal
-tag_at n size (line ∷ node ∷ []) = do
-  line ← line_at n size line
-  node ← node_at n size node
-  Ok (ShowTag line node)
-tag_at n size _ = Err (BadCommand n)
-
-unfoldable pub residents_at : ℕ → Size → List (List ℕ) → Result Command ScriptRefusal
-residents_at n size (node ∷ []) = do
-  node ← node_at n size node
-  Ok (Residents node)
-residents_at n size _ = Err (BadCommand n)
-
--- a command that begins no call
-unfoldable pub other_at : ℕ → Size → List ℕ → List (List ℕ) → Result Command ScriptRefusal
-other_at n size name args =
-    if bytes_eq name (codes "turn") then turn_at n size args else
-    (if bytes_eq name (codes "done") then done_at n size args else
-    (if bytes_eq name (codes "rest") then rest_at n size args else
-    (if bytes_eq name (codes "end") then end_at n size args else
-    (if bytes_eq name (codes "list") then list_at n size args else
-    (if bytes_eq name (codes "tag") then tag_at n size args else
-    (if bytes_eq name (codes "residents") then residents_at n size args else Err (BadCommand n)))))))
-
--- a command
-unfoldable pub command_at : ℕ → Size → List (List ℕ) → Result Command ScriptRefusal
-command_at n size [] = Err (BadCommand n)
-command_at n size (name ∷ args) =
-    if bytes_eq name (codes "load") then load_at n size args else
-    (if bytes_eq name (codes "store") then store_at n size args else
-    (if bytes_eq name (codes "add") then add_at n size args else
-    (if bytes_eq name (codes "evict") then evict_at n size args else other_at n size name args)))
-
--- the words behind the name: `capacity C`
-unfoldable pub bound_at : ℕ → List (List ℕ) → Result ℕ ScriptRefusal
-bound_at n (capacity ∷ []) = number_at n 1 1024 capacity
-bound_at n _ = Err (BadCommand n)
-
--- a capacity, where the words are one
-unfoldable pub bound_of : ℕ → List (List ℕ) → Result (Option ℕ) ScriptRefusal
-bound_of n [] = Ok None
-bound_of n (name ∷ args) =
-    if bytes_eq name (codes "capacity")
-    then (do
-      capacity ← bound_at n args
-      Ok (Some capacity))
-    else Ok None
-
--- an opening, where the words are one
-unfoldable pub opening_of : ℕ → Size → List (List ℕ) → Result (Option Opening) ScriptRefusal
-opening_of n size [] = Ok None
-opening_of n size (name ∷ args) =
-    if bytes_eq name (codes "open")
-    then (do
-      opening ← opening_at n size args
-      Ok (Some opening))
-    else Ok None
+-- what was read of line n
+abbrev pub on_line : {Y : Type 0} → ℕ → Result Y Reason → Result Y (ℕ × Reason)
+on_line n (Ok y) = Ok y
+on_line n (Err reason) = Err (n, reason)
 
 -- the lines that aren't skipped, each with its number, where the first is line n
 unfoldable pub entries_from : ℕ → List (List ℕ) → List (ℕ × List ℕ)
 entries_from n [] = []
 entries_from n (line ∷ more) = if is_skipped line then entries_from (n + 1) more else (n, line) ∷ entries_from (n + 1) more
 
--- the commands behind the openings
-unfoldable pub steps_of : Size → List (ℕ × List ℕ) → Result (List Step) ScriptRefusal
-steps_of size [] = Ok []
-steps_of size (entry ∷ entries) = do
-  words ← words_at entry.0 entry.1
-  command ← command_at entry.0 size words
-  steps ← steps_of size entries
-  Ok (record { number = entry.0; command = command } ∷ steps)
+-- what was said so far: where the next line stands, how many lines a node may name, what lines open with, and the commands
+pub record Sayings : Type 0 where
+  pub place : Place
+  pub capacity : ℕ
+  pub openings : List Opening
+  pub steps : List Step
 
--- the openings in front, and the entries behind them
-unfoldable pub openings_of : Size → List (ℕ × List ℕ) → Result (List Opening × List (ℕ × List ℕ)) ScriptRefusal
-openings_of size [] = Ok ([], [])
-openings_of size (entry ∷ entries) = do
-  words ← words_at entry.0 entry.1
-  found ← opening_of entry.0 size words
-  elim found [
-    | None ↦ Ok ([], entry ∷ entries)
-    | Some opening ↦ openings_of size entries >>= λ more. Ok (opening ∷ more.0, more.1)
-  ]
+-- nothing; 1,024 lines where nothing is said of it
+abbrev pub unsaid : Sayings
+unsaid = record { place = first_place; capacity = 1024; openings = []; steps = [] }
 
--- the capacity, 1,024 where none stands in front, and the entries behind it
-unfoldable pub capacity_of : List (ℕ × List ℕ) → Result (ℕ × List (ℕ × List ℕ)) ScriptRefusal
-capacity_of [] = Ok (1024, [])
-capacity_of (entry ∷ entries) = do
-  words ← words_at entry.0 entry.1
-  found ← bound_of entry.0 words
-  elim found [
-    | None ↦ Ok (1024, entry ∷ entries)
-    | Some capacity ↦ Ok (capacity, entries)
-  ]
+abbrev pub behind_front : Size → Place
+behind_front size = record { stand = stands.Openings; size = size }
 
--- the script of this size that the entries behind its size give
-unfoldable pub sized_script : Size → List (ℕ × List ℕ) → Result (Size × ℕ × List Opening × List Step) ScriptRefusal
-sized_script size entries = do
-  bound ← capacity_of entries
-  front ← openings_of size bound.1
-  steps ← steps_of size front.1
-  Ok (size, bound.0, front.0, steps)
+-- and what line n says
+abbrev pub with_read : Sayings → ℕ → Read → Sayings
+with_read s n (reads.Memory size) = record { place = record { stand = stands.Memory; size = size }; capacity = 1024; openings = []; steps = [] }
+with_read s n (reads.Capacity capacity) = record { place = behind_front s.place.size; capacity = capacity; openings = s.openings; steps = s.steps }
+with_read s n (reads.Open opening) = record { place = behind_front s.place.size; capacity = s.capacity; openings = s.openings ++ opening ∷ []; steps = s.steps }
+with_read s n (reads.Command command) = record {
+  place = record { stand = stands.Commands; size = s.place.size };
+  capacity = s.capacity;
+  openings = s.openings;
+  steps = s.steps ++ record { number = n; command = command } ∷ [];
+}
 
--- the entries of a script, where end is one past the last line
-unfoldable pub meaning_of : ℕ → List (ℕ × List ℕ) → Result (Size × ℕ × List Opening × List Step) ScriptRefusal
-meaning_of end [] = Err (BadCommand end)
-meaning_of end (first ∷ entries) = do
-  words ← words_at first.0 first.1
-  size ← size_at first.0 words
-  sized_script size entries
+-- and lines one after another, up to the first that isn't taken
+unfoldable pub with_lines : Sayings → List (ℕ × List ℕ) → Result Sayings (ℕ × Reason)
+with_lines s [] = Ok s
+with_lines s (entry ∷ entries) = elim (line_read s.place entry.1) [
+  | Ok read ↦ with_lines (with_read s entry.0 read) entries
+  | Err reason ↦ Err (entry.0, reason)
+]
 
--- a whole script
+-- a script has `memory` at least; end is one past its last line
+abbrev pub ended : ℕ → Result Sayings (ℕ × Reason) → Result (Size × ℕ × List Opening × List Step) (ℕ × Reason)
+ended end (Ok s) = if is_first s.place.stand then Err (end, Early) else Ok (s.place.size, s.capacity, s.openings, s.steps)
+ended end (Err why) = Err why
+
+-- a whole script, or the first line that isn't taken, and why
+unfoldable pub reading_of : List ℕ → Result (Size × ℕ × List Opening × List Step) (ℕ × Reason)
+reading_of text = ended (length (lines text) + 1) (with_lines unsaid (entries_from 1 (lines text)))
+
+-- or its refusal
 unfoldable pub script_of : List ℕ → Result (Size × ℕ × List Opening × List Step) ScriptRefusal
-script_of text = meaning_of (length (lines text) + 1) (entries_from 1 (lines text))
+script_of text = refused (reading_of text)
 
--- a script without where it lies in memory
+-- a script without where it lies in memory, also one that isn't whole
 abbrev pub view : Script → Size × ℕ × List Opening × List Step
 view s = (s.size, s.capacity, s.openings.items, s.steps.items)
+
+abbrev pub sayings_of : Draft → Sayings
+sayings_of d = record { place = record { stand = d.stand; size = d.script.size }; capacity = d.script.capacity; openings = d.script.openings.items; steps = d.script.steps.items }

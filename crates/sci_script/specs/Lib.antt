@@ -20,6 +20,6 @@ pub mod Dealt
 pub mod Talks
 pub mod Talkers
 pub mod Waiting
-pub mod Faults
+pub mod Grammar
 pub mod Causes
 pub mod Reasons

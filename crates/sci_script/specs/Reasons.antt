@@ -8,21 +8,19 @@ use Rattle.sci_script.specs.declared.commands.Opening.{Opening}
 use Rattle.sci_script.specs.declared.commands.Step.{Step}
 use Rattle.sci_script.specs.declared.commands.Command.{Command}
 use Rattle.sci_script.specs.declared.commands.Command.TheVariants.{Begin, Turn, Done, Rest, End, List as ListLine, Tag as ShowTag, Residents}
-use Rattle.sci_script.specs.declared.places.Place.{Place}
-use Rattle.sci_script.specs.declared.places.Stand.{Stand}
-use Rattle.sci_script.specs.declared.places.Stand.TheVariants as stands
 use Rattle.sci_script.specs.declared.reasons.Reason.{Reason}
 use Rattle.sci_script.specs.declared.reasons.Reason.TheVariants.{CallOpen, NoCall, WaitsFor, Unended}
 use Rattle.sci_script.specs.declared.refusals.ScriptRefusal.{ScriptRefusal}
 use Rattle.sci_script.specs.declared.refusals.ScriptRefusal.TheVariants as refusals
-use Rattle.sci_script.specs.Faults.{first_place, line_reason, text_reason}
+use Rattle.sci_script.specs.declared.said.Read.{Read}
+use Rattle.sci_script.specs.declared.said.Read.TheVariants as reads
 use Rattle.sci_script.specs.Event.{Turned}
+use Rattle.sci_script.specs.Grammar.{line_read}
 use Rattle.sci_script.specs.Run.{Leaves, Repeats}
 use Rattle.sci_script.specs.ScriptText.{Opens, IsTextOf}
 use Rattle.sci_script.specs.Shared.{Shared, shared_is_open, shared_does}
-use Rattle.sci_script.specs.Talks.{Standing, Silent, Gathering, Going, command_of}
+use Rattle.sci_script.specs.Talks.{Standing, Gathering, Going, place_of}
 use Rattle.sci_script.specs.Waiting.{IsAwaited}
-use Rattle.sci_script.specs.Words.{is_skipped, words_of}
 
 -- a node that waits for nobody could go on
 abbrev pub wait_reason : ℕ → Option ℕ → Reason
@@ -81,32 +79,17 @@ pub data IsWhyStopped (size : Size) (capacity : ℕ) (openings : List Opening) (
       → Leaves shared_is_open shared_does size.nodes s steps e written t → IsWhyOn steps t (refused_line e) why → IsWhyStopped size capacity openings steps why
 
 -- why a script is refused: as it is read, or as it is run
-abbrev pub IsWhyScript : List (ℕ × List ℕ) → Result (Size × ℕ × List Opening × List Step) ScriptRefusal → Option Reason → Type 0
-IsWhyScript entries (Ok script) why = IsWhyStopped script.0 script.1 script.2 script.3 why
-IsWhyScript entries (Err e) why = why ≡ text_reason first_place entries
+abbrev pub IsWhyScript : Result (Size × ℕ × List Opening × List Step) (ℕ × Reason) → Option Reason → Type 0
+IsWhyScript (Ok script) why = IsWhyStopped script.0 script.1 script.2 script.3 why
+IsWhyScript (Err fault) why = why ≡ Some fault.1
 
--- where a line stands in a talk
-abbrev pub stand_by : Bool → Stand
-stand_by true = stands.Memory
-stand_by false = stands.Openings
-
-abbrev pub place_of : Standing → Place
-place_of Silent = first_place
-place_of (Gathering bare size capacity openings) = record { stand = stand_by bare; size = size }
-place_of (Going size shown s) = record { stand = stands.Commands; size = size }
-
--- why a command that was understood is refused
-abbrev pub IsWhyOver : Standing → Result (Option Command) ScriptRefusal → Option Reason → Type 0
-IsWhyOver Silent said why = why ≡ None
-IsWhyOver s (Err e) why = why ≡ None
-IsWhyOver s (Ok None) why = why ≡ None
-IsWhyOver (Gathering bare size capacity openings) (Ok (Some command)) why = why ≡ unbegun_reason command
-IsWhyOver (Going size shown s) (Ok (Some command)) why = IsWhy s command why
-
-abbrev pub IsWhyTaken : Standing → List ℕ → Option Reason → Option Reason → Type 0
-IsWhyTaken s line (Some reason) why = why ≡ Some reason
-IsWhyTaken s line None why = IsWhyOver s (command_of s (words_of line)) why
+-- why what a line says is refused: a command, over the desk
+abbrev pub IsWhyTaken : Standing → Result Read Reason → Option Reason → Type 0
+IsWhyTaken s (Err reason) why = why ≡ Some reason
+IsWhyTaken (Gathering said) (Ok (reads.Command command)) why = why ≡ unbegun_reason command
+IsWhyTaken (Going size shown s) (Ok (reads.Command command)) why = IsWhy s command why
+IsWhyTaken s (Ok read) why = why ≡ None
 
 -- why a line of a talk was refused, by the talk as it stands behind the refusal
 abbrev pub IsWhySaid : Standing → List ℕ → Option Reason → Type 0
-IsWhySaid s line why = IsWhyTaken s line (line_reason (place_of s) line) why
+IsWhySaid s line why = IsWhyTaken s (line_read (place_of s) line) why

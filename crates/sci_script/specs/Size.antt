@@ -8,6 +8,8 @@ use Rattle.sci_script.specs.declared.commands.Request.TheVariants.{Load, Store, 
 use Rattle.sci_script.specs.declared.commands.Step.{Step}
 use Rattle.sci_script.specs.declared.commands.Command.{Command}
 use Rattle.sci_script.specs.declared.desk.Toward.{Toward}
+use Rattle.sci_script.specs.declared.said.Read.{Read}
+use Rattle.sci_script.specs.declared.said.Read.TheVariants as reads
 use Rattle.sci_script.specs.declared.commands.Command.TheVariants.{Begin, Turn, Done, Rest, End, List as ListLine, Tag as ShowTag, Residents}
 
 -- 1 to 1,024 nodes, 1 to 1,024 lines
@@ -44,6 +46,13 @@ IsIn size command = is_in size command ≡ true
 
 abbrev pub AreIn : Size → List Step → Type 0
 AreIn size steps = list_all (λ step. is_in size step.command) steps ≡ true
+
+-- what a line says is of what there is
+abbrev pub IsReadIn : Size → Read → Type 0
+IsReadIn size (reads.Memory said) = IsSize said
+IsReadIn size (reads.Capacity capacity) = IsCapacity capacity
+IsReadIn size (reads.Open opening) = Unit {0}
+IsReadIn size (reads.Command command) = IsIn size command
 
 -- who takes a turn towards rest is one of n nodes
 abbrev pub IsBelow : ℕ → Toward → Type 0

@@ -1,5 +1,5 @@
 //! Laws of scripts.
-ghost use Rattle.std.specs.Prelude.{◌≡◌, ◌<◌, ℕ, List, Ok, Option, Some, take, slice_get};
+ghost use Rattle.std.specs.Prelude.{◌≡◌, ◌<◌, ℕ, List, Ok, Err, Option, Some, take, slice_get};
 ghost use Rattle.std.specs.Str.Lines.{lines};
 ghost use Rattle.sci_script.specs.declared.commands.Command.{Command};
 ghost use Rattle.sci_script.specs.declared.commands.Size.{Size};
@@ -10,10 +10,10 @@ ghost use Rattle.sci_ops.specs.declared.answers.Turn.TheVariants.{Waiting};
 ghost use Rattle.sci_script.specs.declared.refusals.ScriptRefusal.{ScriptRefusal};
 ghost use Rattle.sci_script.specs.declared.watching.Passed.{Passed};
 ghost use Rattle.sci_script.specs.declared.refusals.ScriptRefusal.TheVariants.{OutOfMemory, NotDone};
-ghost use Rattle.sci_script.specs.Causes.{HasReason, IsReasonOf};
-ghost use Rattle.sci_script.specs.Faults.{words_reason};
-ghost use Rattle.sci_script.specs.Format.{script_of};
-ghost use Rattle.sci_script.specs.Reasons.{IsUndoneOf, IsWhy, place_of, unbegun_reason};
+ghost use Rattle.sci_script.specs.Causes.{HasReason, IsRefusedFor};
+ghost use Rattle.sci_script.specs.Format.{Sayings, script_of};
+ghost use Rattle.sci_script.specs.Grammar.{line_read};
+ghost use Rattle.sci_script.specs.Reasons.{IsUndoneOf, IsWhy, unbegun_reason};
 ghost use Rattle.sci_script.specs.Event.{Turned};
 ghost use Rattle.sci_script.specs.Passed.{shared_passes};
 ghost use Rattle.sci_script.specs.Request.{no_words};
@@ -21,7 +21,8 @@ ghost use Rattle.sci_script.specs.Run.{IsNoRest, PrintsAll, StopsAt};
 ghost use Rattle.sci_script.specs.ScriptText.{IsTextOf, Opens};
 ghost use Rattle.sci_script.specs.Shared.{Shared, shared_is_open, shared_does};
 ghost use Rattle.sci_script.specs.Size.{AreIn, IsIn, IsSize};
-ghost use Rattle.sci_script.specs.Talks.{FailsFirst, Hears, Says, Silent, Standing, Stops, command_of};
+ghost use Rattle.sci_script.specs.Talks.{FailsFirst, Hears, Refuses, Says, Silent, Standing, Stops, place_of};
+ghost use Rattle.sci_script.specs.declared.said.Read.TheVariants as reads;
 ghost use Rattle.sci_script.specs.Waiting.{IsAwaited};
 
 /// A script's text is what its lines print, said one by one (`Talk::say`), part by part, each of them accepted. It computes nothing: its
@@ -43,7 +44,7 @@ pub fn rest_and_end_are_done()
         → Opens size capacity openings s → PrintsAll shared_is_open shared_does no_words s (take k steps) text mid → slice_get steps k ≡ Some step
         → StopsAt shared_is_open shared_does size.nodes mid step (NotDone n) t → IsNoRest step.command }
     ensures read { (input : List ℕ) (script : Size × ℕ × List Opening × List Step) → script_of input ≡ Ok script → IsSize script.0 × AreIn script.0 script.3 }
-    ensures talk { (before words : List (List ℕ)) (command : Command) (n : ℕ) (s t : Standing) → Hears Silent before s → command_of s words ≡ Ok (Some command)
+    ensures talk { (before : List (List ℕ)) (line : List ℕ) (command : Command) (n : ℕ) (s t : Standing) → Hears Silent before s → line_read (place_of s) line ≡ Ok (reads.Command command)
         → Stops s command (NotDone n) t → IsNoRest command }
 {}
 
@@ -62,12 +63,13 @@ pub fn waits_name_a_node()
 
 /// Why a command was refused, by the desk as it stands behind that (`WholeDesk::why`), is a reason of just this refusal. Each refusal
 /// of a call, a turn or a `done` has one, but for want of memory; other commands wait for nobody, and have none. So it is of the first
-/// command, over a desk just opened. And what is wrong with the words of a line that is said (`Talk::why`) is there exactly where they
-/// are refused, and is a reason of just that refusal. It computes nothing: its contract is the law.
+/// command, over a desk just opened. And what is wrong with a line that is said (`Talk::why`) is a reason of just that refusal. It
+/// computes nothing: its contract is the law.
 pub fn refusals_have_reasons()
     ensures fits { (s t : Shared) (step : Step) (nodes : ℕ) (e : ScriptRefusal) (why : Option Reason) → StopsAt shared_is_open shared_does nodes s step e t
         → (e ≡ OutOfMemory → ⊥) → IsWhy t step.command why → HasReason step.command e why }
-    ensures first { (size : Size) (capacity : ℕ) (openings : List Opening) (command : Command) (e : ScriptRefusal) → IsIn size command → FailsFirst size capacity openings command e
+    ensures first { (said : Sayings) (command : Command) (e : ScriptRefusal) → IsIn said.place.size command → FailsFirst said command e
         → (e ≡ OutOfMemory → ⊥) → HasReason command e (unbegun_reason command) }
-    ensures words { (s : Standing) (words : List (List ℕ)) → IsReasonOf (command_of s words) (words_reason (place_of s) words) }
+    ensures line { (s t : Standing) (line : List ℕ) (reason : Reason) (e : ScriptRefusal) → line_read (place_of s) line ≡ Err reason → Refuses s line e t
+        → (e ≡ OutOfMemory → ⊥) → IsRefusedFor e (Some reason) }
 {}

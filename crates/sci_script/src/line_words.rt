@@ -1,12 +1,10 @@
 //! The words of a line.
 
-ghost use Rattle.std.specs.Prelude.{◌≡◌, ◌++◌, ◌∷◌, [], OnOk, filter, map};
+ghost use Rattle.std.specs.Prelude.{◌≡◌, ◌++◌, ◌∷◌, [], IfOk, OnOk, filter, map, true};
 ghost use Rattle.std.specs.List.{list_all};
 ghost use Rattle.std.specs.Str.{bytes_eq};
-ghost use Rattle.sci_script.specs.Words.{has_bytes, is_blank, is_skipped};
-ghost use Rattle.sci_script.specs.Format.{Gives, words_at};
+ghost use Rattle.sci_script.specs.Words.{has_bytes, is_blank, is_plain, is_skipped, words_of};
 
-use crate::refusals::ScriptRefusal;
 use std::alloc::AllocError;
 
 pub fn is_blank(byte: u8) -> bool
@@ -46,14 +44,10 @@ fn put_word<'a>(words: &mut Vec<&'a [u8]>, word: &'a [u8]) -> Result<(), AllocEr
     Ok(())
 }
 
-/// The words of line `number`, in the list that was used for the lines before.
-#[tactic(auto, unfolding(crate::specs::Format::words_at))]
-pub fn split_line<'a>(
-    words: &mut Vec<&'a [u8]>,
-    number: u64,
-    line: &'a [u8],
-) -> Result<(), ScriptRefusal>
-    ensures { Gives (λ _. map (λ w. w.now) words.new.items) result (words_at number line.now) }
+/// Puts the words of a line into the list that was used for the lines before, and returns whether each of its bytes may stand there.
+pub fn split_line<'a>(words: &mut Vec<&'a [u8]>, line: &'a [u8]) -> Result<bool, AllocError>
+    ensures plain { IfOk result (λ plain. plain ≡ list_all is_plain line.now) }
+    ensures words { IfOk result (λ plain. plain ≡ true → map (λ w. w.now) words.new.items ≡ words_of line.now) }
 {
     words.clear();
     let mut start = 0;
@@ -63,11 +57,11 @@ pub fn split_line<'a>(
             continue;
         }
         if !is_blank(*byte) {
-            return Err(ScriptRefusal::BadCommand(number));
+            return Ok(false);
         }
         put_word(words, &line[start..at])?;
         start = at + 1;
     }
     put_word(words, &line[start..])?;
-    Ok(())
+    Ok(true)
 }

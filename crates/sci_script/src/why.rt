@@ -1,26 +1,24 @@
 //! Why a command of a script was refused, by the desk as it stands.
 ghost use Rattle.std.specs.Prelude.{◌≡◌, ◌<◌, ◌^◌, ℕ, List, Option, Some, Err, length, slice_get, IfOk};
-ghost use Rattle.std.specs.Str.Lines.{lines};
 ghost use Rattle.sci_script.specs.declared.commands.Step.{Step};
 ghost use Rattle.sci_script.specs.declared.refusals.ScriptRefusal.{ScriptRefusal};
 ghost use Rattle.sci_script.specs.Causes.{IsRefusedFor};
-ghost use Rattle.sci_script.specs.Format.{entries_from, script_of};
-ghost use Rattle.sci_script.specs.Reasons.{IsWhy, IsUnendedBy, wait_reason, unbegun_reason, IsWhyAt, IsWhyOn, refused_line, IsWhyStopped, IsWhyScript, IsWhySaid, IsWhyOver, place_of};
+ghost use Rattle.sci_script.specs.Format.{reading_of, script_of};
+ghost use Rattle.sci_script.specs.Reasons.{IsWhy, IsUnendedBy, wait_reason, unbegun_reason, IsWhyAt, IsWhyOn, refused_line, IsWhyStopped, IsWhyScript, IsWhySaid, IsWhyTaken};
 ghost use Rattle.sci_script.specs.Run.{Leaves};
 ghost use Rattle.sci_script.specs.Shared.{Shared, shared_is_open, shared_does};
-ghost use Rattle.sci_script.specs.Size.{IsIn, IsSize};
+ghost use Rattle.sci_script.specs.Size.{IsIn};
 ghost use Rattle.sci_script.specs.Waiting.{IsAwaited};
 ghost use Rattle.sci_script.specs.Wholes.{shared_of};
 
 use crate::commands::{Command, Script};
 use crate::desk::Desk;
-use crate::faults::why_unread;
-use crate::line_commands::command;
-use crate::places::{Place, Stand};
-use crate::reader::read_script;
+use crate::reader::read_lines;
 use crate::reasons::Reason;
 use crate::refusals::ScriptRefusal;
-use crate::talk::{Front, Going, HERE, Said, Stage as TalkStage, Talk, saying};
+use crate::said::Read;
+use crate::talk::{HERE, Talk, TalkState};
+use crate::unread::Unread;
 use crate::wholes::WholeDesk;
 use sci_words::{LineNo, NodeId};
 use std::alloc::{AllocError, Global};
@@ -110,16 +108,14 @@ impl Script {
 
 /// Why a script is refused, in words: as it is read, or where it can be, as it is run. None where it isn't refused. What the reader
 /// refuses has a reason of just that refusal. Refusal 7 alone.
-#[tactic(auto, using(crate::proofs::Caused::refused_has))]
 pub fn why_script(alloc: Global, text: &[u8]) -> Result<Option<Reason>, AllocError>
-    requires { length text.now < 2 ^ 63 }
-    ensures why { IfOk result (IsWhyScript (entries_from 1 (lines text.now)) (script_of text.now)) }
+    ensures why { IfOk result (IsWhyScript (reading_of text.now)) }
     ensures unread { IfOk result (λ why. (e : ScriptRefusal) → script_of text.now ≡ Err e → IsRefusedFor e why) }
 {
-    match read_script(alloc, text) {
+    match read_lines(alloc, text) {
         Ok(script) => script.why_stopped(alloc),
-        Err(ScriptRefusal::OutOfMemory) => Err(AllocError),
-        Err(_) => why_unread(alloc, text),
+        Err(Unread::OutOfMemory) => Err(AllocError),
+        Err(Unread::Refused { reason, .. }) => Ok(Some(reason)),
     }
 }
 
@@ -133,74 +129,23 @@ fn unbegun(command: Command) -> Option<Reason>
     }
 }
 
-impl Front {
-    ghost use Rattle.std.specs.Prelude.{◌≡◌, map};
-    ghost use Rattle.sci_script.specs.Talkers.{front_of};
-    ghost use Rattle.sci_script.specs.Talks.{command_of};
-
-    fn place(&self) -> Place
-        ensures value { result ≡ place_of (front_of self.now) }
-        ensures size { IsSize result.size }
-    {
-        let stand = if self.bare {
-            Stand::Memory
-        } else {
-            Stand::Openings
-        };
-        let size = self.script.size;
-        Place { stand, size }
-    }
-
-    fn why(&self, words: &[&[u8]]) -> Result<Option<Reason>, AllocError>
-        ensures { IfOk result (IsWhyOver (front_of self.now) (command_of (front_of self.now) (map (λ w. w.now) words.now))) }
-    {
-        match saying(self.bare, self.script.size, words) {
-            Ok(Said::Commanded(command)) => Ok(unbegun(command)),
-            Err(ScriptRefusal::OutOfMemory) => Err(AllocError),
-            _ => Ok(None),
-        }
-    }
-}
-
-impl Going {
-    ghost use Rattle.std.specs.Prelude.{◌≡◌, map};
-    ghost use Rattle.sci_script.specs.Talkers.{going_of};
-    ghost use Rattle.sci_script.specs.Talks.{command_of};
-
-    fn place(&self) -> Place
-        ensures value { result ≡ place_of (going_of self.now) }
-        ensures size { IsSize result.size }
-    {
-        let size = self.desk.size;
-        Place {
-            stand: Stand::Commands,
-            size,
-        }
-    }
-
-    fn why(&self, words: &[&[u8]]) -> Result<Option<Reason>, AllocError>
-        ensures { IfOk result (IsWhyOver (going_of self.now) (command_of (going_of self.now) (map (λ w. w.now) words.now))) }
-    {
-        match command(HERE, self.desk.size, words) {
-            Ok(command) => Ok(self.desk.why(command)),
-            Err(ScriptRefusal::OutOfMemory) => Err(AllocError),
-            Err(_) => Ok(None),
-        }
-    }
-}
-
 impl Talk {
+    ghost use Rattle.std.specs.Prelude.{Ok};
+    ghost use Rattle.sci_script.specs.Size.{IsReadIn};
     ghost use Rattle.sci_script.specs.Talkers.{standing_of};
+    ghost use Rattle.sci_script.specs.Talks.{place_of};
 
-    /// Where the next line stands.
-    fn place(&self) -> Place
-        ensures value { result ≡ place_of (standing_of self.now) }
-        ensures size { IsSize result.size }
+    /// Why what a line says was refused.
+    fn why_taken(&self, read: Read) -> Option<Reason>
+        requires { IsReadIn (place_of (standing_of self.now)).size read }
+        ensures { IsWhyTaken (standing_of self.now) (Ok read) result }
     {
-        match &self.stage {
-            TalkStage::Silent => Place::first(),
-            TalkStage::Front(front) => front.place(),
-            TalkStage::Going(going) => going.place(),
+        let Read::Command(command) = read else {
+            return None;
+        };
+        match &self.state {
+            TalkState::Gathering(_) => unbegun(command),
+            TalkState::Going(going) => going.desk.why(command),
         }
     }
 
@@ -209,13 +154,10 @@ impl Talk {
         ensures { IfOk result (IsWhySaid (standing_of self.now) line.now) }
     {
         let mut words = Vec::new(self.alloc);
-        if let Some(reason) = self.place().why_line(&mut words, line)? {
-            return Ok(Some(reason));
-        }
-        match &self.stage {
-            TalkStage::Silent => Ok(None),
-            TalkStage::Front(front) => front.why(&words),
-            TalkStage::Going(going) => going.why(&words),
+        match self.place().read_line(&mut words, HERE, line) {
+            Ok(read) => Ok(self.why_taken(read)),
+            Err(Unread::OutOfMemory) => Err(AllocError),
+            Err(Unread::Refused { reason, .. }) => Ok(Some(reason)),
         }
     }
 }

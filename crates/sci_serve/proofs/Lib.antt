@@ -24,7 +24,6 @@ pub mod Along
 pub mod Going
 pub mod Kept
 pub mod Fed
-pub mod ReadRanges
 pub mod LogFollows
 pub mod LineHistories
 pub mod LinesLeft

@@ -3,7 +3,7 @@ use Rattle.std.proofs.Common.{◌≡◌, ◌∙◌, ℕ, ◌+◌, ◌<◌, ◌�
 use Rattle.std.specs.Prelude.{if◌then◌else◌, slice_index}
 use Rattle.std.specs.List.{list_all}
 use Rattle.std.proofs.lemmas.Bool.{and_parts}
-use Rattle.std.proofs.lemmas.List.Elements.{All-replicate, All-set}
+use Rattle.std.proofs.lemmas.List.Elements.{All-cons, All-nil, All-replicate, All-set}
 use Rattle.sci_core.specs.declared.lines.Line.{Line}
 use Rattle.sci_core.specs.State.{State, opened}
 use Rattle.sci_core.specs.Whole.{IsRuled}
@@ -27,6 +27,7 @@ use Rattle.sci_follow.specs.declared.logs.Log.{Log}
 use Rattle.sci_trace.specs.Entries.{log_head, opening_line}
 use Rattle.sci_trace.specs.Logging.{LogLeaves, LogStops, logs}
 use Rattle.sci_trace.specs.Telling.{Telling, telling, telling_is_open}
+use Rattle.sci_script.proofs.Fitting.{AreOpenable, AreSmall, IsSmall, StoreSmall, StoresSmall, script_read}
 use Rattle.sci_serve.specs.FollowedTurns.{IsOfLine, IsSurelyFollowed, fit}
 use Rattle.sci_serve.specs.declared.scripts.Form.{Form}
 use Rattle.sci_serve.specs.Serve.{Serves, StopsRunning}
@@ -34,7 +35,6 @@ use Rattle.sci_serve.proofs.Along.{AllAsk, Asks, leaves, prints_all}
 use Rattle.sci_serve.proofs.Fed.{AreOpenings, Holds, IsFed, NoFault, Unused, follows_so, head_fed, head_fine, stops_only, told_fed, told_fine}
 use Rattle.sci_serve.proofs.Going.{At, Goes, Leads, Sound, SoundNode, asks, call_goes, goes_none, goes_on}
 use Rattle.sci_serve.proofs.NotedBack.{opening_back, size_back}
-use Rattle.sci_serve.proofs.ReadRanges.{AreOpenable, StoreSmall, StoresSmall, script_read}
 
 -- ---- what the reader says of commands
 
@@ -71,9 +71,16 @@ all_ask size (step ∷ steps) is small =
 
 -- ---- what lines open with
 
+all_small : (values : List ℕ) → AreSmall values → All (λ v. v < 2 ^ 64) values
+all_small [] are = All-nil (λ v. v < 2 ^ 64)
+all_small (value ∷ values) are = All-cons (λ v. v < 2 ^ 64) value values are.0 (all_small values are.1)
+
+is_content : (content : Line) → IsSmall content → IsContent content
+is_content content small = record { stamp = small.0; words = all_small content.words small.2; eight = small.1 }
+
 openings_read : (size : Size) (openings : List Opening) → size.lines ≤ 1024 → AreOpenable size openings → AreOpenings size openings
 openings_read size [] few are = tt
-openings_read size (o ∷ openings) few (there, content, are) = (there, opening_back o (omega (arith, there, few)) content, openings_read size openings few are)
+openings_read size (o ∷ openings) few (there, content, are) = (there, opening_back o (omega (arith, there, few)) (is_content o.content content), openings_read size openings few are)
 
 content_if : (b : Bool) (x y : Line) → fit x.words → fit y.words → fit (if b then x else y).words
 content_if true x y h k = h
@@ -83,7 +90,7 @@ content_fits : (size : Size) (line : ℕ) (openings : List Opening) (content : L
 unfolding content_of
 content_fits size line [] content are h = h
 content_fits size line (o ∷ openings) content (there, is, are) h =
-    content_fits size line openings (if eqb o.line line then o.content else content) are (content_if (eqb o.line line) o.content content (is.eight, is.words) h)
+    content_fits size line openings (if eqb o.line line then o.content else content) are (content_if (eqb o.line line) o.content content (is.1, all_small o.content.words is.2) h)
 
 zeros_fit : fit zeros.words
 zeros_fit = (refl, All-replicate (λ (x : ℕ). x < 2 ^ 64) 8 0 (omega arith))

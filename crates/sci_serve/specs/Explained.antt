@@ -1,12 +1,11 @@
 -- Why lines are refused, in words. This project's profile.
 use Rattle.std.specs.Prelude.{◌≡◌, ◌⊎◌, ℕ, ◌<◌, ◌≤◌, Bool, true, false, ◌&&◌, List, length, Option, Some, None, Result, Ok, Err}
-use Rattle.std.specs.Str.Lines.{lines}
 use Rattle.sci_script.specs.declared.reasons.Reason.{Reason}
 use Rattle.sci_script.specs.declared.reasons.Reason.TheVariants.{TooLong}
 use Rattle.sci_script.specs.declared.refusals.ScriptRefusal.{ScriptRefusal}
 use Rattle.sci_script.specs.declared.refusals.ScriptRefusal.TheVariants.{OutOfMemory, BadCommand, BadNumber, NotDone, WriteFailed}
 use Rattle.sci_script.specs.Causes.{IsRefusedFor}
-use Rattle.sci_script.specs.Format.{entries_from, script_of}
+use Rattle.sci_script.specs.Format.{reading_of, script_of}
 use Rattle.sci_script.specs.Reasons.{IsWhyScript, IsWhySaid}
 use Rattle.sci_script.specs.Talks.{Standing}
 use Rattle.sci_serve.specs.declared.faults.SimFault.{SimFault}
@@ -22,7 +21,7 @@ is_of_line WriteFailed = false
 
 -- where the reader refuses the script, the reason is one of just that refusal
 abbrev pub IsWhyOf : Bool → List ℕ → Option Reason → Type 0
-IsWhyOf true input why = IsWhyScript (entries_from 1 (lines input)) (script_of input) why × ((e : ScriptRefusal) → script_of input ≡ Err e → IsRefusedFor e why)
+IsWhyOf true input why = IsWhyScript (reading_of input) why × ((e : ScriptRefusal) → script_of input ≡ Err e → IsRefusedFor e why)
 IsWhyOf false input why = why ≡ None
 
 -- of a script

@@ -10,9 +10,8 @@ ghost use Rattle.sci_serve.specs.Races.{race_fault_of, IsRaceToldInTime, Races, 
 
 use crate::faults::SimFault;
 use crate::input::read_input;
-use sci_endings::search_outcomes;
 use sci_outcomes::{SearchRefusal, Watch};
-use sci_races::{outcomes_text, race_after};
+use sci_races::{outcomes_text, race_after, search_outcomes};
 use sci_script::{ScriptRefusal, put, read_script};
 use std::alloc::{AllocError, Global};
 use std::io::{Read, Write};

@@ -10,4 +10,4 @@ pub returns-clause-read : goal.returns-clause-read
 returns-clause-read c = λ input script e. reads_script input script e
 
 pub returns-clause-talk : goal.returns-clause-talk
-returns-clause-talk c = λ before words command n s t heard is stopped. never_said before words command n s t heard is stopped
+returns-clause-talk c = λ before line command n s t heard is stopped. never_said before line command n s t heard is stopped

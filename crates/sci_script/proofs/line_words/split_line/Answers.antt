@@ -1,7 +1,7 @@
 use Rattle.std.proofs.Common.{◌≡◌, ◌∙◌, ℕ, List, true, false, get_or, sym, rules, tests, arith}
 use Rattle.std.specs.Char.{is_ascii_graphic}
 use Rattle.sci_script.specs.Words.{is_blank, is_plain}
-use Rattle.sci_script.proofs.Splitting.{word_first, word_last, words_more, words_end, one_more, plain_blank, plain_graphic, no_blank, line_read, line_refused}
+use Rattle.sci_script.proofs.Splitting.{word_first, word_last, words_more, words_end, one_more, plain_blank, plain_graphic, no_blank, line_odd, line_plain}
 use Rattle.sci_script.proofs.line_words.split_line.Goals as goal
 
 pub loop-at-preserved : goal.loop-at-preserved
@@ -30,14 +30,15 @@ loop-at-preserved-then-is_ascii_graphic c =
       split = i.split;
     }
 
-pub returns-then-not-is_blank : goal.returns-then-not-is_blank
-returns-then-not-is_blank c =
-    line_refused c.args.number c.args.line.now c.loop-at.at c.loop-at-test.true (sym c.is_ascii_graphic.ensures.value ∙ c.if-is_ascii_graphic.false)
-    (sym c.is_blank.ensures ∙ c.if-not-is_blank.true)
+pub returns-then-not-is_blank-clause-plain : goal.returns-then-not-is_blank-clause-plain
+returns-then-not-is_blank-clause-plain c =
+    sym (line_odd c.args.line.now c.loop-at.at c.loop-at-test.true (sym c.is_ascii_graphic.ensures.value ∙ c.if-is_ascii_graphic.false) (sym c.is_blank.ensures ∙ c.if-not-is_blank.true))
 
-pub returns : goal.returns
-returns c =
+pub returns-clause-plain : goal.returns-clause-plain
+returns-clause-plain c = sym (line_plain c.args.line.now c.loop-at.at c.loop-at-test.false c.loop-at.invariant.plain)
+
+pub returns-clause-words : goal.returns-clause-words
+returns-clause-words c = λ plain.
     let line : List ℕ = c.args.line.now in
     let i = c.loop-at.invariant in
-    line_read c.args.number line c.loop-at.at _ c.loop-at-test.false i.plain
-    (words_end _ _ _ _ _ c.in_ok-put_word-2.ensures (word_last line c.loop-at.start c.loop-at.at c.loop-at-test.false i.solid) i.split)
+    words_end _ _ _ _ _ c.in_ok-put_word-2.ensures (word_last line c.loop-at.start c.loop-at.at c.loop-at-test.false i.solid) i.split

@@ -3,7 +3,7 @@ use Rattle.sci_script.specs.Reasons.{ends, stops}
 use Rattle.sci_script.specs.Request.{no_words}
 use Rattle.sci_script.specs.Shared.{shared_is_open, shared_does}
 use Rattle.sci_script.specs.Wholes.{shared_of}
-use Rattle.sci_script.proofs.Explaining.{if_ok_then}
+use Rattle.sci_script.proofs.Reading.{if_ok_then}
 use Rattle.sci_script.proofs.Through.{prints_all, leaves}
 use Rattle.sci_script.proofs.commands.Script.why_stopped.Goals as goal
 
