@@ -1,10 +1,18 @@
 """The pages that the program draws, and the browser that opens them."""
 
 import pathlib
+import re
 import subprocess
 
 ROOT = pathlib.Path(__file__).resolve().parents[2]
 EXAMPLES = ROOT / "examples"
+# The comment in front of a script, to the end of a line where a sentence ends.
+COMMENT = re.compile(r"(?:#.*\n)*?#.*[.!?]\n|(?:#.*\n)*")
+
+
+def title_of(script):
+    """Returns the title that a page of a script has: its comment in one line. A browser shows no NUL, but a sign in its place."""
+    return " ".join(COMMENT.match(script)[0].replace("#", "").replace("\0", "\ufffd").split())
 
 
 def page_of(program, name):

@@ -22,6 +22,8 @@ for (let isNew = true; isNew;) {
 }
 const expect = (holds, text) => { if (!holds) blame(text); };
 const press = key => dispatchEvent(new KeyboardEvent("keydown", { key, cancelable: true }));
+const cardOfNode = i => document.querySelector(`.card[data-node="${i}"]`);
+const take = i => i < 10 ? press(String(i)) : cardOfNode(i).click();
 
 // The program's rows of a state, of the line in view.
 function rowsOf(s) {
@@ -48,7 +50,8 @@ function look(s) {
   arrows(s, "forw", (row => /^(?:line|node) \d+ is \w+ forw (\d+)/.exec(row)));
   arrows(s, "back", (row => /^node \d+ is .* back (\d+)/.exec(row)));
   const text = id("picture").textContent + id("turns").textContent + id("goals").textContent + id("note").textContent + id("grid").tBodies[0].lastChild.textContent;
-  expect(!/undefined|NaN|null|\[object/.test(text), `in state ${s} it says ${/.{0,30}(undefined|NaN|null|\[object).{0,20}/.exec(text)}`);
+  const wrong = /.{0,30}(undefined|NaN|null|\[object|\b1 (states|ways|outcomes|turns)\b).{0,20}/.exec(text);
+  expect(wrong === null, `in state ${s} it says ${wrong}`);
   expect(document.querySelectorAll("#grid tbody tr").length === path.length + 1, `in state ${s} its run has other rows`);
 }
 
@@ -85,13 +88,13 @@ function lastRow(s) {
   });
 }
 
-// Each turn of a state, by its key, and back.
+// Each turn of a state, by its key where it has one, and back.
 function moves(s) {
   setPath(trialWays[s]);
   show();
   look(s);
   for (const i of openNodes) {
-    const told = trialTurns[s].find(it => it.node === i), card = document.querySelector(`.card[data-node="${i}"]`);
+    const told = trialTurns[s].find(it => it.node === i), card = cardOfNode(i);
     expect(card.disabled === !told, `in state ${s} the card of node ${i} is ${card.disabled}`);
     if (told) {
       const name = told.what.startsWith("waits") ? "waits" : told.what === "only looked" ? "no exchange" : /^\w+/.exec(told.what)[0], says = card.querySelector(".says").textContent;
@@ -102,23 +105,24 @@ function moves(s) {
       const wanted = told.to === s ? "nothing changes" : outcomes.length < 2 ? "to a state" : lost.length ? "rules out " + lost.join(" ") : "then still possible: " + left.join(" ");
       expect(outcomes.length < 2 ? then.startsWith(wanted) || then === "nothing changes" : then === wanted, `in state ${s} the card of node ${i} says ${then}, and not ${wanted}`);
     }
-    press(String(i));
+    expect((card.querySelector("kbd") !== null) === (i < 10 && !card.disabled), `in state ${s} the key of node ${i} is another`);
+    take(i);
     if (told) look(told.to);
     if (told) press("Backspace");
     expect(here() === s, `a turn of node ${i} and back leads from ${s} to ${here()}`);
   }
 }
 
-// The outcomes are those that `outcomes` lists, with as many turns at least.
+// The outcomes are those that `outcomes` lists, in its order, with as many turns at least.
 function ends() {
   const texts = outcomes.map(it => {
     const s = it.ends[0], lists = states[s].lines.map((line, number) => "line " + number + " " + listIn(line));
     return openNodes.map(i => "node " + i + " " + states[s].answers[i]).concat(lists).join("\n") + "\n";
   });
   expect(COUNT === trialWanted.states, `it has ${COUNT} states`);
-  expect(texts.slice().sort().join("|") === trialWanted.outcomes.map(it => it.text).sort().join("|"), `its outcomes are ${texts.join("|")}`);
+  expect(texts.join("|") === trialWanted.outcomes.map(it => it.text).join("|"), `its outcomes are ${texts.join("|")}`);
   outcomes.forEach((it, n) => {
-    const wanted = trialWanted.outcomes.find(one => one.text === texts[n]), way = wayTo(it, 0);
+    const wanted = trialWanted.outcomes[n], way = wayTo(it, 0);
     setPath(way);
     show();
     expect(wanted && way.length === wanted.turns && outcomeOf.get(here()) === it, `outcome ${it.letter} takes ${way.length} turns`);
@@ -156,13 +160,22 @@ function runs() {
   return all;
 }
 
+// A link to a place that names no node leads nowhere.
+function brokenLink() {
+  history.replaceState(null, "", "#path=" + openNodes[0] + ",,1");
+  fromHash();
+  show();
+  expect(path.length === 0 && id("note").textContent.startsWith("The link"), `a link without a node leads to ${path}`);
+}
+
 function keys() {
   restart();
-  press(String(openNodes[0]));
+  take(openNodes[0]);
   const after = here(), hash = location.hash;
   press("ArrowLeft");
   press("ArrowRight");
   expect(here() === after && hash === "#path=" + openNodes[0], `left and right lead to ${here()}, and the link is ${hash}`);
+  restart();
   press("h");
   expect(document.querySelector(".card .ev").textContent === "?", "it shows what is to be guessed");
   press("h");
@@ -186,7 +199,10 @@ function played() {
   if (trialFaults.length === 0) ends();
   if (trialFaults.length === 0) nearest();
   delete history.replaceState;
-  if (trialFaults.length === 0) keys();
+  if (trialFaults.length === 0 && openNodes.length) brokenLink();
+  if (trialFaults.length === 0 && openNodes.length) keys();
+  expect(id("race").textContent === trialWanted.title, `its title is ${id("race").textContent}`);
+  expect(/^list \d+$/m.test(scriptText()), "its script prints no list");
   expect(document.documentElement.scrollWidth <= innerWidth, `it is ${document.documentElement.scrollWidth} wide`);
   parent.postMessage({ states: COUNT, turns, outcomes: outcomes.length, bubbles: bubbles.size, runs: runs(), faults: trialFaults }, "*");
 }

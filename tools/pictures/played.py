@@ -9,7 +9,7 @@ import json
 import pathlib
 import subprocess
 
-from pages import EXAMPLES, page_of_text
+from pages import EXAMPLES, page_of_text, title_of
 from trial import told_of
 
 HERE = pathlib.Path(__file__).resolve().parent
@@ -17,13 +17,17 @@ RESULTS = HERE / "played.txt"
 # The race of which every state and every turn is tried.
 WHOLE = "store_meets_loads"
 WIDTHS = [(1280, 900), (390, 844)]
-# A race of two lines whose script has tabs, blanks, and zeros in front of numbers.
-OTHERWISE = "(written otherwise)"
-WRITTEN = "# A store and two loads.\n memory\t03 2 \nstore 00 0 2 007\n\tload\t01 0 02\n\nload  2 1 0\n"
+# Races of no example: one of two lines whose script has tabs, blanks, returns, and zeros in front of numbers; one with a node that has no
+# key; and one without calls.
+SCRIPTS = {
+    "(written otherwise)": "# A\rstore 0 0 0 9\n# and two loads\n memory\t03 2 \r\nstore 00 0 2 007\n\tload\t01 0 02\n\nload  2 1 0\n",
+    "(a node without a key)": "# One turn!\n# One way.\nmemory 12 1\nevict 11 0\n",
+    "(no calls)": "# Nobody acts.\nmemory 2 1\n",
+}
 
 
 def wanted_of(program, script):
-    """Returns what `outcomes` lists of a race."""
+    """Returns what `outcomes` lists of a race, and its title."""
     done = subprocess.run([program, "outcomes"], check=True, input=script.encode(), stdout=subprocess.PIPE)
     head, *entries = done.stdout.decode().split("\n\n")
     lists = []
@@ -31,7 +35,7 @@ def wanted_of(program, script):
         rows = entry.strip("\n").split("\n")
         turns = [row for row in rows if row.startswith("turn ")]
         lists.append({"text": "".join(f"{row}\n" for row in rows if row not in turns), "turns": len(turns)})
-    return {"states": int(head.split()[1]), "outcomes": lists}
+    return {"states": int(head.split()[1]), "outcomes": lists, "title": title_of(script)}
 
 
 def with_trial(page, wanted, is_whole):
@@ -83,7 +87,7 @@ def stored():
 
 def run(program, browser, room, is_check):
     """Tries the pages, and keeps or compares the results. Returns how many there are, and what is wrong."""
-    scripts = {it.stem: it.read_text(encoding="utf-8") for it in sorted(EXAMPLES.glob("*.race"))} | {OTHERWISE: WRITTEN}
+    scripts = {it.stem: it.read_text(encoding="utf-8") for it in sorted(EXAMPLES.glob("*.race"))} | SCRIPTS
     pages = {name: page_of_text(program, script, "play") for name, script in scripts.items()}
     digests = {name: hashlib.sha256(page.encode()).hexdigest() for name, page in pages.items()}
     results, faults = results_of(program, browser, room, scripts, pages) if browser else ({}, [])

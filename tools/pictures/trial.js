@@ -123,13 +123,13 @@ async function keys() {
   }
 }
 
-// Beside the turns stand the script's commands, in their order, and its first comment is the title.
+// Beside the turns and behind them stand the script's commands, in their order, and its first comment is the title.
 function scripts() {
-  const comment = /^# .*?(\n# .*?)*?\.$/m.exec(trialScript)[0].replace(/\n?# /g, " ").trim();
-  expect(one("h1").textContent === comment, `its title is ${one("h1").textContent}`);
-  const beside = all("#grid .command").map(it => it.textContent).filter(it => it).join("; ").split("; ");
-  const acts = trialScript.split("\n").filter(it => /^(load|store|add|evict|turn|done|rest|end)\b/.test(it));
-  expect(acts.length === 0 || beside.join() === acts.join(), `beside its turns stands ${beside.slice(0, 3)}`);
+  expect(one("h1").textContent === trialTitle, `its title is ${one("h1").textContent}`);
+  const behind = /(?<=Behind the last turn: ).*(?=\.$)/.exec(one("#more").textContent) || "";
+  const beside = all("#grid .command").map(it => it.textContent).concat(behind).filter(it => it).join("; ");
+  const acts = trialScript.split("\n").filter(it => /^(load|store|add|evict|turn|done|rest|end)\b/.test(it)).join("; ");
+  expect(beside === acts, `beside its turns stands ${beside.slice(0, 60)}`);
 }
 
 // A key shows the grid alone; from there a turn on, and the picture again.

@@ -6,17 +6,18 @@ import json
 import pathlib
 import re
 
-from pages import EXAMPLES, browse, page_of, page_of_text
+from pages import EXAMPLES, browse, page_of, page_of_text, title_of
 
 HERE = pathlib.Path(__file__).resolve().parent
 RESULTS = HERE / "trial.txt"
 # The example whose grid must stand on one sheet of paper.
 PRINTED = "evict_in_purge"
-# Scripts of no example: one with more nodes than a picture has, and one whose Idle nodes wait for each reason that there is, but for a
-# load, which waits for no newcomer.
+# Scripts of no example: one with more nodes than a picture has, one whose comment has bytes that HTML takes otherwise, and one whose Idle
+# nodes wait for each reason that there is, but for a load, which waits for no newcomer.
 SHARERS = "load 0 0 0\ndone 0\nload 1 0 0\ndone 1\n"
 SCRIPTS = {
     "(18 nodes)": "# A crowd.\n" + "memory 18 1\n" + "".join(f"load {node} 0 0\ndone {node}\n" for node in range(18)),
+    "(bytes of a comment)": "# x\rstore 0 0 0 9\0\x7f\x0b\u2028&lt;</pre>\"\u00e9\n# and on\nmemory 2 1\r\nload 0 0 0\ndone 0\nload 1 0 0\n",
     "(Idle nodes that wait)": (
         f"# A newcomer that a load passes by, a leaver, a newcomer, a copy and a purge.\nmemory 3 1\n{SHARERS}load 2 0 0\nturn 2\nturn 2\nload 1 0 0\ndone 1\ndone 2\nevict 2 0\ndone 2\n"
         "evict 1 0\nturn 1\nturn 1\nstore 0 0 0 5\nturn 0\ndone 1\nload 2 0 0\nturn 2\n"
@@ -58,7 +59,8 @@ def with_trial(page, name):
     text = (HERE / "trial.js").read_text(encoding="utf-8")
     head, end = text.split("// --- behind the page ---\n")
     script = SCRIPTS.get(name) or (EXAMPLES / f"{name}.txt").read_text(encoding="utf-8")
-    page = page.replace("<style>", f"<script>\n{head}const trialScript = {json.dumps(script)};\n</script>\n<style>", 1)
+    head += f"const trialScript = {json.dumps(script)}, trialTitle = {json.dumps(title_of(script))};\n".replace("</", "<\\/")
+    page = page.replace("<style>", f"<script>\n{head}</script>\n<style>", 1)
     return page.replace("</body>", f"<script>\n{end}</script>\n</body>", 1)
 
 

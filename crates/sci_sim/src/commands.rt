@@ -124,7 +124,7 @@ seventh turn, #grid=7 the same without its picture, and #all shows the pictures 
 
 The grid has a row for each turn, and a column for memory and for each node: its tag, its pending step or whom it waits for, its
 links, and its bytes. A picture has the same of memory, of the list, and of the nodes that are out of it with something still to do.
-Who acts is marked, what changed is framed, stale bytes are struck out. With more than 16 nodes there is the grid alone.
+Who acts is marked, what changed is framed, stale bytes are struck out. A turn with more than 16 of these nodes has no picture.
 
 The page has the script too: its commands stand beside their turns, its first comment is the page's title, and what it opens a line
 with is what the line's copies have.

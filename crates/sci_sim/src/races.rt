@@ -23,8 +23,8 @@ Runs a script, and writes a page of HTML to standard output, on which you pick w
 begun without done. The page has every state that turns lead to, as the program found them; it is one file, needs no network, and
 shows nothing without JavaScript. `scisim script --help` lists the commands of scripts, `scisim outcomes --help` what a race is.
 
-In a browser: 0 to 9 take a turn of that node, Backspace or the left arrow takes it back, the right arrow takes it again, R
-starts again, and H hides what a turn will do until it is taken. A click on a row of the run, or on a bubble of the map, goes there.
+In a browser: a click on a node, or its key, 0 to 9, takes its turn, Backspace or the left arrow takes it back, the right arrow takes it
+again, R starts again, and H hides what a turn will do until it is taken. A click on a row of the run, or a bubble of the map, goes there.
 #path=0,1,1,2 behind the page's address opens the state behind these turns. `Script` has the run as a script, `Print` its rows.
 
 Beyond N states nothing is written. Each time that 20000 more states are visited, a line comes on standard error.

@@ -3,7 +3,8 @@ use Rattle.std.specs.Prelude.{◌≡◌, ℕ, ◌<◌, List, [], ◌∷◌, leng
 use Rattle.std.specs.List.{flat_map}
 use Rattle.sci_trace.specs.declared.coding.Coding.{Coding}
 
--- what stands for a byte: `&`, `<`, `>` and both quotes have names, every other byte stands for itself
+-- what stands for a byte: `&`, `<`, `>` and both quotes have names; a browser reads a carriage return as a line feed and drops a NUL, so
+-- these stand as their number and that of the replacement sign; every other byte stands for itself
 abbrev pub entity : ℕ → List ℕ
 entity byte =
     if byte == 38 then codes "&amp;"
@@ -11,6 +12,8 @@ entity byte =
     else if byte == 62 then codes "&gt;"
     else if byte == 34 then codes "&quot;"
     else if byte == 39 then codes "&#39;"
+    else if byte == 13 then codes "&#13;"
+    else if byte == 0 then codes "&#65533;"
     else byte ∷ []
 
 abbrev pub escaped : List ℕ → List ℕ

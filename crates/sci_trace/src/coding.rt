@@ -1,11 +1,12 @@
 //! A text as it stands in a page.
 
-ghost use Rattle.std.specs.Prelude.{◌<◌, ℕ, length, take, OnOk, OnErr};
+ghost use Rattle.std.specs.Prelude.{◌≡◌, ◌<◌, ℕ, length, take, OnOk, OnErr};
 ghost use Rattle.std.specs.Io.KnownBytes.{Appends};
 ghost use Rattle.sci_trace.specs.Coding.{entity, escaped, coded};
 
 use sci_script::{WriteFailed, put};
 use std::io::Write;
+use std::slice;
 
 /// How a text is written.
 #[derive(Clone, Copy)]
@@ -16,18 +17,19 @@ pub enum Coding {
     Escaped,
 }
 
-/// Writes what stands for a byte in a page.
-fn put_entity<W: Write>(out: &mut W, byte: u8) -> Result<(), WriteFailed>
-    ensures ok { OnOk result (Appends (W.contents out.old) (W.contents out.new) (entity byte)) }
-    ensures err { OnErr result ((n : ℕ) × (n < length (entity byte)) × Appends (W.contents out.old) (W.contents out.new) (take n (entity byte))) }
+/// What stands for a byte in a page. A browser reads a carriage return as a line feed, and drops a NUL.
+fn entity(byte: &u8) -> &[u8]
+    ensures { result.now ≡ entity byte.now }
 {
     match byte {
-        b'&' => put(out, b"&amp;"),
-        b'<' => put(out, b"&lt;"),
-        b'>' => put(out, b"&gt;"),
-        b'"' => put(out, b"&quot;"),
-        b'\'' => put(out, b"&#39;"),
-        _ => put(out, &[byte]),
+        b'&' => b"&amp;",
+        b'<' => b"&lt;",
+        b'>' => b"&gt;",
+        b'"' => b"&quot;",
+        b'\'' => b"&#39;",
+        b'\r' => b"&#13;",
+        b'\0' => b"&#65533;",
+        _ => slice::from_ref(byte),
     }
 }
 
@@ -37,7 +39,7 @@ fn put_escaped<W: Write>(out: &mut W, bytes: &[u8]) -> Result<(), WriteFailed>
     ensures err { OnErr result ((n : ℕ) × (n < length (escaped bytes.now)) × Appends (W.contents out.old) (W.contents out.new) (take n (escaped bytes.now))) }
 {
     for byte in bytes {
-        put_entity(out, *byte)?;
+        put(out, entity(byte))?;
     }
     Ok(())
 }

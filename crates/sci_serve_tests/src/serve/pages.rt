@@ -24,6 +24,7 @@ fn escapes(rt: HostRuntime) {
         ("&lt;", "&amp;lt;"),
         ("\"'", "&quot;&#39;"),
         ("</pre>", "&lt;/pre&gt;"),
+        ("# a\r\0\x7f\n", "# a&#13;&#65533;\x7f\n"),
         ("\u{e9}", "\u{e9}"),
     ];
     for (text, escaped) in table {

@@ -8,7 +8,8 @@ use crate::page::picture::picture;
 use crate::page::reading::reading;
 use crate::page::rows::rows;
 use crate::page::sentences::sentences;
+use crate::page::title::title;
 use crate::page::view::view;
 
 /// What stands behind the text.
-pub const END: &str = rows!([reading sentences view picture grid commands going joined]);
+pub const END: &str = rows!([reading sentences view picture grid title commands going joined]);

@@ -8,7 +8,8 @@ use crate::page::play::picture::play_picture;
 use crate::page::play::reading::play_reading;
 use crate::page::play::turn::play_turn;
 use crate::page::sentences::sentences;
+use crate::page::title::title;
 
 /// What stands behind the states.
 pub const END: &str =
-    play_turn!([sentences play_reading play_graph play_picture play_goals play_going joined]);
+    play_turn!([sentences title play_reading play_graph play_picture play_goals play_going joined]);
