@@ -1,4 +1,4 @@
-use Rattle.sci_shared_tests.proofs.lines.turning.look_on.Goals as goal
+use Rattle.sci_shared_tests.proofs.lines.turning.turn_in.Goals as goal
 
-pub step-requires-clause-fits : goal.step-requires-clause-fits
-step-requires-clause-fits g c = tt
+pub step-looked-requires-clause-fits : goal.step-looked-requires-clause-fits
+step-looked-requires-clause-fits g c = tt
