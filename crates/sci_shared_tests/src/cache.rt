@@ -126,20 +126,6 @@ fn done(node: &mut Node, lent: Lent, request: Request) -> Option<(u32, Answer, L
     Some((turns, answer, given_back(bank)))
 }
 
-// The names of memory's word and of a node's tag on a line.
-fn names(
-    wholes: &[Whole<AnyWords>],
-    line: usize,
-    number: u16,
-) -> Option<(&'static str, &'static str)> {
-    let node = NodeId::new(number)?;
-    let whole = wholes.get(line)?;
-    if node.get() >= whole.nodes() {
-        return None;
-    }
-    Some((mem_name(whole.mem()), name(whole.tag(node))))
-}
-
 // These are the names of memory's word and of a node's tag on a line.
 fn stands(
     rt: &impl Abort,
@@ -148,7 +134,11 @@ fn stands(
     number: u16,
     want: (&'static str, &'static str),
 ) {
-    same(rt, &names(&lent.lines, line, number), &Some(want));
+    let (Some(node), Some(whole)) = (NodeId::new(number), lent.lines.get(line)) else {
+        panic!(rt; "no such line")
+    };
+    assert!(rt; node.get() < whole.nodes());
+    same(rt, &(mem_name(whole.mem()), name(whole.tag(node))), &want);
 }
 
 // The residents of a node are these.
@@ -204,24 +194,6 @@ fn the_last_of_a_full_table_is_evicted(rt: HostRuntime) -> Result<(), Fail> {
     lists(&rt, rt.alloc(), &node, &[1])
 }
 
-// A request of such a node takes so many turns, and these are its residents after it.
-fn takes(
-    rt: &impl Abort,
-    alloc: Global,
-    node: &mut Node,
-    wholes: Lent,
-    request: Request,
-    want: (u32, &[u16]),
-) -> Result<Lent, Fail>
-    requires { node.old.lines ≡ 3 }
-    ensures { node.new.lines ≡ 3 }
-{
-    let (turns, _, wholes) = done(node, wholes, request).ok_or("no end")?;
-    let residents = node.resident(alloc)?;
-    same_at(rt, &request, &(turns, residents.as_slice()), &want);
-    Ok(wholes)
-}
-
 // Uses of a node that may name two lines: the request, its turns, and the residents after it.
 const USES: [(Request, u32, &[u16]); 8] = [
     (Request::Load { line: 0 }, 4, &[0]),
@@ -240,15 +212,16 @@ const USES: [(Request, u32, &[u16]); 8] = [
 fn the_table_goes_by_the_last_use(rt: HostRuntime) -> Result<(), Fail> {
     let mut node = made(rt.alloc(), 0, 2)?;
     let mut lines = opened(rt.alloc(), 1, 3, Line::ZERO)?;
-    for (request, turns, residents) in USES {
-        lines = takes(
+    for (request, turns, residents) in &USES {
+        let (took, _, after) = done(&mut node, lines, *request).ok_or("no end")?;
+        let named = node.resident(rt.alloc())?;
+        same_at(
             &rt,
-            rt.alloc(),
-            &mut node,
-            lines,
             request,
-            (turns, residents),
-        )?;
+            &(took, named.as_slice()),
+            &(*turns, *residents),
+        );
+        lines = after;
     }
     stands(&rt, &lines, 2, 0, ("FRESH", "ONLY_FRESH"));
     stands(&rt, &lines, 0, 0, ("HOME", "INVALID"));
@@ -279,38 +252,23 @@ const PURGES: [(Answer, u64, Answer); 2] = [
     ),
 ];
 
-// A reader sees line 0, which a writer then purges. The reader still names it.
-fn purges(
-    rt: &impl Abort,
-    reader: &mut Node,
-    writer: &mut Node,
-    wholes: Lent,
-    purge: (Answer, u64, Answer),
-) -> Result<Lent, Fail>
-    requires { (reader.old.lines ≡ 3) × (writer.old.lines ≡ 3) }
-    ensures { (reader.new.lines ≡ 3) × (writer.new.lines ≡ 3) }
-{
-    let (seen, value, wrote) = purge;
-    let load = Request::Load { line: 0 };
-    let (_, wholes) = answers(rt, reader, wholes, load, seen)?;
-    let store = Request::Store {
-        line: 0,
-        word: 0,
-        value,
-    };
-    let (_, wholes) = answers(rt, writer, wholes, store, wrote)?;
-    stands(rt, &wholes, 0, 0, ("GONE", "INVALID"));
-    Ok(wholes)
-}
-
 #[test]
 fn a_purged_line_stays_named(rt: HostRuntime) -> Result<(), Fail> {
     let mut reader = made(rt.alloc(), 0, 1)?;
     let mut writer = made(rt.alloc(), 1, 1)?;
     let mut wholes = opened(rt.alloc(), 2, 3, Line::ZERO)?;
-    for purge in PURGES {
-        wholes = purges(&rt, &mut reader, &mut writer, wholes, purge)?;
+    for (seen, value, wrote) in &PURGES {
+        let load = Request::Load { line: 0 };
+        let (_, read) = answers(&rt, &mut reader, wholes, load, *seen)?;
+        let store = Request::Store {
+            line: 0,
+            word: 0,
+            value: *value,
+        };
+        let (_, purged) = answers(&rt, &mut writer, read, store, *wrote)?;
+        stands(&rt, &purged, 0, 0, ("GONE", "INVALID"));
         lists(&rt, rt.alloc(), &reader, &[0])?;
+        wholes = purged;
     }
     // As a victim it is out at once.
     let wholes = finds_zeros(&rt, &mut reader, wholes, 1, 5)?;

@@ -1,33 +1,33 @@
 //! A line that threads share, whichever it is, as the tests of both use it.
-ghost use Rattle.std.specs.Prelude.{All, IfOk, IsTrue};
+ghost use Rattle.std.specs.Prelude.{◌≡◌, All, IfErr, IfOk, IsTrue};
+ghost use Rattle.sci_core.specs.declared.pending.Pending.TheVariants.{Idle};
 
-pub(crate) mod adding;
 mod callers;
 mod coarse;
 mod fine;
-pub(crate) mod keeping;
+mod growths;
+mod keeping;
 mod lawful;
-pub(crate) mod opening;
+mod memory;
+mod opening;
 pub(crate) mod replaying;
-pub(crate) mod stopping;
+mod stopping;
+mod threads;
 pub(crate) mod turning;
 
-use sci_core::{Closed, Event, Line, OpenRefusal, Outcome, Pending, Receipt};
+use crossbeam_utils::Backoff;
+use sci_core::{AnyWords, Closed, Event, Line, OpenRefusal, Outcome, Pending, Receipt};
 use sci_ops::{Answer, Op, Turn};
-use sci_words::{LineNo, Mem, NodeId, Tag};
-use std::alloc::{AllocError, Global};
+use sci_port::{SeatPort, SharedLine};
+use sci_words::{LineNo, NodeId};
+use std::alloc::Global;
 use std::sync::Wait;
 
-/// A line that threads share, with a seat for each node.
-pub trait SharedLine: Sized + Drop {
-    type Seat: Drop;
+/// A closed line, with each node's receipts.
+type Finished = (Closed, Vec<Vec<Receipt>>);
 
-    /// The seat is one of this very line.
-    ghost is_seat: { Self → Self.Seat → Type 0 };
-
-    /// The seat's node is Idle.
-    ghost is_at_rest: { Self.Seat → Type 0 };
-
+/// A kind of line that threads share, with what its crate alone says of it.
+pub trait TestedLine: SharedLine<Keep = AnyWords> + Sized + Drop {
     /// A line that nobody has used, and its seats in the order of the nodes.
     fn opened(
         alloc: Global,
@@ -35,71 +35,41 @@ pub trait SharedLine: Sized + Drop {
         number: LineNo,
         opening: Line,
     ) -> Result<(Self, Vec<Self::Seat>), OpenRefusal>
-        ensures { IfOk result (λ r. All (λ s. is_seat r.0 s) r.1.items) };
+        ensures { IfOk result (λ r. All (λ s. Self.is_seat r.0 s) r.1.items) };
 
-    /// The line, closed, with each node's receipts; or the refusal, with how many seats came back.
+    /// The line, closed, with each node's receipts; or the line and the seats, with the refusal.
     fn close(
         self,
         alloc: Global,
         seats: Vec<Self::Seat>,
-    ) -> Result<(Closed, Vec<Vec<Receipt>>), (u8, usize)>
-        requires seats { All (λ s. is_seat self s) seats.items }
-        requires rest { All is_at_rest seats.items };
+    ) -> Result<Finished, (Self, Vec<Self::Seat>, u8)>
+        requires seats { All (λ s. Self.is_seat self s) seats.items }
+        requires rest { All (λ s. (Self.seating s).pending ≡ Idle) seats.items }
+        ensures { IfErr result (λ e. (e.0 ≡ self) × (e.1 ≡ seats)) };
 
-    /// The seat's node.
-    fn node(seat: &Self::Seat) -> NodeId;
-
-    /// Whether the seat's node is Idle.
-    fn is_idle(seat: &Self::Seat) -> bool
-        ensures { IsTrue result → is_at_rest seat.now };
-
-    /// Readies the seat's receipts: room for so many more, and whether the next settle is only passed.
-    fn ready(&self, seat: &mut Self::Seat, room: usize, passing: bool) -> Result<(), AllocError>
-        requires { is_seat self.now seat.old }
-        ensures { is_seat self.now seat.new };
-
-    /// How many nodes the seat's port says that the line has. None: it says of itself what the seat doesn't.
-    fn nodes(&self, seat: &mut Self::Seat) -> Option<u16>
-        requires { is_seat self.now seat.old }
-        ensures { is_seat self.now seat.new };
-
-    /// The node's pending step, as its port says.
-    fn pending(&self, seat: &mut Self::Seat) -> Pending
-        requires { is_seat self.now seat.old }
-        ensures { is_seat self.now seat.new };
-
-    /// The memory word.
-    fn mem(&self, seat: &mut Self::Seat) -> Option<Mem>
-        requires { is_seat self.now seat.old }
-        ensures { is_seat self.now seat.new };
-
-    /// A node's tag. None too: there is no such node.
-    fn tag(&self, seat: &mut Self::Seat, node: NodeId) -> Option<Tag>
-        requires { is_seat self.now seat.old }
-        ensures { is_seat self.now seat.new };
+    /// What a seat says of itself: its node, its line's number, and the node's pending step.
+    fn says(seat: &Self::Seat) -> (NodeId, LineNo, Pending)
+        ensures { result.2 ≡ (Self.seating seat.now).pending };
 
     /// An event of the seat's node, if it is in turn.
-    fn step(&self, seat: &mut Self::Seat, event: Event) -> Option<Outcome>
-        requires { is_seat self.now seat.old }
-        ensures { is_seat self.now seat.new };
+    fn try_step(&self, seat: &mut Self::Seat, event: Event) -> Option<Outcome>
+        requires { Self.is_seat self.now seat.old }
+        ensures { Self.is_seat self.now seat.new };
+}
 
-    /// One turn of an operation.
-    fn turn(&self, seat: &mut Self::Seat, op: &mut Op) -> Turn
-        requires { is_seat self.now seat.old }
-        ensures { is_seat self.now seat.new };
-
-    /// Turns to the operation's end, over one port.
-    fn carry_out<R: Wait>(&self, rt: &R, seat: &mut Self::Seat, op: Op) -> Answer
-        requires { is_seat self.now seat.old }
-        ensures { is_seat self.now seat.new };
+/// Whether the seat's node is Idle.
+fn is_idle<L: TestedLine>(seat: &L::Seat) -> bool
+    ensures { IsTrue result → (L.seating seat.now).pending ≡ Idle }
+{
+    matches!(L::says(seat).2, Pending::Idle)
 }
 
 /// Whether all are Idle.
-pub(crate) fn are_idle<L: SharedLine>(seats: &[L::Seat]) -> bool
-    ensures { IsTrue result → All L.is_at_rest seats.now }
+fn are_idle<L: TestedLine>(seats: &[L::Seat]) -> bool
+    ensures { IsTrue result → All (λ s. (L.seating s).pending ≡ Idle) seats.now }
 {
     for seat in seats {
-        if !L::is_idle(seat) {
+        if !is_idle::<L>(seat) {
             return false;
         }
     }
@@ -107,27 +77,51 @@ pub(crate) fn are_idle<L: SharedLine>(seats: &[L::Seat]) -> bool
 }
 
 /// The line, closed, with each node's receipts; or the refusal, with how many seats came back. 0: a seat is not Idle.
-pub(crate) fn finished<L: SharedLine>(
+fn finished<L: TestedLine>(
     alloc: Global,
     line: L,
     seats: Vec<L::Seat>,
-) -> Result<(Closed, Vec<Vec<Receipt>>), (u8, usize)>
+) -> Result<Finished, (u8, usize)>
     requires { All (λ s. L.is_seat line s) seats.items }
 {
     if !are_idle::<L>(&seats) {
         return Err((0, seats.len()));
     }
-    line.close(alloc, seats)
+    match line.close(alloc, seats) {
+        Ok(finished) => Ok(finished),
+        Err((_, seats, refusal)) => Err((refusal, seats.len())),
+    }
 }
 
 /// The same without the receipts.
-pub(crate) fn closed<L: SharedLine>(
-    alloc: Global,
-    line: L,
-    seats: Vec<L::Seat>,
-) -> Result<Closed, (u8, usize)>
+fn closed<L: TestedLine>(alloc: Global, line: L, seats: Vec<L::Seat>) -> Result<Closed, (u8, usize)>
     requires { All (λ s. L.is_seat line s) seats.items }
 {
     let (closed, _receipts) = finished(alloc, line, seats)?;
     Ok(closed)
+}
+
+/// One turn, which leaves the port to the same seat of the same line.
+fn turn<L: TestedLine>(port: &mut SeatPort<'_, L>, op: &mut Op) -> Turn
+    ensures same_line { port.new.line ≡ port.old.line }
+    ensures same_reference { port.new.seat.ghost_name ≡ port.old.seat.ghost_name }
+{
+    op.turn(port)
+}
+
+/// Turns to the operation's end.
+fn carry_out<R: Wait, L: TestedLine>(rt: &R, line: &L, seat: &mut L::Seat, op: Op) -> Answer
+    requires { L.is_seat line.now seat.old }
+    ensures { L.is_seat line.now seat.new }
+{
+    let mut op = op;
+    let backoff = Backoff::new();
+    for _ in rt.forever() {
+        match turn(&mut SeatPort::new(line, seat), &mut op) {
+            Turn::Done(answer) => return answer,
+            Turn::Moved => backoff.reset(),
+            Turn::Waiting => backoff.snooze(),
+        }
+    }
+    unreachable!()
 }

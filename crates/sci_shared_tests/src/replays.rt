@@ -1,10 +1,8 @@
 //! Recorded runs, made again on a line under its lock word and on one on separate words.
-mod crowds;
-mod rows;
-
 use crate::lines::replaying;
 use crate::recorded::Recorded;
-use crate::recorded::rows::{Run, recorded};
+use crate::recorded::crowds::crowd;
+use crate::recorded::rows::{LAST_STAMPS, RUNS, at_once, missing, recorded};
 use sci_coarse::CoarseLine;
 use sci_core::{AnyWords, Line};
 use sci_fine::FineLine;
@@ -18,10 +16,27 @@ fn replay_run(rt: &impl Abort, alloc: Global, run: &Recorded) -> Result<(), Fail
     replaying::replay_run::<FineLine<AnyWords>>(rt, alloc, run)
 }
 
-// Records each run on a line of zeros that is lent, and makes it again.
-fn replay_runs(rt: &impl Abort, alloc: Global, runs: &[Run]) -> Result<(), Fail> {
-    for run in runs {
-        replay_run(rt, alloc, &recorded(alloc, Line::ZERO, run)?)?;
+/// Runs of one to four nodes, alone and in each other's way; writes that reach the last stamp, and go past it.
+#[test]
+fn runs_of_few_nodes(rt: HostRuntime) -> Result<(), Fail> {
+    for run in &RUNS {
+        replay_run(&rt, rt.alloc(), &recorded(rt.alloc(), Line::ZERO, run)?)?;
+    }
+    for stamp in [u64::MAX, u64::MAX - 1] {
+        let words = [0; 8];
+        let opening = Line { words, stamp };
+        let run = recorded(rt.alloc(), opening, &LAST_STAMPS)?;
+        replay_run(&rt, rt.alloc(), &run)?;
+    }
+    replay_run(&rt, rt.alloc(), &at_once(rt.alloc())?)?;
+    replay_run(&rt, rt.alloc(), &missing(rt.alloc())?)
+}
+
+/// Runs of nodes that are all at work at once: how many there are, and after how many rounds a node takes many turns at once.
+#[test]
+fn runs_of_crowds(rt: HostRuntime) -> Result<(), Fail> {
+    for (nodes, patience) in [(5, usize::MAX), (8, usize::MAX), (64, 20)] {
+        replay_run(&rt, rt.alloc(), &crowd(rt.alloc(), nodes, patience)?)?;
     }
     Ok(())
 }

@@ -57,25 +57,15 @@ fn rounds(one: &mut Node, other: &mut Node, wholes: Lent) -> Option<Lent>
     Some(lines)
 }
 
-/// Each node names a line, and then the first puts line 0 out, whose eviction comes behind the last allocation: how many turns
-/// that took, and the lines.
-fn filled(first: &mut Node, second: &mut Node, wholes: Lent) -> Option<(u32, Lent)>
+/// Each node names a line, and then the first puts line 0 out, whose eviction comes behind the last allocation; both work, and then
+/// the first puts line 1 out: how many turns its second load took, and how many lines there are.
+fn worked(first: &mut Node, second: &mut Node, wholes: Lent) -> Option<(u32, usize)>
     requires { (first.old.lines ≡ 3) × (second.old.lines ≡ 3) }
-    ensures { (first.new.lines ≡ 3) × (second.new.lines ≡ 3) }
 {
     let (_, _, wholes) = done(first, wholes, Request::Load { line: 0 })?;
     let load = Request::Load { line: 1 };
     let (_, _, wholes) = done(second, wholes, load)?;
     let (turns, _, wholes) = done(first, wholes, load)?;
-    Some((turns, wholes))
-}
-
-/// Both nodes name lines and work, and then the first puts line 1 out: how many turns its second load took, and how many lines
-/// there are.
-fn worked(first: &mut Node, second: &mut Node, wholes: Lent) -> Option<(u32, usize)>
-    requires { (first.old.lines ≡ 3) × (second.old.lines ≡ 3) }
-{
-    let (turns, wholes) = filled(first, second, wholes)?;
     let wholes = rounds(first, second, wholes)?;
     let (_, _, wholes) = done(first, wholes, Request::Evict { line: 1 })?;
     Some((turns, wholes.lines.len()))

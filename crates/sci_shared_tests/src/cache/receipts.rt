@@ -131,24 +131,16 @@ const RECEIPTS: [&[Receipt]; 3] = [
     ],
 ];
 
-// Takes these calls to their ends.
-fn called_each<R: Abort + Wait>(rt: &R, node: &mut Node, bank: &mut SoloBank<AnyWords>)
-    requires node { node.old.id ≡ bank.old.node }
-    requires lines { length bank.old.wholes.items ≡ node.old.lines }
+// Makes the calls, each of which waits for its end, over lines of its own: the lines.
+fn called_each<R: Abort + Wait>(rt: &R, alloc: Global, node: Node) -> Result<Lent, Fail>
+    requires { node.lines ≡ 3 }
 {
-    for (request, answer) in CALLS {
-        ends(rt, node, bank, request, Ok(answer));
+    let mut node = node;
+    let mut bank = of_three(opened(alloc, 1, 3, Line::ZERO)?, &node)?;
+    for (request, answer) in &CALLS {
+        ends(rt, &mut node, &mut bank, *request, Ok(*answer));
     }
-}
-
-#[test]
-fn each_call_that_waits_leaves_its_receipts(rt: HostRuntime) -> Result<(), Fail> {
-    let mut node = made(rt.alloc(), 0, 1)?;
-    let lent = opened(rt.alloc(), 1, 3, Line::ZERO)?;
-    let mut bank = of_three(lent, &node)?;
-    called_each(&rt, &mut node, &mut bank);
-    have(&rt, &given_back(bank), RECEIPTS);
-    Ok(())
+    Ok(given_back(bank))
 }
 
 // Begins these calls, and takes their turns to the end, over lines of its own: the lines.
@@ -157,15 +149,17 @@ fn begun_each(rt: &impl Abort, alloc: Global, node: Node) -> Result<Lent, Fail>
 {
     let mut node = node;
     let mut lent = opened(alloc, 1, 3, Line::ZERO)?;
-    for (request, answer) in CALLS {
-        let (_, after) = answers(rt, &mut node, lent, request, answer)?;
+    for (request, answer) in &CALLS {
+        let (_, after) = answers(rt, &mut node, lent, *request, *answer)?;
         lent = after;
     }
     Ok(lent)
 }
 
 #[test]
-fn each_call_in_turns_leaves_its_receipts(rt: HostRuntime) -> Result<(), Fail> {
+fn each_call_leaves_its_receipts(rt: HostRuntime) -> Result<(), Fail> {
+    let node = made(rt.alloc(), 0, 1)?;
+    have(&rt, &called_each(&rt, rt.alloc(), node)?, RECEIPTS);
     let node = made(rt.alloc(), 0, 1)?;
     have(&rt, &begun_each(&rt, rt.alloc(), node)?, RECEIPTS);
     Ok(())
@@ -181,11 +175,8 @@ fn have_none(rt: &impl Abort, lent: &Lent) {
 
 #[test]
 fn a_node_without_receipts_has_the_same_answers(rt: HostRuntime) -> Result<(), Fail> {
-    let mut node = made(rt.alloc(), 0, 1)?.without_receipts();
-    let lent = opened(rt.alloc(), 1, 3, Line::ZERO)?;
-    let mut bank = of_three(lent, &node)?;
-    called_each(&rt, &mut node, &mut bank);
-    have_none(&rt, &given_back(bank));
+    let node = made(rt.alloc(), 0, 1)?.without_receipts();
+    have_none(&rt, &called_each(&rt, rt.alloc(), node)?);
     let node = made(rt.alloc(), 0, 1)?.without_receipts();
     have_none(&rt, &begun_each(&rt, rt.alloc(), node)?);
     Ok(())
@@ -225,33 +216,15 @@ fn needs(
     same_at(rt, &request, &enough, &true);
 }
 
-// The request begins, needs so much room, and after its end none.
-fn needs_until_its_end(
-    rt: &impl Abort,
-    node: &mut Node,
-    bank: &mut SoloBank<AnyWords>,
-    request: Request,
-    want: [usize; 3],
-) -> Result<(), Fail>
-    requires node { (node.old.id ≡ bank.old.node) × (node.old.lines ≡ 3) }
-    requires bank { length bank.old.wholes.items ≡ 3 }
-    ensures node { (node.new.id ≡ bank.new.node) × (node.new.lines ≡ 3) }
-    ensures bank { length bank.new.wholes.items ≡ 3 }
-{
-    same_at(rt, &request, &node.begin(bank, request), &Ok(()));
-    needs(rt, node, bank, request, want);
-    ended(node, bank).ok_or("no end")?;
-    needs(rt, node, bank, request, [0; 3]);
-    Ok(())
-}
-
 #[test]
 fn calls_need_room_on_their_line_and_the_victims(rt: HostRuntime) -> Result<(), Fail> {
     let mut node = made(rt.alloc(), 0, 1)?;
-    let lent = opened(rt.alloc(), 1, 3, Line::ZERO)?;
-    let mut bank = of_three(lent, &node)?;
-    for (request, want) in NEEDS {
-        needs_until_its_end(&rt, &mut node, &mut bank, request, want)?;
+    let mut bank = of_three(opened(rt.alloc(), 1, 3, Line::ZERO)?, &node)?;
+    for (request, want) in &NEEDS {
+        same_at(&rt, request, &node.begin(&mut bank, *request), &Ok(()));
+        needs(&rt, &node, &mut bank, *request, *want);
+        ended(&mut node, &mut bank).ok_or("no end")?;
+        needs(&rt, &node, &mut bank, *request, [0; 3]);
     }
     Ok(())
 }

@@ -6,11 +6,12 @@ ghost use Rattle.sci_port.specs.declared.calls.Call.TheVariants.{MemWas};
 ghost use Rattle.sci_port.specs.SeatBanks.{MakesCall};
 
 use crate::checks::same;
+use crate::lines::TestedLine;
 use sci_cache::Node;
-use sci_coarse::{CoarseBank, CoarseLine, Seat, SeatOfAnother};
+use sci_coarse::{CoarseBank, CoarseLine, Seat};
 use sci_core::{AnyWords, Line};
 use sci_ops::Answer;
-use sci_port::{Bank, SeatBank, SharedLine};
+use sci_port::{Bank, SeatBank, SeatOfAnother, SharedLine};
 use sci_words::{Kind, LineNo, Mem, MemState};
 use std::alloc::Global;
 use std::process::Abort;
@@ -145,13 +146,6 @@ fn mem_by<L: SharedLine>(bank: &mut SeatBank<'_, L>, line: LineNo) -> Option<Mem
     bank.mem(line)
 }
 
-/// The seats are those of lines 0, 1 and so on.
-fn are_in_order(rt: &impl Abort, seats: &[Seat<AnyWords>]) {
-    for (place, seat) in seats.iter().enumerate() {
-        same(rt, &usize::from(seat.number()), &place);
-    }
-}
-
 #[test]
 fn a_node_works_over_a_bank(rt: HostRuntime) -> Result<(), Fail> {
     let (lines, seat, other) = two_lines(rt.alloc())?;
@@ -165,16 +159,23 @@ fn a_node_works_over_a_bank(rt: HostRuntime) -> Result<(), Fail> {
     same(&rt, &mem_by(&mut bank, 0).map(|mem| mem.state), &home);
     let seats = bank.into_seats();
     same(&rt, &seats.len(), &2);
-    are_in_order(&rt, &seats);
+    for (place, seat) in seats.iter().enumerate() {
+        same(&rt, &usize::from(seat.number()), &place);
+    }
     Ok(())
 }
 
-/// The refusal is 9, and hands back seats of these lines.
-fn hands_back(rt: &impl Abort, refused: &SeatOfAnother<AnyWords>, wanted: &[LineNo]) {
+/// The refusal is 9, and hands back seats of these lines and nodes.
+pub(crate) fn hands_back<L: TestedLine>(
+    rt: &impl Abort,
+    refused: &SeatOfAnother<L::Seat>,
+    wanted: &[(LineNo, u16)],
+) {
     same(rt, &refused.number(), &9);
     same(rt, &refused.seats.len(), &wanted.len());
     for (seat, want) in refused.seats.iter().zip(wanted.iter()) {
-        same(rt, &seat.number(), want);
+        let (node, number, _) = L::says(seat);
+        same(rt, &(number, node.get()), want);
     }
 }
 
@@ -185,7 +186,7 @@ fn seats_in_another_order_make_no_bank(rt: HostRuntime) -> Result<(), Fail> {
     let Err(refused) = CoarseBank::new(lines.as_slice(), seats) else {
         panic!(rt; "it is no bank")
     };
-    hands_back(&rt, &refused, &[1, 0]);
+    hands_back::<CoarseLine<AnyWords>>(&rt, &refused, &[(1, 0), (0, 0)]);
     Ok(())
 }
 
@@ -198,6 +199,6 @@ fn no_seats_make_no_bank(rt: HostRuntime) -> Result<(), Fail> {
     let Err(refused) = CoarseBank::new(lines.as_slice(), seats) else {
         panic!(rt; "it is no bank")
     };
-    hands_back(&rt, &refused, &[]);
+    hands_back::<CoarseLine<AnyWords>>(&rt, &refused, &[]);
     Ok(())
 }

@@ -3,13 +3,11 @@ ghost use Rattle.std.specs.Prelude.{◌≡◌, IfOk, IfSome, [], ◌∷◌};
 ghost use Rattle.sci_fine.specs.Banks.{AreLines, AreSeatsOf, IsLine};
 ghost use Rattle.sci_fine.specs.Seats.{IsSeatOf};
 
-use crate::checks::same;
-use crate::coarse::banks::works;
+use crate::coarse::banks::{hands_back, works};
 use sci_core::{AnyWords, Line};
-use sci_fine::{FineBank, FineLine, Seat, SeatOfAnother};
+use sci_fine::{FineBank, FineLine, Seat};
 use sci_words::LineNo;
 use std::alloc::Global;
-use std::process::Abort;
 use std::test::Fail;
 
 // A line of two nodes, with its seats.
@@ -66,15 +64,6 @@ fn a_node_works_over_a_bank(rt: HostRuntime) -> Result<(), Fail> {
     works(&rt, rt.alloc(), &mut bank)
 }
 
-/// The refusal is 9, and hands back seats of these lines and nodes.
-fn hands_back(rt: &impl Abort, refused: &SeatOfAnother<AnyWords>, wanted: &[(LineNo, u16)]) {
-    same(rt, &refused.number(), &9);
-    same(rt, &refused.seats.len(), &wanted.len());
-    for (seat, want) in refused.seats.iter().zip(wanted.iter()) {
-        same(rt, &(seat.number(), seat.node().get()), want);
-    }
-}
-
 #[test]
 fn seats_of_two_nodes_make_no_bank(rt: HostRuntime) -> Result<(), Fail> {
     let (lines, zero, _, _, one) = two_lines(rt.alloc())?;
@@ -82,7 +71,7 @@ fn seats_of_two_nodes_make_no_bank(rt: HostRuntime) -> Result<(), Fail> {
     let Err(refused) = FineBank::new(lines.as_slice(), seats) else {
         panic!(rt; "it is no bank")
     };
-    hands_back(&rt, &refused, &[(0, 0), (1, 1)]);
+    hands_back::<FineLine<AnyWords>>(&rt, &refused, &[(0, 0), (1, 1)]);
     Ok(())
 }
 
@@ -93,7 +82,7 @@ fn seats_in_another_order_make_no_bank(rt: HostRuntime) -> Result<(), Fail> {
     let Err(refused) = FineBank::new(lines.as_slice(), seats) else {
         panic!(rt; "it is no bank")
     };
-    hands_back(&rt, &refused, &[(1, 0), (0, 0)]);
+    hands_back::<FineLine<AnyWords>>(&rt, &refused, &[(1, 0), (0, 0)]);
     Ok(())
 }
 
@@ -106,6 +95,6 @@ fn no_seats_make_no_bank(rt: HostRuntime) -> Result<(), Fail> {
     let Err(refused) = FineBank::new(lines.as_slice(), seats) else {
         panic!(rt; "it is no bank")
     };
-    hands_back(&rt, &refused, &[]);
+    hands_back::<FineLine<AnyWords>>(&rt, &refused, &[]);
     Ok(())
 }

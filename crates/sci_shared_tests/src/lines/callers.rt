@@ -1,10 +1,11 @@
 //! Nodes with an operation each, which take its turns in threads of their own.
 ghost use Rattle.std.specs.Prelude.{◌≡◌, All, IfSome};
 
-use super::SharedLine;
 use super::lawful::Words;
+use super::{TestedLine, turn};
 use crossbeam_utils::Backoff;
 use sci_ops::{Answer, Op, Turn};
+use sci_port::{Port, SeatPort};
 use std::alloc::Global;
 
 /// Turns of one operation at most.
@@ -29,7 +30,7 @@ impl<S> Caller<S> {
 }
 
 /// A node for each seat, which has begun a load.
-pub(crate) fn callers<L: SharedLine>(
+pub(crate) fn callers<L: TestedLine>(
     alloc: Global,
     line: &L,
     seats: Vec<L::Seat>,
@@ -52,19 +53,22 @@ pub(crate) fn callers<L: SharedLine>(
 }
 
 /// Takes so many turns of the operation, fewer where it ends.
-pub(crate) fn take_turns<L: SharedLine>(line: &L, caller: &mut Caller<L::Seat>, turns: usize)
+pub(crate) fn take_turns<L: TestedLine>(line: &L, caller: &mut Caller<L::Seat>, turns: usize)
     requires { L.is_seat line.now caller.old.seat }
     ensures { L.is_seat line.now caller.new.seat }
 {
     for _ in 0..turns {
-        if let Turn::Done(answer) = line.turn(&mut caller.seat, &mut caller.op) {
+        if let Turn::Done(answer) = turn(
+            &mut SeatPort::new(line, &mut caller.seat),
+            &mut caller.op,
+        ) {
             caller.answer = Some(answer);
         }
     }
 }
 
 /// Takes turns until the operation has ended, or this many in a row have made no exchange.
-pub(crate) fn try_to_end<L: SharedLine>(line: &L, caller: &mut Caller<L::Seat>, patience: u32)
+pub(crate) fn try_to_end<L: TestedLine>(line: &L, caller: &mut Caller<L::Seat>, patience: u32)
     requires { L.is_seat line.now caller.old.seat }
     ensures { L.is_seat line.now caller.new.seat }
 {
@@ -75,7 +79,7 @@ pub(crate) fn try_to_end<L: SharedLine>(line: &L, caller: &mut Caller<L::Seat>, 
             return;
         }
         left -= 1;
-        match line.turn(&mut caller.seat, &mut caller.op) {
+        match turn(&mut SeatPort::new(line, &mut caller.seat), &mut caller.op) {
             Turn::Done(answer) => caller.answer = Some(answer),
             Turn::Moved => {
                 left = patience;
@@ -87,14 +91,13 @@ pub(crate) fn try_to_end<L: SharedLine>(line: &L, caller: &mut Caller<L::Seat>, 
 }
 
 // Reads memory's word and the node's own through its seat. Whether they were to be had.
-fn read_own<L: SharedLine>(line: &L, caller: &mut Caller<L::Seat>, words: &mut Words) -> bool
+fn read_own<L: TestedLine>(line: &L, caller: &mut Caller<L::Seat>, words: &mut Words) -> bool
     requires { L.is_seat line.now caller.old.seat }
     ensures { L.is_seat line.now caller.new.seat }
 {
-    let node = L::node(&caller.seat);
-    let mem = line.mem(&mut caller.seat);
-    let tag = line.tag(&mut caller.seat, node);
-    let step = line.pending(&mut caller.seat);
+    let mut port = SeatPort::new(line, &mut caller.seat);
+    let (node, step) = (port.node(), port.pending());
+    let (mem, tag) = (port.mem(), port.tag(node));
     let (Some(mem), Some(tag), Some(own)) = (mem, tag, words.nodes.get_mut(usize::from(node.get())))
     else {
         return false;
@@ -105,7 +108,7 @@ fn read_own<L: SharedLine>(line: &L, caller: &mut Caller<L::Seat>, words: &mut W
 }
 
 /// The words of a line of three nodes, each tag read through its node's seat. None: one wasn't to be had.
-pub(crate) fn words<L: SharedLine>(line: &L, callers: &mut [Caller<L::Seat>]) -> Option<Words>
+pub(crate) fn words<L: TestedLine>(line: &L, callers: &mut [Caller<L::Seat>]) -> Option<Words>
     requires { All (λ c. L.is_seat line.now c.seat) callers.old }
     ensures { All (λ c. L.is_seat line.now c.seat) callers.new }
 {

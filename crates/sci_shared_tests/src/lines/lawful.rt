@@ -41,10 +41,6 @@ impl Words {
         }
     }
 
-    fn tag(&self, node: NodeId) -> Tag {
-        self.at(node).1
-    }
-
     // The nodes along the forward links. None: one of them comes twice, or there is none of its number.
     fn chain(&self) -> Option<Chain> {
         let mut chain = [None; 3];
@@ -52,7 +48,7 @@ impl Words {
         for entry in chain.iter_mut() {
             *entry = next;
             if let Some(node) = next {
-                next = self.tag(node).forw;
+                next = self.at(node).1.forw;
             }
         }
         (next.is_none() && is_once(&chain)).then_some(chain)
@@ -61,7 +57,7 @@ impl Words {
     // Whether an entry may stand behind another. A front stands behind one that waits for it, or leaves; a body entry behind a front
     // or a body entry, which is its back link but for ROLL and PURGING.
     fn may_follow(&self, before: NodeId, entry: NodeId) -> bool {
-        let (tag, kind) = (self.tag(entry), self.tag(before).kind);
+        let (tag, kind) = (self.at(entry).1, self.at(before).1.kind);
         if !is_body(tag.kind) {
             return matches!(kind, Kind::Queued | Kind::Leaving);
         }
@@ -74,7 +70,7 @@ impl Words {
         for entry in chain {
             let fits = match (before, *entry) {
                 (_, None) => true,
-                (None, Some(head)) => !is_body(self.tag(head).kind),
+                (None, Some(head)) => !is_body(self.at(head).1.kind),
                 (Some(before), Some(entry)) => self.may_follow(before, entry),
             };
             if !fits {
@@ -92,12 +88,14 @@ impl Words {
             let Some(node) = entry else {
                 return true;
             };
-            let kind = self.tag(*node).kind;
+            let kind = self.at(*node).1.kind;
             let is_stale = kind == Kind::Fresh && self.mem.state == MemState::Gone;
             if is_stale || is_dirty(kind) && !may_be_dirty {
                 return false;
             }
-            may_be_dirty = may_be_dirty && !is_valid(kind);
+            may_be_dirty = may_be_dirty
+                && !is_dirty(kind)
+                && !matches!(kind, Kind::Fresh | Kind::Convert | Kind::Valid);
         }
         true
     }
@@ -213,14 +211,15 @@ fn is_dirty(kind: Kind) -> bool {
     matches!(kind, Kind::Dirty | Kind::Purging)
 }
 
-fn is_valid(kind: Kind) -> bool {
-    is_dirty(kind) || matches!(kind, Kind::Fresh | Kind::Convert | Kind::Valid)
-}
-
 // Whether a tag is what a node's step says of it. The links of some steps may be changed by others.
 fn is_own_word(step: &Pending, tag: Tag) -> bool {
     let (kind, forw, back) = match *step {
-        Pending::Idle => return is_resting(tag.kind),
+        Pending::Idle => {
+            return matches!(
+                tag.kind,
+                Kind::Fresh | Kind::Dirty | Kind::Valid | Kind::Invalid | Kind::Purged
+            );
+        }
         Pending::Holding { word, .. } => (word.kind, word.forw, word.back),
         Pending::Queueing { forw }
         | Pending::Fetching { forw, .. }
@@ -238,11 +237,4 @@ fn is_own_word(step: &Pending, tag: Tag) -> bool {
         Pending::Unlinked { forw, back } => (Kind::Roll, forw, Some(back)),
     };
     tag.kind == kind && tag.forw == forw && tag.back == back
-}
-
-fn is_resting(kind: Kind) -> bool {
-    matches!(
-        kind,
-        Kind::Fresh | Kind::Dirty | Kind::Valid | Kind::Invalid | Kind::Purged
-    )
 }

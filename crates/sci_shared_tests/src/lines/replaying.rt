@@ -1,50 +1,41 @@
 //! The events of recorded runs, made again on a line that threads share.
-ghost use Rattle.std.specs.Prelude.{All};
+ghost use Rattle.std.specs.Prelude.{◌≡◌, All};
 
-use super::{SharedLine, closed};
+use super::{TestedLine, closed};
 use crate::checks::same;
 use crate::recorded::Recorded;
 use crate::recorded::comparing::{is_left_as, step_whole};
-use sci_core::{AnyWords, Closed, Event, Line, Whole};
+use sci_core::{AnyWords, Event, Whole};
+use sci_port::{Port, SeatPort};
 use sci_words::NodeId;
 use std::alloc::Global;
 use std::process::Abort;
 use std::test::Fail;
 
-// A node's tag on both lines.
-fn has_tag_of<L: SharedLine>(
-    line: &L,
-    seat: &mut L::Seat,
-    whole: &Whole<AnyWords>,
-    number: u16,
-) -> bool
-    requires { L.is_seat line.now seat.old }
-    ensures { L.is_seat line.now seat.new }
+// Whether a seat's port finds the words, and its node's pending step, of the line that is lent.
+fn finds<L: TestedLine>(port: &mut SeatPort<'_, L>, whole: &Whole<AnyWords>) -> bool
+    ensures same_line { port.new.line ≡ port.old.line }
+    ensures same_reference { port.new.seat.ghost_name ≡ port.old.seat.ghost_name }
 {
-    let Some(node) = NodeId::new(number) else {
-        return false;
-    };
-    node.get() < whole.nodes() && line.tag(seat, node) == Some(whole.tag(node))
-}
-
-// Whether a seat finds the words, and its node's pending step, of the line that is lent.
-fn finds<L: SharedLine>(line: &L, seat: &mut L::Seat, whole: &Whole<AnyWords>) -> bool
-    requires { L.is_seat line.now seat.old }
-    ensures { L.is_seat line.now seat.new }
-{
-    let node = L::node(seat);
-    if node.get() >= whole.nodes() || line.pending(seat) != whole.pending(node) {
+    let me = port.node();
+    if me.get() >= whole.nodes() || port.pending() != whole.pending(me) {
         return false;
     }
-    let mut same = line.mem(seat) == Some(whole.mem());
+    let mut same = port.mem() == Some(whole.mem());
     for number in 0..whole.nodes() {
-        same = has_tag_of(line, seat, whole, number) && same;
+        let Some(node) = NodeId::new(number) else {
+            return false;
+        };
+        if node.get() >= whole.nodes() || node.get() >= port.nodes() {
+            return false;
+        }
+        same = port.tag(node) == Some(whole.tag(node)) && same;
     }
     same
 }
 
 // Makes an event on both lines. Whether outcome and words are the same.
-fn step_alike<L: SharedLine>(
+fn step_alike<L: TestedLine>(
     line: &L,
     seat: &mut L::Seat,
     whole: &mut Whole<AnyWords>,
@@ -53,14 +44,14 @@ fn step_alike<L: SharedLine>(
     requires { L.is_seat line.now seat.old }
     ensures { L.is_seat line.now seat.new }
 {
-    let wanted = step_whole(whole, L::node(seat), *event);
-    let outcome = line.step(seat, *event);
-    let same = finds(line, seat, whole);
+    let wanted = step_whole(whole, L::seat_node(seat), *event);
+    let outcome = line.try_step(seat, *event);
+    let same = finds(&mut SeatPort::new(line, seat), whole);
     same && wanted.is_some() && outcome == wanted
 }
 
 // The same, with the node's seat. Whether it was found, and outcome and words are the same.
-fn replay<L: SharedLine>(
+fn replay<L: TestedLine>(
     line: &L,
     seats: &mut [L::Seat],
     whole: &mut Whole<AnyWords>,
@@ -72,7 +63,7 @@ fn replay<L: SharedLine>(
 {
     let mut alike = false;
     for seat in seats.iter_mut() {
-        if L::node(seat) == node {
+        if L::seat_node(seat) == node {
             alike = step_alike(line, seat, whole, event);
         }
     }
@@ -80,7 +71,7 @@ fn replay<L: SharedLine>(
 }
 
 // Makes the events on both lines, and compares after each.
-fn replay_all<L: SharedLine>(
+fn replay_all<L: TestedLine>(
     rt: &impl Abort,
     line: &L,
     seats: &mut [L::Seat],
@@ -97,21 +88,8 @@ fn replay_all<L: SharedLine>(
     }
 }
 
-// Makes the events on both lines, and closes the one that threads share.
-fn left_by<L: SharedLine>(
-    rt: &impl Abort,
-    alloc: Global,
-    opening: Line,
-    whole: &mut Whole<AnyWords>,
-    events: &[(NodeId, Event)],
-) -> Option<Closed> {
-    let (line, mut seats) = L::opened(alloc, whole.nodes(), 0, opening).ok()?;
-    replay_all(rt, &line, seats.as_mut_slice(), whole, events);
-    closed(alloc, line, seats).ok()
-}
-
 /// Makes a run again on a line that is lent and on one that threads share, to the end, where no node is in a step.
-pub(crate) fn replay_run<L: SharedLine>(
+pub(crate) fn replay_run<L: TestedLine>(
     rt: &impl Abort,
     alloc: Global,
     run: &Recorded,
@@ -119,7 +97,11 @@ pub(crate) fn replay_run<L: SharedLine>(
     let events = run.trace.events().ok_or("no room")?;
     assert!(rt; !events.is_empty());
     let mut whole = Whole::open(alloc, run.nodes, 0, run.opening, AnyWords)?;
-    let left = left_by::<L>(rt, alloc, run.opening, &mut whole, events).ok_or("it is not closed")?;
+    let (line, mut seats) = L::opened(alloc, run.nodes, 0, run.opening)?;
+    replay_all(rt, &line, seats.as_mut_slice(), &mut whole, events);
+    let Ok(left) = closed(alloc, line, seats) else {
+        panic!(rt; "it is not closed")
+    };
     assert!(rt; is_left_as(&left, &whole));
     Ok(())
 }

@@ -1,10 +1,12 @@
 //! A node stops on its way to a store, and its thread ends: what loads and adds of the others come to, and what they leave.
 ghost use Rattle.std.specs.Prelude.{All};
 
-use super::SharedLine;
+use super::TestedLine;
 use super::callers::{Caller, callers, take_turns, try_to_end, words};
 use crate::checks::same_at;
-use sci_core::{Line, Pending};
+use sci_coarse::CoarseLine;
+use sci_core::{AnyWords, Line, Pending};
+use sci_fine::FineLine;
 use sci_ops::{Answer, Op};
 use sci_words::{Kind, Tag};
 use std::alloc::Global;
@@ -115,16 +117,8 @@ enum Phase {
     GoOn,
 }
 
-// Whether a node is this one, or one of both others.
-fn acts(by: Option<u16>, number: u16) -> bool {
-    match by {
-        Some(node) => number == node,
-        None => number != 0,
-    }
-}
-
 // A call of a node that hasn't stopped.
-fn call_on<L: SharedLine>(line: &L, caller: &mut Caller<L::Seat>, number: u16, call: Call)
+fn call_on<L: TestedLine>(line: &L, caller: &mut Caller<L::Seat>, number: u16, call: Call)
     requires { L.is_seat line.now caller.old.seat }
     ensures { L.is_seat line.now caller.new.seat }
 {
@@ -145,11 +139,11 @@ fn call_on<L: SharedLine>(line: &L, caller: &mut Caller<L::Seat>, number: u16, c
 }
 
 // What a node does in a phase, in its thread.
-fn act<L: SharedLine>(line: &L, caller: &mut Caller<L::Seat>, phase: Phase)
+fn act<L: TestedLine>(line: &L, caller: &mut Caller<L::Seat>, phase: Phase)
     requires { L.is_seat line.now caller.old.seat }
     ensures { L.is_seat line.now caller.new.seat }
 {
-    let number = L::node(&caller.seat).get();
+    let number = L::seat_node(&caller.seat).get();
     match phase {
         Phase::Stop(turns) => {
             if number == 0 {
@@ -158,7 +152,11 @@ fn act<L: SharedLine>(line: &L, caller: &mut Caller<L::Seat>, phase: Phase)
             }
         }
         Phase::Others(by, call) => {
-            if acts(by, number) {
+            let acts = match by {
+                Some(node) => number == node,
+                None => number != 0,
+            };
+            if acts {
                 call_on(line, caller, number, call);
             }
         }
@@ -167,7 +165,7 @@ fn act<L: SharedLine>(line: &L, caller: &mut Caller<L::Seat>, phase: Phase)
 }
 
 // A phase, each node in a thread. That of node 0 is a new one, which has ended behind the call.
-fn all_act<R: Threads + Sync, L: SharedLine + Sync>(
+fn all_act<R: Threads + Sync, L: TestedLine + Sync>(
     rt: &R,
     line: &L,
     callers: &mut [Caller<L::Seat>],
@@ -182,7 +180,7 @@ where
 }
 
 // The nodes load, one after the other.
-fn share<L: SharedLine>(line: &L, callers: &mut [Caller<L::Seat>])
+fn share<L: TestedLine>(line: &L, callers: &mut [Caller<L::Seat>])
     requires { All (λ c. L.is_seat line.now c.seat) callers.old }
     ensures { All (λ c. L.is_seat line.now c.seat) callers.new }
 {
@@ -192,7 +190,7 @@ fn share<L: SharedLine>(line: &L, callers: &mut [Caller<L::Seat>])
 }
 
 // A phase, which leaves lawful words: what node 0 is doing behind it, and its tag.
-fn after<R: Abort + Threads + Sync, L: SharedLine + Sync>(
+fn after<R: Abort + Threads + Sync, L: TestedLine + Sync>(
     rt: &R,
     line: &L,
     callers: &mut [Caller<L::Seat>],
@@ -265,7 +263,7 @@ fn check_adds<S>(rt: &impl Abort, store: Store, turns: usize, callers: &[Caller<
 }
 
 // A call of both others, at once or of this one first.
-fn both_act<R: Abort + Threads + Sync, L: SharedLine + Sync>(
+fn both_act<R: Abort + Threads + Sync, L: TestedLine + Sync>(
     rt: &R,
     line: &L,
     callers: &mut [Caller<L::Seat>],
@@ -286,19 +284,9 @@ where
     }
 }
 
-// Whether all have answered.
-fn have_ended<S>(callers: &[Caller<S>]) -> bool {
-    for caller in callers {
-        if caller.answer.is_none() {
-            return false;
-        }
-    }
-    true
-}
-
 // Node 0 stops behind so many turns; the others load, and then add. At last node 0 goes on: whether all end then. None: a word
 // was not to be had.
-fn stops_behind<R: Abort + Threads + Sync, L: SharedLine + Sync>(
+fn stops_behind<R: Abort + Threads + Sync, L: TestedLine + Sync>(
     rt: &R,
     line: &L,
     callers: &mut [Caller<L::Seat>],
@@ -324,11 +312,11 @@ where
     same_at(rt, &turns, &(left == step), &true);
     check_adds(rt, store, turns, callers, adds);
     after(rt, line, callers, turns, Phase::GoOn)?;
-    Some(have_ended(callers))
+    Some(callers.iter().all(|caller| caller.answer.is_some()))
 }
 
 // The same, on a line of its own.
-fn stops_on<R: Abort + Threads + Sync, L: SharedLine + Sync>(
+fn stops_on<R: Abort + Threads + Sync, L: TestedLine + Sync>(
     rt: &R,
     alloc: Global,
     store: Store,
@@ -344,29 +332,25 @@ where
     stops_behind(rt, &line, callers.as_mut_slice(), store, turns, first, stop)
 }
 
-// Node 0 stops wherever it is on its way. Of the others each comes first once, and once both come at once.
-fn stops_along<R: Abort + Threads + Sync, L: SharedLine + Sync>(
-    rt: &R,
-    alloc: Global,
-    store: Store,
-    stops: &[Stop],
-)
+// Node 0 stops wherever it is on its way to a store of a line that three nodes share, and of one that nobody has used. Of the
+// others each comes first once, and once both come at once.
+fn stops_anywhere<R: Abort + Threads + Sync, L: TestedLine + Sync>(rt: &R, alloc: Global)
 where
     L::Seat: Send,
 {
-    for (turns, stop) in stops.iter().enumerate() {
-        for first in [Some(1), Some(2), None] {
-            let all_end = stops_on::<R, L>(rt, alloc, store, turns, first, *stop);
-            same_at(rt, &turns, &all_end, &Some(true));
+    let stores: [(Store, &[Stop]); 2] = [(SHARED, &SHARED_STOPS), (UNUSED, &UNUSED_STOPS)];
+    for (store, stops) in stores {
+        for (turns, stop) in stops.iter().enumerate() {
+            for first in [Some(1), Some(2), None] {
+                let all_end = stops_on::<R, L>(rt, alloc, store, turns, first, *stop);
+                same_at(rt, &turns, &all_end, &Some(true));
+            }
         }
     }
 }
 
-/// Node 0 stops on its way to a store of a line that three nodes share, and of one that nobody has used.
-pub(crate) fn stops_anywhere<R: Abort + Threads + Sync, L: SharedLine + Sync>(rt: &R, alloc: Global)
-where
-    L::Seat: Send,
-{
-    stops_along::<R, L>(rt, alloc, SHARED, &SHARED_STOPS);
-    stops_along::<R, L>(rt, alloc, UNUSED, &UNUSED_STOPS);
+#[test]
+fn a_node_stops(rt: HostRuntime) {
+    stops_anywhere::<_, CoarseLine<AnyWords>>(&rt, rt.alloc());
+    stops_anywhere::<_, FineLine<AnyWords>>(&rt, rt.alloc());
 }

@@ -1,11 +1,13 @@
 //! Turns by chance, of seats of a line and on lines of a bank.
 ghost use Rattle.std.specs.Prelude.{◌≡◌, ◌<◌, All};
 
-use super::SharedLine;
+use super::{TestedLine, turn};
+use crate::checks::same;
 use sci_core::{AnyWords, Event, Outcome};
 use sci_ops::{Op, Turn};
-use sci_port::{At, Bank};
+use sci_port::{At, Bank, Port, SeatBank, SeatPort};
 use sci_words::LineNo;
+use std::process::Abort;
 
 const TURNS: u32 = 100_000;
 
@@ -25,27 +27,29 @@ fn op(kind: u32) -> Op {
 }
 
 /// One turn of a seat of a line of three nodes, behind a look. None: seat and port don't say the same of themselves.
-fn turn_of<L: SharedLine>(line: &L, seat: &mut L::Seat, op: &mut Op) -> Option<Turn>
+fn turn_of<L: TestedLine>(line: &L, seat: &mut L::Seat, op: &mut Op) -> Option<Turn>
     requires { L.is_seat line.now seat.old }
     ensures { L.is_seat line.now seat.new }
 {
-    let nodes = line.nodes(seat);
-    let looked = line.step(seat, Event::Look);
-    if nodes == Some(3) && looked == Some(Outcome::Done(None)) {
-        Some(line.turn(seat, op))
+    let said = L::says(seat);
+    let port = SeatPort::new(line, seat);
+    let is_said = said == (port.node(), port.number(), port.pending()) && port.nodes() == 3;
+    let looked = line.try_step(seat, Event::Look);
+    if is_said && looked == Some(Outcome::Done(None)) {
+        Some(turn(&mut SeatPort::new(line, seat), op))
     } else {
         None
     }
 }
 
 /// One turn of the seat of this node. None: there is no such seat.
-fn turn_at<L: SharedLine>(line: &L, seats: &mut [L::Seat], number: u16, op: &mut Op) -> Option<Turn>
+fn turn_at<L: TestedLine>(line: &L, seats: &mut [L::Seat], number: u16, op: &mut Op) -> Option<Turn>
     requires { All (λ s. L.is_seat line.now s) seats.old }
     ensures { All (λ s. L.is_seat line.now s) seats.new }
 {
     let mut taken = None;
     for seat in seats.iter_mut() {
-        if L::node(seat).get() == number {
+        if L::seat_node(seat).get() == number {
             taken = turn_of(line, seat, op);
         }
     }
@@ -53,7 +57,7 @@ fn turn_at<L: SharedLine>(line: &L, seats: &mut [L::Seat], number: u16, op: &mut
 }
 
 /// Turns by chance of three nodes, each with one operation after the other: how many of them ended.
-pub(crate) fn turns<L: SharedLine>(line: &L, seats: &mut [L::Seat]) -> Option<u32>
+pub(crate) fn turns<L: TestedLine>(line: &L, seats: &mut [L::Seat]) -> Option<u32>
     requires { All (λ s. L.is_seat line.now s) seats.old }
     ensures { All (λ s. L.is_seat line.now s) seats.new }
 {
@@ -73,27 +77,6 @@ pub(crate) fn turns<L: SharedLine>(line: &L, seats: &mut [L::Seat]) -> Option<u3
     Some(ended)
 }
 
-/// A look by a step, on a line of a bank.
-fn look_on<B: Bank<Keep = AnyWords>>(bank: &mut B, line: LineNo) -> Outcome
-    requires { line < (B.way bank.old).lines }
-    ensures { B.way bank.new ≡ B.way bank.old }
-{
-    bank.step(line, Event::Look)
-}
-
-/// Whether a bank says of a line of so many nodes what it is, and the same of its step behind loads. None: a load wasn't to be
-/// had.
-fn says_the_same<B: Bank>(bank: &mut B, line: LineNo, nodes: u16) -> Option<bool>
-    requires { line < (B.way bank.old).lines }
-    ensures { B.way bank.new ≡ B.way bank.old }
-{
-    let node = bank.node();
-    let pending = bank.pending(line);
-    let _ = (bank.mem(line)?, bank.tag(line, node)?);
-    let is_line = bank.number(line) == line && bank.nodes(line) == nodes;
-    Some(is_line && pending == bank.pending(line))
-}
-
 /// One turn on a line of a bank.
 fn turn_on<B: Bank<Keep = AnyWords>>(bank: &mut B, line: LineNo, op: &mut Op) -> Turn
     requires { line < (B.way bank.old).lines }
@@ -101,18 +84,24 @@ fn turn_on<B: Bank<Keep = AnyWords>>(bank: &mut B, line: LineNo, op: &mut Op) ->
     op.turn(&mut At::new(bank, line))
 }
 
-/// One turn on a line of a bank, behind a look and loads. None: there is no such line, or the bank says something else of it.
+/// One turn on a line of a bank, behind a look and loads. None: there is no such line, a load wasn't to be had, or the bank doesn't
+/// say of the line what it is, and the same of its step behind the loads.
 fn turn_in<B: Bank<Keep = AnyWords>>(
     bank: &mut B,
     line: LineNo,
     nodes: u16,
     op: &mut Op,
 ) -> Option<Turn> {
-    if line >= bank.lines() || !says_the_same(bank, line, nodes)? {
+    if line >= bank.lines() || bank.number(line) != line || bank.nodes(line) != nodes {
         return None;
     }
-    let looked = look_on(bank, line);
-    if bank.own(line).is_none() || looked != Outcome::Done(None) {
+    let node = bank.node();
+    let pending = bank.pending(line);
+    let _ = (bank.mem(line)?, bank.tag(line, node)?);
+    let is_same = pending == bank.pending(line);
+    let looked = bank.step(line, Event::Look);
+    let own = bank.own(line);
+    if !is_same || own.is_none() || looked != Outcome::Done(None) {
         return None;
     }
     Some(turn_on(bank, line, op))
@@ -134,4 +123,11 @@ pub(crate) fn turns_in<B: Bank<Keep = AnyWords>>(bank: &mut B, nodes: u16) -> Op
         ops[usize::from(line)] = at_work;
     }
     Some(ended)
+}
+
+/// Turns on two lines of so many nodes by a bank of seats, which gives its seats back.
+pub(crate) fn takes_turns<L: TestedLine>(rt: &impl Abort, bank: SeatBank<'_, L>, nodes: u16) {
+    let mut bank = bank;
+    assert!(rt; matches!(turns_in(&mut bank, nodes), Some(1_000..)));
+    same(rt, &bank.into_seats().len(), &2);
 }

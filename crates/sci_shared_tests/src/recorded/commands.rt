@@ -35,16 +35,6 @@ fn ends<P: Port<Keep = AnyWords>>(port: &mut P, op: &mut Op) -> bool {
     matches!(op.turn(port), Turn::Done(_))
 }
 
-// One turn, with its events recorded. Some(true): the operation has ended.
-fn turn(whole: &mut Whole<AnyWords>, trace: &mut Trace, node: NodeId, op: &mut Op) -> Option<bool> {
-    if node.get() >= whole.nodes() {
-        return None;
-    }
-    let mut receipts = Receipts::new(whole.allocator());
-    let mut solo = Solo::new(whole, &mut receipts, node);
-    Some(ends(&mut Recorder::new(&mut solo, trace), op))
-}
-
 /// So many turns, with their events recorded. Some(true): the operation has ended.
 pub(crate) fn turns(
     whole: &mut Whole<AnyWords>,
@@ -55,7 +45,12 @@ pub(crate) fn turns(
 ) -> Option<bool> {
     let mut done = false;
     for _ in 0..count {
-        done = turn(whole, trace, node, op)?;
+        if node.get() >= whole.nodes() {
+            return None;
+        }
+        let mut receipts = Receipts::new(whole.allocator());
+        let mut solo = Solo::new(whole, &mut receipts, node);
+        done = ends(&mut Recorder::new(&mut solo, trace), op);
     }
     Some(done)
 }

@@ -60,34 +60,18 @@ fn carry_out(
     None
 }
 
-// The operation of each node.
-fn operations(alloc: Global, nodes: u16, shift: u16) -> Result<Vec<Op>, Fail> {
-    let mut ops = Vec::with_capacity(alloc, usize::from(nodes))?;
-    for number in 0..nodes {
-        ops.push(operation(number, shift)?)?;
-    }
-    Ok(ops)
-}
-
-// All nodes begin an operation, take their turns one after another to the end, and do so twice more, each with another operation.
-fn record(
-    alloc: Global,
-    whole: &mut Whole<AnyWords>,
-    trace: &mut Trace,
-    patience: usize,
-) -> Result<(), Fail> {
-    for shift in 0..3 {
-        let mut ops = operations(alloc, whole.nodes(), shift)?;
-        carry_out(whole, trace, &mut ops, patience).ok_or("it did not end")?;
-    }
-    Ok(())
-}
-
-/// So many nodes, all at work at once, three times. After so many rounds of one turn a node, a node takes many at once.
+/// So many nodes, all at work at once: they begin an operation, take their turns one after another to the end, and do so twice more, each
+/// with another operation. After so many rounds of one turn a node, a node takes many at once.
 pub(crate) fn crowd(alloc: Global, nodes: u16, patience: usize) -> Result<Recorded, Fail> {
     let opening = Line::ZERO;
     let (mut whole, mut trace) = opened(alloc, nodes, opening, ROOM)?;
-    record(alloc, &mut whole, &mut trace, patience)?;
+    for shift in 0..3 {
+        let mut ops = Vec::with_capacity(alloc, usize::from(nodes))?;
+        for number in 0..nodes {
+            ops.push(operation(number, shift)?)?;
+        }
+        carry_out(&mut whole, &mut trace, &mut ops, patience).ok_or("it did not end")?;
+    }
     Ok(Recorded {
         nodes,
         opening,

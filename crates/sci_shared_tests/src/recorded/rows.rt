@@ -1,8 +1,8 @@
 //! Runs of one to four nodes, alone and in each other's way.
 use super::commands::Command::{Add, Done, Evict, Load, Store, Turns, WriteLine};
-use super::commands::{Command, Ops, record};
+use super::commands::{Command, record};
 use super::{Recorded, opened};
-use sci_core::{AnyWords, Event, Line, Whole};
+use sci_core::{Event, Line};
 use sci_ops::Op;
 use sci_port::recording::Trace;
 use sci_words::{Kind, NodeId, Tag};
@@ -22,8 +22,9 @@ const ONLY_FRESH: Tag = Tag {
     back: None,
 };
 
-/// Loads and writes, one after another and in each other's way.
-pub(crate) const READS_AND_WRITES: [Run; 7] = [
+/// Runs of one to four nodes, alone and in each other's way.
+pub(crate) const RUNS: [Run; 15] = [
+    // Loads and writes, one after another and in each other's way.
     (3, 3, &[]),
     (2, 0, &[(0, Store(5)), (0, Done), (1, Load), (1, Done)]),
     (
@@ -83,10 +84,7 @@ pub(crate) const READS_AND_WRITES: [Run; 7] = [
             (0, Done),
         ],
     ),
-];
-
-/// Nodes that leave the list, alone and in each other's way.
-pub(crate) const EXITS: [Run; 4] = [
+    // Nodes that leave the list, alone and in each other's way.
     (1, 1, &[(0, Evict), (0, Done), (0, Evict), (0, Done)]),
     (3, 3, &[(0, Store(5)), (0, Turns(18)), (1, Load), (1, Done)]),
     (
@@ -114,10 +112,7 @@ pub(crate) const EXITS: [Run; 4] = [
             (3, Done),
         ],
     ),
-];
-
-/// Readers that come while a node leaves, writes, or has found HOME to write.
-pub(crate) const LATE_COMERS: [Run; 4] = [
+    // Readers that come while a node leaves, writes, or has found HOME to write.
     (
         2,
         1,
@@ -198,46 +193,20 @@ pub(crate) const LAST_STAMPS: Run = (
     ],
 );
 
-// Records the loads of so many nodes, and what they do then.
-fn record_run(
-    whole: &mut Whole<AnyWords>,
-    trace: &mut Trace,
-    sharers: u16,
-    commands: &[(u16, Command)],
-) -> Option<()> {
-    let mut ops = [Op::load(); 4];
-    for sharer in 0..sharers {
-        record(whole, trace, &mut ops, &[(sharer, Done)])?;
-    }
-    record(whole, trace, &mut ops, commands)
-}
-
-/// Records a run on a line with this opening.
+/// Records a run on a line with this opening: loads of so many nodes, and what they do then.
 pub(crate) fn recorded(alloc: Global, opening: Line, run: &Run) -> Result<Recorded, Fail> {
     let (nodes, sharers, commands) = *run;
     let (mut whole, mut trace) = opened(alloc, nodes, opening, ROOM)?;
-    record_run(&mut whole, &mut trace, sharers, commands).ok_or("no node")?;
+    let mut ops = [Op::load(); 4];
+    for sharer in 0..sharers {
+        record(&mut whole, &mut trace, &mut ops, &[(sharer, Done)]).ok_or("no node")?;
+    }
+    record(&mut whole, &mut trace, &mut ops, commands).ok_or("no node")?;
     Ok(Recorded {
         nodes,
         opening,
         trace,
     })
-}
-
-// All three nodes begin their operations, and take their turns one after another.
-fn meet(
-    whole: &mut Whole<AnyWords>,
-    trace: &mut Trace,
-    ops: &mut Ops,
-    begun: &[Command; 3],
-) -> Option<()> {
-    let [zero, one, two] = *begun;
-    record(whole, trace, ops, &[(0, zero), (1, one), (2, two)])?;
-    for _ in 0..40 {
-        let turns = [(0, Turns(1)), (1, Turns(1)), (2, Turns(1))];
-        record(whole, trace, ops, &turns)?;
-    }
-    Some(())
 }
 
 /// What three nodes begin at once, four times.
@@ -248,13 +217,18 @@ const AT_ONCE: [[Command; 3]; 4] = [
     [Add(1, 4), Add(1, 4), Evict],
 ];
 
-/// Three nodes that are all at work at once, four times.
+/// Three nodes that are all at work at once, four times: they take their turns one after another.
 pub(crate) fn at_once(alloc: Global) -> Result<Recorded, Fail> {
     let (nodes, opening) = (3, Line::ZERO);
     let (mut whole, mut trace) = opened(alloc, nodes, opening, ROOM)?;
     let mut ops = [Op::load(); 4];
-    for begun in &AT_ONCE {
-        meet(&mut whole, &mut trace, &mut ops, begun).ok_or("no node")?;
+    for [zero, one, two] in &AT_ONCE {
+        let begun = [(0, *zero), (1, *one), (2, *two)];
+        record(&mut whole, &mut trace, &mut ops, &begun).ok_or("no node")?;
+        for _ in 0..40 {
+            let turns = [(0, Turns(1)), (1, Turns(1)), (2, Turns(1))];
+            record(&mut whole, &mut trace, &mut ops, &turns).ok_or("no node")?;
+        }
     }
     Ok(Recorded {
         nodes,

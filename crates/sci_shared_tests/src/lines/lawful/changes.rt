@@ -1,13 +1,13 @@
 //! Words that are lawful, and each of their changes, which is not.
 use super::{INVALID, Words};
-use crate::checks::same_at;
+use crate::checks::{same, same_at};
 use sci_core::{Line, Pending};
 use sci_words::{Kind, Mem, MemState, NodeId, Tag};
 use std::process::Abort;
 use std::test::Fail;
 
 /// One place that is changed: memory's word, or a node's tag or pending step.
-#[derive(Clone, Copy, Debug)]
+#[derive(Clone, Copy)]
 enum Change {
     Mem(MemState, bool, Option<NodeId>),
     Tag(usize, Tag),
@@ -21,12 +21,6 @@ fn tag(kind: Kind, forw: Option<NodeId>, back: Option<NodeId>) -> Tag {
         forw,
         back,
     }
-}
-
-fn held(tag: Tag) -> Tag {
-    let mut held = tag;
-    held.held = true;
-    held
 }
 
 fn changed(words: Words, change: Change) -> Words {
@@ -49,9 +43,9 @@ fn changed(words: Words, change: Change) -> Words {
 
 // Words are lawful, and not so with any of these changes.
 fn check(rt: &impl Abort, words: Words, changes: &[Change]) {
-    same_at(rt, &"no change", &words.are_lawful(), &true);
-    for change in changes {
-        same_at(rt, change, &changed(words, *change).are_lawful(), &false);
+    same(rt, &words.are_lawful(), &true);
+    for (place, change) in changes.iter().enumerate() {
+        same_at(rt, &place, &changed(words, *change).are_lawful(), &false);
     }
 }
 
@@ -107,7 +101,13 @@ fn a_list_of_three_and_its_changes(rt: HostRuntime) -> Result<(), Fail> {
             Change::Tag(2, tag(Kind::Valid, Some(one), Some(zero))),
             Change::Tag(2, tag(Kind::Dirty, Some(one), None)),
             // nobody does what these say
-            Change::Tag(1, held(tag(Kind::Valid, Some(zero), Some(two)))),
+            Change::Tag(
+                1,
+                Tag {
+                    held: true,
+                    ..tag(Kind::Valid, Some(zero), Some(two))
+                },
+            ),
             Change::Tag(1, tag(Kind::Roll, Some(zero), Some(two))),
             Change::Tag(1, tag(Kind::Purged, Some(zero), Some(two))),
             Change::Tag(2, tag(Kind::Queued, Some(one), None)),

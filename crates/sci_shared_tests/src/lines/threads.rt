@@ -1,62 +1,96 @@
-//! Threads on one line: loads by three nodes, and four threads of loads, stores, additions and evictions by eight.
+//! Threads on one line: additions by two nodes, loads by three, and four threads of loads, stores, additions and evictions by eight.
 ghost use Rattle.std.specs.Prelude.{All};
 ghost use Rattle.sci_fine.specs.Seats.{IsSeatOf};
 
+use super::{TestedLine, carry_out, closed};
 use crate::checks::same;
-use crate::lines::{SharedLine, closed};
+use sci_coarse::CoarseLine;
 use sci_core::{AnyWords, Closed, Line};
 use sci_fine::{FineLine, Seat};
 use sci_ops::{Answer, Op};
 use sci_words::Kind;
+use std::alloc::Global;
 use std::process::Abort;
 use std::sync::Wait;
 use std::test::Fail;
 use std::thread;
 use std::thread::Threads;
 
-/// Operations of each node.
+/// Additions of each of two nodes.
+const ADDS: u64 = 1_000;
+
+/// Operations of each of eight nodes.
 const STEPS: u64 = 12_500;
 
-/// Nodes of the line, two to a thread.
+/// These nodes, two to a thread.
 const NODES: u64 = 8;
 
-// A node's load.
-fn load_once<R: Wait>(rt: &R, line: &FineLine<AnyWords>, seat: &mut Seat<AnyWords>)
-    requires { IsSeatOf line.now seat.old }
-    ensures { IsSeatOf line.now seat.new }
+// A node's operation, so often.
+fn repeat<R: Wait, L: TestedLine>(rt: &R, line: &L, seat: &mut L::Seat, op: Op, times: u64)
+    requires { L.is_seat line.now seat.old }
+    ensures { L.is_seat line.now seat.new }
 {
-    let _ = line.carry_out(rt, seat, Op::load());
+    for _ in 0..times {
+        let _ = carry_out(rt, line, seat, op);
+    }
 }
 
-// Three threads, each with its own seat.
-fn all_load<R: Threads + Wait + Sync>(
+// Of up to three nodes each does so, in a thread of its own.
+fn all_repeat<R: Threads + Wait + Sync, L: TestedLine + Sync>(
     rt: &R,
-    line: &FineLine<AnyWords>,
-    seats: &mut [Seat<AnyWords>],
+    line: &L,
+    seats: &mut [L::Seat],
+    op: Op,
+    times: u64,
 )
-    requires { All (λ s. IsSeatOf line.now s) seats.old }
-    ensures { All (λ s. IsSeatOf line.now s) seats.new }
+where
+    L::Seat: Send,
+    requires { All (λ s. L.is_seat line.now s) seats.old }
+    ensures { All (λ s. L.is_seat line.now s) seats.new }
 {
-    thread::for_each_mut(rt, seats, 3, &|_, seat| load_once(rt, line, seat));
+    thread::for_each_mut(rt, seats, 3, &|_, seat| repeat(rt, line, seat, op, times));
 }
 
-// How many entries of a closed line are valid.
-fn sharers(closed: &Closed) -> usize {
-    closed
-        .tags
-        .iter()
-        .filter(|tag| matches!(tag.kind, Kind::Fresh | Kind::Dirty | Kind::Valid))
-        .count()
+// Two threads add on a line of two nodes, and nothing is lost: what they added is in the line, with a stamp for each.
+fn adds_by_two<R: Abort + Threads + Wait + Sync, L: TestedLine + Sync>(
+    rt: &R,
+    alloc: Global,
+) -> Result<(), Fail>
+where
+    L::Seat: Send,
+{
+    let add = Op::add(0, 1).ok().ok_or("no such word")?;
+    let (line, mut seats) = L::opened(alloc, 2, 0, Line::ZERO)?;
+    all_repeat(rt, &line, seats.as_mut_slice(), add, ADDS);
+    let Ok(closed) = closed(alloc, line, seats) else {
+        panic!(rt; "it was refused")
+    };
+    let head = closed.mem.forw.ok_or("no list")?;
+    let line = closed.lines.get(usize::from(head.get())).ok_or("no line")?;
+    same(rt, &line.words[0], &(2 * ADDS));
+    same(rt, &line.stamp, &(2 * ADDS));
+    Ok(())
+}
+
+#[test]
+fn two_threads_add(rt: HostRuntime) -> Result<(), Fail> {
+    adds_by_two::<_, CoarseLine<AnyWords>>(&rt, rt.alloc())?;
+    adds_by_two::<_, FineLine<AnyWords>>(&rt, rt.alloc())
 }
 
 #[test]
 fn three_threads_load(rt: HostRuntime) -> Result<(), Fail> {
-    let (line, mut seats) = FineLine::opened(rt.alloc(), 3, 0, Line::ZERO)?;
-    all_load(&rt, &line, seats.as_mut_slice());
+    let (line, mut seats) = FineLine::<AnyWords>::opened(rt.alloc(), 3, 0, Line::ZERO)?;
+    all_repeat(&rt, &line, seats.as_mut_slice(), Op::load(), 1);
     let Ok(left) = closed(rt.alloc(), line, seats) else {
         panic!(rt; "the nodes are not done")
     };
-    same(&rt, &sharers(&left), &3);
+    let sharers = left
+        .tags
+        .iter()
+        .filter(|tag| matches!(tag.kind, Kind::Fresh | Kind::Dirty | Kind::Valid))
+        .count();
+    same(&rt, &sharers, &3);
     Ok(())
 }
 
@@ -132,15 +166,6 @@ fn is_of_a_store(answer: &Answer) -> bool {
     }
 }
 
-// One operation of a node.
-fn serve<R: Wait>(rt: &R, line: &FineLine<AnyWords>, seat: &mut Seat<AnyWords>, step: u64) -> Answer
-    requires { IsSeatOf line.now seat.old }
-    ensures { IsSeatOf line.now seat.new }
-{
-    let op = operation(u64::from(seat.node().get()), step);
-    line.carry_out(rt, seat, op)
-}
-
 // One operation of each of these nodes.
 fn serve_all<R: Abort + Wait>(
     rt: &R,
@@ -152,7 +177,8 @@ fn serve_all<R: Abort + Wait>(
     ensures { All (λ s. IsSeatOf line.now s) seats.new }
 {
     for seat in seats.iter_mut() {
-        let answer = serve(rt, line, seat, step);
+        let op = operation(u64::from(seat.node().get()), step);
+        let answer = carry_out(rt, line, seat, op);
         assert!(rt; is_of_a_store(&answer));
     }
 }
@@ -191,7 +217,7 @@ fn adds_up<R: Abort>(rt: &R, closed: &Closed) -> Result<(), Fail> {
 
 #[test]
 fn four_threads_work(rt: HostRuntime) -> Result<(), Fail> {
-    let (line, mut seats) = FineLine::opened(rt.alloc(), 8, 0, Line::ZERO)?;
+    let (line, mut seats) = FineLine::<AnyWords>::opened(rt.alloc(), 8, 0, Line::ZERO)?;
     all_work(&rt, &line, seats.as_mut_slice());
     let Ok(left) = closed(rt.alloc(), line, seats) else {
         panic!(rt; "the nodes are not done")

@@ -2,13 +2,13 @@
 //! this test passes. tools/allocations runs it once for each growth of its table, with that one refused, and the test ends by
 //! saying which call answered it.
 ghost use Rattle.std.specs.Prelude.{All};
-ghost use Rattle.sci_fine.specs.Seats.{IsSeatOf};
 
+use super::opening::{OPENING, is_unused};
+use super::{TestedLine, are_idle, carry_out, closed, is_idle};
 use crate::checks::{same, same_at};
-use crate::lines::opening::{OPENING, is_unused};
-use crate::lines::{SharedLine, closed};
+use sci_coarse::CoarseLine;
 use sci_core::{AnyWords, Closed, OpenRefusal};
-use sci_fine::{FineLine, FinishRefusal, Seat};
+use sci_fine::FineLine;
 use sci_ops::{Answer, Op};
 use sci_words::{MemState, NodeId};
 use std::alloc::Global;
@@ -16,71 +16,70 @@ use std::process::Abort;
 use std::sync::Wait;
 use std::test::Fail;
 
-fn are_as_before(rt: &impl Abort, seats: &[Seat<AnyWords>]) {
+fn are_as_before<L: TestedLine>(rt: &impl Abort, seats: &[L::Seat]) {
     same(rt, &seats.len(), &2);
     for (place, seat) in seats.iter().enumerate() {
-        same(rt, &usize::from(seat.node().get()), &place);
-        same(rt, &seat.number(), &u16::MAX);
-        assert!(rt; FineLine::is_idle(seat));
+        let (node, number, _) = L::says(seat);
+        same(rt, &(usize::from(node.get()), number), &(place, u16::MAX));
+        assert!(rt; is_idle::<L>(seat));
     }
 }
 
 // A second try to open has the memory.
-fn opens_again(rt: &impl Abort, alloc: Global, refusal: OpenRefusal) -> Result<(), Fail> {
+fn opens_again<L: TestedLine>(
+    rt: &impl Abort,
+    alloc: Global,
+    refusal: OpenRefusal,
+) -> Result<(), Fail> {
     same(rt, &refusal, &OpenRefusal::OutOfMemory);
     same(rt, &refusal.number(), &7);
-    let (_, seats) = FineLine::new(alloc, 2, u16::MAX, OPENING, AnyWords)?;
-    are_as_before(rt, &seats);
+    let (_, seats) = L::opened(alloc, 2, u16::MAX, OPENING)?;
+    are_as_before::<L>(rt, &seats);
     Err(Fail::new("new answered 7"))
 }
 
-fn refuses(rt: &impl Abort, alloc: Global) -> Result<(), Fail> {
-    let (line, seats) = match FineLine::new(alloc, 2, u16::MAX, OPENING, AnyWords) {
+fn refuses<L: TestedLine>(rt: &impl Abort, alloc: Global) -> Result<(), Fail> {
+    let (line, seats) = match L::opened(alloc, 2, u16::MAX, OPENING) {
         Ok(opened) => opened,
-        Err(refusal) => return opens_again(rt, alloc, refusal),
+        Err(refusal) => return opens_again::<L>(rt, alloc, refusal),
     };
-    match line.finish(alloc, seats) {
-        Ok(finished) => is_unused(rt, &finished.closed),
-        Err(
-            FinishRefusal {
-                line,
-                seats,
-                refusal,
-            },
-        ) => {
-            // (told to the prover too: then the seats are as before)
-            assert!(rt; refusal == 7);
-            are_as_before(rt, &seats);
-            let Ok(finished) = line.finish(alloc, seats) else {
+    assert!(rt; are_idle::<L>(&seats));
+    match line.close(alloc, seats) {
+        Ok((closed, _)) => is_unused(rt, &closed),
+        Err((line, seats, refusal)) => {
+            same(rt, &refusal, &7);
+            are_as_before::<L>(rt, &seats);
+            let Ok((closed, _)) = line.close(alloc, seats) else {
                 panic!(rt; "it was refused again")
             };
-            is_unused(rt, &finished.closed);
+            is_unused(rt, &closed);
             return Err(Fail::new("finish answered 7"));
         }
     }
     Ok(())
 }
 
-/// Growths: 5 of new, 3 of finish.
+/// Growths: 7 of new, 3 of finish, 5 of new, 3 of finish.
 #[test]
 fn refused_growths(rt: HostRuntime) -> Result<(), Fail> {
-    refuses(&rt, rt.alloc())
+    refuses::<CoarseLine<AnyWords>>(&rt, rt.alloc())?;
+    refuses::<FineLine<AnyWords>>(&rt, rt.alloc())
 }
 
 // The seat of this node carries out a load. None: there is no such seat.
-fn load_by<R: Wait>(
+fn load_by<R: Wait, L: TestedLine>(
     rt: &R,
-    line: &FineLine<AnyWords>,
-    seats: &mut [Seat<AnyWords>],
+    line: &L,
+    seats: &mut [L::Seat],
     number: u16,
 ) -> Option<Answer>
-    requires { All (λ s. IsSeatOf line.now s) seats.old }
-    ensures { All (λ s. IsSeatOf line.now s) seats.new }
+    requires { All (λ s. L.is_seat line.now s) seats.old }
+    ensures { All (λ s. L.is_seat line.now s) seats.new }
 {
     let mut answer = None;
     for seat in seats.iter_mut() {
-        if seat.node().get() == number {
-            answer = Some(line.carry_out(rt, seat, Op::load()));
+        if L::seat_node(seat).get() == number {
+            answer = Some(carry_out(rt, line, seat, Op::load()));
         }
     }
     answer

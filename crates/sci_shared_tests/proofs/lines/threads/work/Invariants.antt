@@ -1,6 +1,6 @@
 use Rattle.std.specs.Prelude.{All}
 use Rattle.sci_fine.specs.Seats.{IsSeatOf}
-use Rattle.sci_shared_tests.proofs.fine.threads.work.Given as goal
+use Rattle.sci_shared_tests.proofs.lines.threads.work.Given as goal
 
 abbrev pub invariant-loop-step : goal.invariant-loop-step
 invariant-loop-step g l = All (λ s. IsSeatOf l.line s) l.seats

@@ -1,4 +1,0 @@
-use Rattle.sci_shared_tests.proofs.coarse.memory.look.Goals as goal
-
-pub step-requires-clause-fits : goal.step-requires-clause-fits
-step-requires-clause-fits c = tt
