@@ -58,6 +58,7 @@ impl Draft {
     }
 
     /// What line `number` says, behind what was said so far. Where memory is refused, that stays as it was.
+    #[inline(always)]
     pub(crate) fn take(&mut self, alloc: Global, number: u64, read: Read) -> Result<(), AllocError>
         requires { IsReadIn self.old.script.size read }
         ensures ok { OnOk result (sayings_of self.new ≡ with_read (sayings_of self.old) number read) }

@@ -45,6 +45,7 @@ fn put_word<'a>(words: &mut Vec<&'a [u8]>, word: &'a [u8]) -> Result<(), AllocEr
 }
 
 /// Puts the words of a line into the list that was used for the lines before, and returns whether each of its bytes may stand there.
+#[inline(always)]
 pub fn split_line<'a>(words: &mut Vec<&'a [u8]>, line: &'a [u8]) -> Result<bool, AllocError>
     ensures plain { IfOk result (λ plain. plain ≡ list_all is_plain line.now) }
     ensures words { IfOk result (λ plain. plain ≡ true → map (λ w. w.now) words.new.items ≡ words_of line.now) }

@@ -73,6 +73,7 @@ impl Place {
     }
 
     /// What a command says here with these words behind its name.
+    #[inline(always)]
     #[tactic(auto, unfolding(crate::specs::Grammar::verb_read))]
     fn read_verb(&self, verb: Verb, args: &[&[u8]]) -> Result<Read, Reason>
         requires { IsSize self.now.size }
@@ -97,6 +98,7 @@ impl Place {
     }
 
     /// What these words say here.
+    #[inline(always)]
     pub(crate) fn read(&self, words: &[&[u8]]) -> Result<Read, Reason>
         requires { IsSize self.now.size }
         ensures { result ≡ words_read self.now (map (λ w. w.now) words.now) }
@@ -111,6 +113,7 @@ impl Place {
     }
 
     /// What line `number`, which isn't skipped, says here; its words are put into the list that was used for the lines before.
+    #[inline(always)]
     pub(crate) fn read_line<'a>(
         &self,
         words: &mut Vec<&'a [u8]>,

@@ -84,6 +84,7 @@ fn begin(numbers: &[u64; 10], request: Request) -> Read
 }
 
 /// What this command says with these numbers, which are in their ranges.
+#[inline(always)]
 pub(crate) fn said(size: Size, verb: Verb, numbers: &[u64; 10]) -> Read
     requires size { IsSize size }
     requires range { AreFrom size 0 (arguments_of verb) numbers.now }

@@ -41,6 +41,7 @@ pub(crate) enum Argument {
 
 /// The command of this name.
 #[tactic(auto, unfolding(crate::specs::Grammar::verb_of))]
+#[inline(always)]
 pub(crate) fn verb_named(name: &[u8]) -> Option<Verb>
     ensures { result ≡ verb_of name.now }
 {
