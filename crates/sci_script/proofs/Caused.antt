@@ -17,7 +17,7 @@ use Rattle.sci_script.specs.declared.refusals.ScriptRefusal.{ScriptRefusal}
 use Rattle.sci_script.specs.declared.refusals.ScriptRefusal.TheVariants.{OutOfMemory, BadCommand, BadNumber, NotDone, WriteFailed}
 use Rattle.sci_script.specs.Causes.{refused_for, IsRefusedFor, HasReason}
 use Rattle.sci_script.specs.Event.{Turned, IsNoEnd}
-use Rattle.sci_script.specs.Reasons.{IsWhy, IsUnendedBy, wait_reason, unbegun_reason}
+use Rattle.sci_script.specs.Reasons.{IsWhy, IsUnendedBy, IsWhySaid, IsWhyTaken, wait_reason, unbegun_reason}
 use Rattle.sci_script.specs.Run.{Unended, StopsAt}
 use Rattle.sci_script.specs.ScriptText.{Opens}
 use Rattle.sci_script.specs.Shared.{Shared, TakesTurnOf, shared_is_open, shared_does}
@@ -154,7 +154,10 @@ pub first_fits : (said : Sayings) (command : Command) (e : ScriptRefusal) → Is
 first_fits said command e inside (s, end, o, h) some = first_by said.place.size said.capacity said.openings command e s end inside o h some
 
 -- and of a line that isn't taken
-pub line_fits : (s t : Standing) (line : List ℕ) (reason : Reason) (e : ScriptRefusal) → line_read (place_of s) line ≡ Err reason → Refuses s line e t → (e ≡ OutOfMemory → ⊥) → IsRefusedFor e (Some reason)
-line_fits s t line reason e is (kept, h) some =
+pub line_fits : (s t : Standing) (line : List ℕ) (reason : Reason) (e : ScriptRefusal) (why : Option Reason) → line_read (place_of s) line ≡ Err reason → Refuses s line e t → (e ≡ OutOfMemory → ⊥) → IsWhySaid t line why
+    → IsRefusedFor e why
+line_fits s t line reason e why is (kept, h) some told =
     let (refused, same) = subst (λ (r : Result Read Reason). Declines s r e t) is h in
-    (1, reason, refl, ⊎_elim (λ out. absurd (some out)) (λ is_for. is_for) refused)
+    let here = subst (λ (x : Standing). IsWhySaid x line why) same told in
+    let given : why ≡ Some reason = subst (λ (r : Result Read Reason). IsWhyTaken s r why) is here in
+    (1, reason, given, ⊎_elim (λ out. absurd (some out)) (λ is_for. is_for) refused)

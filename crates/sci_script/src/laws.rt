@@ -13,7 +13,7 @@ ghost use Rattle.sci_script.specs.declared.refusals.ScriptRefusal.TheVariants.{O
 ghost use Rattle.sci_script.specs.Causes.{HasReason, IsRefusedFor};
 ghost use Rattle.sci_script.specs.Format.{Sayings, script_of};
 ghost use Rattle.sci_script.specs.Grammar.{line_read};
-ghost use Rattle.sci_script.specs.Reasons.{IsUndoneOf, IsWhy, unbegun_reason};
+ghost use Rattle.sci_script.specs.Reasons.{IsUndoneOf, IsWhy, IsWhySaid, unbegun_reason};
 ghost use Rattle.sci_script.specs.Event.{Turned};
 ghost use Rattle.sci_script.specs.Passed.{shared_passes};
 ghost use Rattle.sci_script.specs.Request.{no_words};
@@ -70,6 +70,6 @@ pub fn refusals_have_reasons()
         → (e ≡ OutOfMemory → ⊥) → IsWhy t step.command why → HasReason step.command e why }
     ensures first { (said : Sayings) (command : Command) (e : ScriptRefusal) → IsIn said.place.size command → FailsFirst said command e
         → (e ≡ OutOfMemory → ⊥) → HasReason command e (unbegun_reason command) }
-    ensures line { (s t : Standing) (line : List ℕ) (reason : Reason) (e : ScriptRefusal) → line_read (place_of s) line ≡ Err reason → Refuses s line e t
-        → (e ≡ OutOfMemory → ⊥) → IsRefusedFor e (Some reason) }
+    ensures line { (s t : Standing) (line : List ℕ) (reason : Reason) (e : ScriptRefusal) (why : Option Reason) → line_read (place_of s) line ≡ Err reason → Refuses s line e t
+        → (e ≡ OutOfMemory → ⊥) → IsWhySaid t line why → IsRefusedFor e why }
 {}

@@ -69,7 +69,7 @@ fn range_reason(number: usize, range: (u64, u64), word: &[u8]) -> Reason
 
 /// What the words behind a name stand for, with zeros behind it; or why the first that is no number in its range is none.
 #[inline(always)]
-pub fn numbers(size: Size, wanted: &[Argument], args: &[&[u8]]) -> Result<[u64; 10], Reason>
+pub(crate) fn numbers(size: Size, wanted: &[Argument], args: &[&[u8]]) -> Result<[u64; 10], Reason>
     requires size { IsSize size }
     requires each { length wanted.now ≡ length args.now }
     requires few { length args.now ≤ 10 }

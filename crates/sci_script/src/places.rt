@@ -99,7 +99,7 @@ impl Place {
 
     /// What these words say here.
     #[inline(always)]
-    pub(crate) fn read(&self, words: &[&[u8]]) -> Result<Read, Reason>
+    fn read(&self, words: &[&[u8]]) -> Result<Read, Reason>
         requires { IsSize self.now.size }
         ensures { result ≡ words_read self.now (map (λ w. w.now) words.now) }
     {

@@ -43,14 +43,14 @@ fn first_line(text: &[u8]) -> (&[u8], &[u8])
 
 /// A line that isn't skipped, with its number, and where the reading goes on.
 #[derive(Drop)]
-pub(crate) struct Entry<'a> {
-    pub(crate) number: u64,
-    pub(crate) line: &'a [u8],
-    pub(crate) rest: &'a [u8],
+struct Entry<'a> {
+    number: u64,
+    line: &'a [u8],
+    rest: &'a [u8],
 }
 
 /// The first line from line `number` on that isn't skipped.
-pub(crate) fn first_entry(number: u64, text: &[u8]) -> Result<Entry<'_>, u64>
+fn first_entry(number: u64, text: &[u8]) -> Result<Entry<'_>, u64>
     requires { number + length text.now < 2 ^ 64 }
     ensures found { IfOk result (λ e. entries_from number (lines text.now) ≡ (e.number, e.line.now) ∷ entries_from (e.number + 1) (lines e.rest.now)) }
     ensures shorter { IfOk result (λ e. (e.number + 1 + length e.rest.now ≤ number + length text.now) × (length e.rest.now < length text.now)) }
@@ -98,7 +98,8 @@ pub(crate) fn read_lines(alloc: Global, text: &[u8]) -> Result<Script, Unread>
     }
 }
 
-/// Reads a script: `Ok` exactly where the text is one, and else the lowest faulty line.
+/// Reads a script: `Ok` exactly where the text is one. Else 16 or 17, with the lowest faulty line, which for a text without a command is
+/// the one behind its last; or 7, where memory was refused.
 pub fn read_script(alloc: Global, text: &[u8]) -> Result<Script, ScriptRefusal>
     ensures { Gives view result (script_of text.now) }
 {

@@ -47,14 +47,14 @@ fn word(number: u64) -> u8
 }
 
 /// `NODES LINES`
-fn memory(numbers: &[u64; 10]) -> Size
-    requires nodes { at numbers.now 0 < 2 ^ 16 }
-    requires lines { at numbers.now 1 < 2 ^ 16 }
-    ensures { result ≡ record { nodes = at numbers.now 0; lines = at numbers.now 1 } }
+fn memory(n: &[u64; 10]) -> Size
+    requires nodes { at n.now 0 < 2 ^ 16 }
+    requires lines { at n.now 1 < 2 ^ 16 }
+    ensures { result ≡ record { nodes = at n.now 0; lines = at n.now 1 } }
 {
     Size {
-        nodes: short(numbers[0]),
-        lines: short(numbers[1]),
+        nodes: short(n[0]),
+        lines: short(n[1]),
     }
 }
 
@@ -71,63 +71,55 @@ fn opening(n: &[u64; 10]) -> Opening
 }
 
 /// `N L ..`
-fn begin(numbers: &[u64; 10], request: Request) -> Read
-    requires node { at numbers.now 0 < MOST_NODES }
-    requires line { at numbers.now 1 < 2 ^ 16 }
-    ensures { result ≡ reads.Command (Begin (at numbers.now 0) (at numbers.now 1) request) }
+fn begin(n: &[u64; 10], request: Request) -> Read
+    requires node { at n.now 0 < MOST_NODES }
+    requires line { at n.now 1 < 2 ^ 16 }
+    ensures { result ≡ reads.Command (Begin (at n.now 0) (at n.now 1) request) }
 {
     Read::Command(Command::Begin {
-        node: node(numbers[0]),
-        line: short(numbers[1]),
+        node: node(n[0]),
+        line: short(n[1]),
         request,
     })
 }
 
 /// What this command says with these numbers, which are in their ranges.
 #[inline(always)]
-pub(crate) fn said(size: Size, verb: Verb, numbers: &[u64; 10]) -> Read
+pub(crate) fn said(size: Size, verb: Verb, n: &[u64; 10]) -> Read
     requires size { IsSize size }
-    requires range { AreFrom size 0 (arguments_of verb) numbers.now }
-    ensures { result ≡ said_by size verb numbers.now }
+    requires range { AreFrom size 0 (arguments_of verb) n.now }
+    ensures { result ≡ said_by size verb n.now }
 {
-    let value = numbers[3];
+    let value = n[3];
     match verb {
-        Verb::Memory => Read::Memory(memory(numbers)),
-        Verb::Capacity => Read::Capacity(short(numbers[0])),
-        Verb::Open => Read::Open(opening(numbers)),
+        Verb::Memory => Read::Memory(memory(n)),
+        Verb::Capacity => Read::Capacity(short(n[0])),
+        Verb::Open => Read::Open(opening(n)),
         Verb::Load => {
-            let word = word(numbers[2]);
-            begin(numbers, Request::Load { word })
+            let word = word(n[2]);
+            begin(n, Request::Load { word })
         }
         Verb::Store => {
-            let word = word(numbers[2]);
-            begin(numbers, Request::Store { word, value })
+            let word = word(n[2]);
+            begin(n, Request::Store { word, value })
         }
         Verb::Add => {
-            let word = word(numbers[2]);
-            begin(numbers, Request::Add { word, delta: value })
+            let word = word(n[2]);
+            begin(n, Request::Add { word, delta: value })
         }
-        Verb::Evict => begin(numbers, Request::Evict),
-        Verb::Turn => Read::Command(Command::Turn {
-            node: node(numbers[0]),
-        }),
-        Verb::Done => Read::Command(Command::Done {
-            node: node(numbers[0]),
-        }),
+        Verb::Evict => begin(n, Request::Evict),
+        Verb::Turn => Read::Command(Command::Turn { node: node(n[0]) }),
+        Verb::Done => Read::Command(Command::Done { node: node(n[0]) }),
         Verb::Rest => Read::Command(Command::Rest { lines: size.lines }),
         Verb::End => Read::Command(Command::End {
             nodes: size.nodes,
             lines: size.lines,
         }),
-        Verb::List => Read::Command(Command::List {
-            line: short(numbers[0]),
-        }),
+        Verb::List => Read::Command(Command::List { line: short(n[0]) }),
         Verb::Tag => Read::Command(Command::Tag {
-            line: short(numbers[0]),
-            node: node(numbers[1]),
+            line: short(n[0]),
+            node: node(n[1]),
         }),
-        Verb::Residents => Read::Command(Command::Residents {
-            node: node(numbers[0]),
-        }),
+        Verb::Residents => Read::Command(Command::Residents { node: node(n[0]) }),
     }
 }

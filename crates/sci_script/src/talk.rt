@@ -153,7 +153,7 @@ impl Talk {
     /// `memory`, `capacity` and each `open`, as in a script; the first other command opens the desk. A comment, or blanks, print
     /// nothing and change nothing.
     ///
-    /// Of a refused line the text says nothing. The refusals: 16 for a faulty line, for one out of place, for a call begun while the
+    /// Behind a refusal the text may hold anything. The refusals: 16 for a faulty line, for one out of place, for a call begun while the
     /// node's call is open, and for a turn without a call, and 17 for a faulty number: all is as before. 18 for a call that didn't
     /// end within 100,000 turns: those were taken. 7 where memory ran out: what a command of the desk did before stays. No desk is
     /// opened by a refused command. The number of a line in a refusal is 1.

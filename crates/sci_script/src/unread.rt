@@ -7,7 +7,7 @@ ghost use Rattle.sci_script.specs.declared.unread.Unread.TheVariants.{OutOfMemor
 
 use crate::reasons::Reason;
 use crate::refusals::ScriptRefusal;
-use std::alloc::{AllocError, AllocFailed};
+use std::alloc::AllocError;
 
 /// Why a line isn't read.
 #[derive(Debug, Drop)]
@@ -42,14 +42,6 @@ impl From<AllocError> for Unread {
     ghost from_gives = { λ _ e. e ≡ OutOfMemory };
 
     fn from(_e: AllocError) -> Unread {
-        Unread::OutOfMemory
-    }
-}
-
-impl<T: Drop> From<AllocFailed<T>> for Unread {
-    ghost from_gives = { λ _ e. e ≡ OutOfMemory };
-
-    fn from(_e: AllocFailed<T>) -> Unread {
         Unread::OutOfMemory
     }
 }

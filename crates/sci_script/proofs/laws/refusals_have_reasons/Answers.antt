@@ -5,7 +5,7 @@ pub returns-clause-fits : goal.returns-clause-fits
 returns-clause-fits c = λ s t step nodes e why h some is. reason_fits s t step nodes e why h some is
 
 pub returns-clause-line : goal.returns-clause-line
-returns-clause-line c = λ s t line reason e is refused some. line_fits s t line reason e is refused some
+returns-clause-line c = λ s t line reason e why is refused some told. line_fits s t line reason e why is refused some told
 
 pub returns-clause-first : goal.returns-clause-first
 returns-clause-first c = λ said command e inside fails some. first_fits said command e inside fails some
