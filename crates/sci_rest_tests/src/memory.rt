@@ -47,5 +47,5 @@ fn desks_take_no_memory(rt: HostRuntime) {
     let ended = ended(bring_to_rest(desk));
     assert!(rt; ended == Some(3));
     let last = Vec::<u8>::with_capacity(rt.alloc(), 1);
-    assert!(rt; last.is_ok(), "allocation 50 is refused");
+    assert!(rt; last.is_ok(), "allocation 48 is refused");
 }

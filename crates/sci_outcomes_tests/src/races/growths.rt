@@ -34,7 +34,7 @@ fn refuses(rt: &impl Abort, alloc: Global) -> Result<(), Fail> {
     Ok(())
 }
 
-/// Growths: 4 of read_script, 14 of race_after, 80 of search_outcomes, 5 of outcomes_text.
+/// Growths: 2 of read_script, 14 of race_after, 80 of search_outcomes, 5 of outcomes_text.
 #[test]
 fn refused_growths(rt: HostRuntime) -> Result<(), Fail> {
     refuses(&rt, rt.alloc())

@@ -24,7 +24,7 @@ fn refuses(rt: &impl Abort, alloc: Global) -> Result<(), Fail> {
     Err(Fail::new("serve_outcomes answered 7"))
 }
 
-/// Growths: 104 of serve_outcomes.
+/// Growths: 102 of serve_outcomes.
 #[test]
 fn refused_growths(rt: HostRuntime) -> Result<(), Fail> {
     refuses(&rt, rt.alloc())
@@ -45,7 +45,7 @@ fn refuses_pages(rt: &impl Abort, alloc: Global) -> Result<(), Fail> {
     Err(Fail::new("serve_play answered 7"))
 }
 
-/// Growths: 194 of serve_play.
+/// Growths: 192 of serve_play.
 #[test]
 fn refused_growths_of_pages(rt: HostRuntime) -> Result<(), Fail> {
     refuses_pages(&rt, rt.alloc())

@@ -202,7 +202,7 @@ fn seats(rt: &impl Abort, alloc: Global, script: &Script) -> Result<(), Fail> {
     }
 }
 
-/// Growths: 12 of read_script, 11 of open, 20 of run, 20 of perform, 3 of list_text, 3 of tag_text,
+/// Growths: 7 of read_script, 11 of open, 20 of run, 20 of perform, 3 of list_text, 3 of tag_text,
 /// 1 of of_lines, 1 of push, 3 of new, 5 of begin, 1 of resident.
 #[test]
 fn refused_growths(rt: HostRuntime) -> Result<(), Fail> {

@@ -132,5 +132,5 @@ fn readers_and_turns_take_no_memory(rt: HostRuntime) {
     assert!(rt; put(&mut out, SCRIPT).is_ok());
     same(&rt, &out.bytes, &SCRIPT.len());
     let last = Vec::<u8>::with_capacity(rt.alloc(), 1);
-    assert!(rt; last.is_ok(), "allocation 469 is refused");
+    assert!(rt; last.is_ok(), "allocation 467 is refused");
 }

@@ -259,8 +259,8 @@ fn shows(rt: &impl Abort, alloc: Global, text: &str, told: &'static str) -> Resu
     Err(Fail::new(told))
 }
 
-/// Growths: 11 of serve_check, 9 of read_settings, 22 of serve_trace, 22 of serve_script, 22 of serve, 1 of with_capacity,
-/// 22 of serve_buffered, 22 of serve_draw, 3 of cells_text, 2 of items_text, 2 of count_text.
+/// Growths: 11 of serve_check, 9 of read_settings, 20 of serve_trace, 20 of serve_script, 20 of serve, 1 of with_capacity,
+/// 20 of serve_buffered, 20 of serve_draw, 3 of cells_text, 2 of items_text, 2 of count_text.
 #[test]
 fn refused_growths(rt: HostRuntime) -> Result<(), Fail> {
     checks(&rt, rt.alloc())?;
@@ -349,7 +349,7 @@ fn pushes(rt: &impl Abort, alloc: Global) -> Result<(), Fail> {
     }
 }
 
-/// Growths: 4 of read_script, 8 of open, 9 of trace, 8 of open, 9 of draw, 1 of push_bytes.
+/// Growths: 2 of read_script, 8 of open, 9 of trace, 8 of open, 9 of draw, 1 of push_bytes.
 #[test]
 fn refused_growths_of_traces(rt: HostRuntime) -> Result<(), Fail> {
     let Ok(script) = read_script(rt.alloc(), SCRIPT.as_bytes()) else {
@@ -385,7 +385,7 @@ fn logs_a_script(rt: &impl Abort, alloc: Global, script: &Script) -> Result<(), 
     }
 }
 
-/// Growths: 4 of read_script, 8 of open, 9 of log.
+/// Growths: 2 of read_script, 8 of open, 9 of log.
 #[test]
 fn refused_growths_of_logs(rt: HostRuntime) -> Result<(), Fail> {
     let Ok(script) = read_script(rt.alloc(), SCRIPT.as_bytes()) else {

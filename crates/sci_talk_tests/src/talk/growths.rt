@@ -78,7 +78,7 @@ fn explains(rt: &impl Abort, alloc: Global) -> Result<(), Fail> {
     Ok(())
 }
 
-/// Growths: 19 of why_script, 18 of say, 1 of why.
+/// Growths: 17 of why_script, 18 of say, 1 of why.
 #[test]
 fn refused_growths_of_reasons(rt: HostRuntime) -> Result<(), Fail> {
     explains(&rt, rt.alloc())
