@@ -1,5 +1,5 @@
-"""histories: compares what the built program's `history` prints of ten workloads by chance with what checker.py says, which was written
-from docs/FORMATS.md alone. Both that and the program's `legal` must call it legal.
+"""histories: compares what the built program's `run --history` prints of ten workloads by chance with what checker.py says, which was written
+from docs/FORMATS.md alone. Both that and the program's `check` must call it legal.
 
     python3 tools/histories [PROGRAM [SEED [COUNT]]]
 
@@ -24,19 +24,19 @@ PROGRAM = os.path.realpath(GIVEN[0] if GIVEN else ROOT / "crates/sci_sim/out/sci
 COUNT = int(GIVEN[2]) if GIVEN[2:] else 10
 
 
-def said(command, text):
+def said(text, *command):
     """What a command of the program comes to."""
-    ran = subprocess.run([PROGRAM, command], input=text, capture_output=True, text=True)
+    ran = subprocess.run([PROGRAM, *command], input=text, capture_output=True, text=True)
     return ran.returncode, ran.stdout, ran.stderr
 
 
 def fault(by):
     """What is wrong with the history of a workload, or nothing."""
     text, nodes, lines = chance.settings(by)
-    status, history, error = said("history", text)
+    status, history, error = said(text, "run", "--history")
     if status or error or not history.startswith(f"scihistory 1 {nodes} {lines}\n"):
         return f"{status} {error!r} {history[:80]!r} of {text}"
-    told = checker.verdict(history), said("legal", history)
+    told = checker.verdict(history), said(history, "check")
     return "" if told == ("legal\n", (0, "legal\n", "")) else f"{told} of the history of {text}"
 
 

@@ -63,7 +63,7 @@ def broken(opening, closing, lists):
 
 
 def verdict(text):
-    """What `scisim legal` is to print, or the number of the line of text at fault."""
+    """What `scisim check` is to print, or the number of the line of text at fault."""
     lines = read(text)
     if isinstance(lines, int):
         return lines

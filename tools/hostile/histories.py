@@ -23,8 +23,8 @@ def text(by):
 
 
 def wrong(run, text):
-    """What is wrong with what `legal` says of a text, or nothing."""
+    """What is wrong with what `check` says of a text, or nothing."""
     said = verdict(text.decode("latin-1"))
     wanted = refused(f"21 at line {said}") if isinstance(said, int) else (3 * ("breaks" in said), said.encode(), b"")
-    told = run("legal")
+    told = run("check")
     return "" if told == wanted else f"{told}, and not {wanted}"

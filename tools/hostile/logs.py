@@ -114,9 +114,10 @@ def text(by):
 
 
 def wrong(run, text):
-    """What is wrong with what `follow` says of a text, or nothing. A line may depart from the table in front of the first fault."""
-    (number, line), noted = read(text)
-    told = run("follow")
+    """What is wrong with what `check` says of a text, or nothing. A line may depart from the table in front of the first fault."""
+    first = next((it for it in lines_of(text) if not is_skipped(it)), b"")
+    (number, line), noted = read(text) if re.match(rb"memory(?:[ \t\r]|$)", first) else ((21, 1), [])
+    told = run("check")
     follows = (0, b"follows\n", b"") if line is None else "a line that departs"
     wanted = refused(f"{number} at line {line}") if number else follows
     departs = re.fullmatch(rb"line (\d+): (.*)\n", told[1])

@@ -40,12 +40,12 @@ def text(by):
     return mutant(by, by.choice(KNOWN) if by.random() < 0.4 else script(by))
 
 
-def is_right(command, told, wanted):
+def is_right(command, is_page, told, wanted):
     """Whether a command says what is wanted of `script`; a trace has lines of turns too, the others print what they make of it."""
     status, out, error = told
-    if command in ("outcomes", "play"):
+    if command == "outcomes":
         return told == TOO_MANY and not wanted[0] or (status, error) == wanted[::2] and bool(out) != bool(status)
-    if command == "draw":
+    if is_page:
         return (status, error) == wanted[::2] and out != b""
     return (status, b"".join(it for it in out.splitlines(keepends=True) if not it.startswith(b"# node ")), error) == wanted
 
@@ -59,11 +59,11 @@ def wrong(run, text):
     if len(text) > LIMIT:
         unread, error = True, b"scisim: refused 23\n"
     wanted = int(error != b""), b"" if unread else printed, error
-    commands = [["script"], ["trace"], ["draw"]]
+    commands = [["script"], ["trace"], ["trace", "--page"]]
     if unread or place.nodes * place.lines <= SEARCHED:
-        commands += [[it, "--most", STATES] for it in ("outcomes", "play")]
+        commands += [["outcomes", *it, "--most", STATES] for it in ([], ["--page"])]
     for command, *more in commands:
         told = run(command, "--why", *more)
-        if not (told == wanted if unread else is_right(command, told, wanted)):
-            said = said or f"{command}: {told}, and not {wanted}"
+        if not (told == wanted if unread else is_right(command, "--page" in more, told, wanted)):
+            said = said or f"{command} {more}: {told}, and not {wanted}"
     return said

@@ -1,7 +1,7 @@
 """Talks: each line is answered by itself, which tells whether a turn has ended its call."""
 import re
 
-from reader import Fault, Place, is_skipped, lines_of
+from reader import COMMANDS, Fault, Place, is_skipped, lines_of
 from running import LIMIT
 
 BEGINS = (b"load", b"store", b"add", b"evict")
@@ -10,11 +10,18 @@ ENDED = re.compile(rb"(?m)^node (\d+) (?:read|wrote|out|refused)\b")
 UNENDED = re.compile(r"node \d+ (waits for node \d+|has not ended its call)")
 
 
+class Said(Place):
+    """What stands in front of a line that is said: `memory` may come again, until a command of a desk has."""
+
+    def is_in_time(self, name):
+        return name == b"memory" and self.stand != COMMANDS or super().is_in_time(name)
+
+
 class Talk:
     """Where a talk stands, and which nodes have a call open."""
 
     def __init__(self):
-        self.place, self.calls = Place(), set()
+        self.place, self.calls = Said(), set()
 
     def fault(self, number, line):
         """What is wrong with a line, or None."""

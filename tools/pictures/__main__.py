@@ -1,4 +1,4 @@
-"""Writes and checks what the documents show of the pages of `scisim draw`, and tries those pages in a browser.
+"""Writes and checks what the documents show of the pages of `scisim trace --page`, and tries those pages in a browser.
 
     python3 tools/pictures [--check] [PROGRAM]
 

@@ -1,6 +1,6 @@
 """The pictures of docs/pictures/, which the documents show.
 
-A document shows `pictures/NAME-N.svg` for turn N of examples/NAME.txt: the picture that the page of `scisim draw` has at #step=N, in a
+A document shows `pictures/NAME-N.svg` for turn N of examples/NAME.txt: the picture that the page of `scisim trace --page` has at #step=N, in a
 window of 1280 by 900.
 """
 

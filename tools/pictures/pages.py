@@ -17,18 +17,18 @@ def title_of(script):
 
 def page_of(program, name):
     """Returns the page of an example."""
-    words = [program, "draw", str(EXAMPLES / f"{name}.txt")]
+    words = [program, "trace", "--page", str(EXAMPLES / f"{name}.txt")]
     return subprocess.run(words, check=True, stdout=subprocess.PIPE).stdout.decode()
 
 
 def page_of_race(program, name):
     """Returns the page of the states of an example's open calls."""
-    return page_of_text(program, (EXAMPLES / f"{name}.race").read_text(encoding="utf-8"), "play")
+    return page_of_text(program, (EXAMPLES / f"{name}.race").read_text(encoding="utf-8"), "outcomes")
 
 
-def page_of_text(program, text, command="draw"):
+def page_of_text(program, text, command="trace"):
     """Returns the page that a command makes of a script."""
-    return subprocess.run([program, command], check=True, input=text.encode(), stdout=subprocess.PIPE).stdout.decode()
+    return subprocess.run([program, command, "--page"], check=True, input=text.encode(), stdout=subprocess.PIPE).stdout.decode()
 
 
 def browse(browser, room, words):

@@ -88,7 +88,7 @@ def stored():
 def run(program, browser, room, is_check):
     """Tries the pages, and keeps or compares the results. Returns how many there are, and what is wrong."""
     scripts = {it.stem: it.read_text(encoding="utf-8") for it in sorted(EXAMPLES.glob("*.race"))} | SCRIPTS
-    pages = {name: page_of_text(program, script, "play") for name, script in scripts.items()}
+    pages = {name: page_of_text(program, script, "outcomes") for name, script in scripts.items()}
     digests = {name: hashlib.sha256(page.encode()).hexdigest() for name, page in pages.items()}
     results, faults = results_of(program, browser, room, scripts, pages) if browser else ({}, [])
     kept = stored()

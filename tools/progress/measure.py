@@ -48,7 +48,7 @@ def stale(state):
     """Newcomers that found another head than memory names now, and entries in Roll whose back link isn't a purging node."""
     newcomers = sum(step.phase == 'Queueing' and part(step, 'kept') != state.memory.forw for step in state.steps)
     rolling = (tag for tag in state.tags if tag.kind == 'Roll')
-    return newcomers + sum(state.tags[tag.back[0]].kind != 'Purging' for tag in rolling)
+    return newcomers + sum(tag.back is None or state.tags[tag.back[0]].kind != 'Purging' for tag in rolling)
 
 
 def ranking(state):

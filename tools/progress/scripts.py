@@ -4,12 +4,19 @@ import re
 import subprocess
 
 from states import opened
+from telling import told
 from turns import ENDS, GOALS, WAITS, mover, turn, waits_for
 
 COMMANDS = {'load': 'load {} 0 0', 'write': 'add {} 0 0 1', 'evict': 'evict {} 0'}
 TURN = re.compile(r'# node (\d+) line \d+ [^:]*: (\w+)[^;]*; ([^;]*); [^;]*?(?:; for node (\d+))?$')
 NAMES = {'only': ENDS}      # a turn without an exchange that doesn't wait `only looked`
+# more turns than a call takes alone
+LONG = 1000
 LAST = {'load': ('Settle', 'Unhold'), 'write': ('Written',), 'evict': ('Left', 'Rolled', 'ends')}
+
+
+class Astray(Exception):
+    """What a script does that it can't with the table as it is; says what."""
 
 
 class Play:
@@ -26,13 +33,18 @@ class Play:
 
     def step(self, node, goal):
         """One turn towards a goal. What it came to."""
-        event, self.state = turn(self.state, node, goal)
+        event, after = turn(self.state, node, goal)
+        if after is None:
+            raise Astray(f"node {node}'s {event} misses in {told(self.state)}")
+        self.state = after
         self.states.add(self.state)
         self.turns.append((node, event, waits_for(self.state, node, goal) if event == WAITS else None))
         return event
 
     def take(self, node):
         """One turn of the node's call, which may be its last. What it came to."""
+        if node not in self.goals:
+            raise Astray(f"node {node}'s call has ended before")
         event = self.step(node, self.goals[node])
         if event in LAST[self.goals[node]]:
             self.end(node, self.goals.pop(node))
@@ -46,15 +58,20 @@ class Play:
 
     def done(self, node):
         """The command of that name, of a call that doesn't wait."""
+        before = len(self.turns)
         while node in self.goals:
-            assert self.take(node) != WAITS
+            if self.take(node) == WAITS or len(self.turns) - before > LONG:
+                raise Astray(f"node {node}'s call does not end in {told(self.state)}")
 
     def calm(self):
         """To rest, by turns of movers, as loads take them: at most n * n + 9 * n of n nodes."""
         before, nodes = len(self.turns), len(self.state.tags)
         while (node := mover(self.state)) is not None:
             self.step(node, 'load')
-        assert self.state.at_rest() and len(self.turns) - before <= nodes * nodes + 9 * nodes
+            if len(self.turns) - before > nodes * nodes + 9 * nodes:
+                break
+        if not self.state.at_rest():
+            raise Astray(f'it does not come to rest, but to {told(self.state)}')
 
     def rest(self):
         """The command of that name."""
@@ -68,7 +85,8 @@ class Play:
         for node in sorted(self.goals):
             before = len(self.turns)
             self.done(node)
-            assert len(self.turns) - before <= 3 * len(self.state.tags) + 16
+            if len(self.turns) - before > 3 * len(self.state.tags) + 16:
+                raise Astray(f"node {node}'s call takes {len(self.turns) - before} turns from rest")
 
     def end(self, node, goal):
         """The answer of a call that has ended."""
@@ -107,9 +125,9 @@ def agrees_on(program, play):
     that exchange, or a wait for that node. Behind the last of them every step is Idle."""
     text = ''.join(f'{line}\n' for line in play.script)
     traced, status = said(program, 'trace', text)
-    told = [found for row in traced if (found := TURN.match(row))]
-    steps = {found[1]: found[3] for found in told}
-    if [turn_told(found) for found in told] != play.turns or set(steps.values()) != {'Idle'}:
+    taken = [found for row in traced if (found := TURN.match(row))]
+    steps = {found[1]: found[3] for found in taken}
+    if [turn_told(found) for found in taken] != play.turns or set(steps.values()) != {'Idle'}:
         return False
     return (play.printed, 0) == said(program, 'script', text) and not status
 
@@ -118,7 +136,11 @@ def agrees(program, nodes=3, turns=200, scripts=100):
     """Whether the program does what it must, of so many scripts."""
     states = set()
     for seed in range(scripts):
-        play = by_chance(nodes, turns, seed)
+        try:
+            play = by_chance(nodes, turns, seed)
+        except Astray as why:
+            print(f'progress: script {seed} goes astray: {why}')
+            return False
         states |= play.states
         if not agrees_on(program, play):
             print(f'progress: the program does something else of script {seed}:', *play.script, sep='\n')

@@ -93,5 +93,7 @@ def named(name, bound, state):
         return state.memory_slot()
     if name.startswith('s.'):
         return getattr(state.memory, {'s.head': 'forw'}.get(name, name[2:]))
-    kept, field = name.split('.')
+    kept, _, field = name.partition('.')
+    if kept not in bound or not hasattr(bound[kept], field):
+        raise SystemExit(f'a row names {name}, which it does not have')
     return getattr(bound[kept], field)

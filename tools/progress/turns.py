@@ -9,8 +9,8 @@ NEVER_WAITS = {'Fetching': 'ReturnMemory', 'WritingBack': 'ReturnMemory', 'Holdi
 
 
 def is_free(tag, *kinds):
-    """Of one of these kinds, and not held."""
-    return tag.kind in kinds and not tag.held
+    """There, of one of these kinds, and not held."""
+    return tag is not None and tag.kind in kinds and not tag.held
 
 
 def idle(state, me, goal):
@@ -120,14 +120,22 @@ def mover(state):
     return next((me for me in under_way if plan(state, me, 'load') != WAITS), None)
 
 
-def delays(state, entry):
-    """Who is to go on before this entry can: who holds it, who purges it, or itself."""
+def first(nodes):
+    """The first of these, or None, where no lawful line has none."""
+    return next(iter(nodes), None)
+
+
+def delays(state, link):
+    """Who is to go on before the entry that a link names can: who holds it, who purges it, or itself."""
+    if link is None:
+        return None
+    (entry,) = link
     tag = state.tags[entry]
     if tag.held and state.steps[entry].phase == 'Holding':
         return entry
     phases, name = (('Copying',), 'node') if tag.held else (('Advancing', 'Clearing'), 'node')
     if tag.held or tag.kind == 'Purged':
-        return next(node for node, step in enumerate(state.steps) if step.phase in phases and part(step, name) == entry)
+        return first(node for node, step in enumerate(state.steps) if step.phase in phases and part(step, name) == entry)
     return entry
 
 
@@ -136,7 +144,7 @@ def before(state, me):
     for node, tag in enumerate(state.tags):
         if tag.forw == (me,) and (tag.kind == 'Purging' or state.steps[node].phase == 'Rolling'):
             return node
-    return delays(state, state.tags[me].back[0])
+    return delays(state, state.tags[me].back)
 
 
 def keeps_waiting(state, entry):
@@ -153,9 +161,9 @@ def waits_for(state, me, goal='load'):
     if plan(state, me, goal) != WAITS:
         return None
     if step == IDLE:
-        return keeps_waiting(state, me)[0]
+        return first(keeps_waiting(state, me))
     if step.phase == 'Queueing':
-        return next(node for node, each in enumerate(state.steps) if each.phase in ('Fetching', 'WritingBack'))
+        return first(node for node, each in enumerate(state.steps) if each.phase in ('Fetching', 'WritingBack'))
     if step.phase == 'Rolling' and (part(step, 'flag') or state.tags[me].forw is None):
         return before(state, me)
-    return delays(state, state.tags[me].forw[0])
+    return delays(state, state.tags[me].forw)

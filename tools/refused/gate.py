@@ -3,7 +3,7 @@
     python3 tools/refused/gate.py FOLDER [--all]
 
 It says what `rt ci` says, and has its status. FOLDER/edits has what became of the edits; its last line is `N passed, M failed`.
-FOLDER/seconds has how many seconds the proof of each crate took.
+FOLDER/seconds has how many seconds the proof of each crate took, FOLDER/spent how many CPU seconds each part of a crate.
 """
 
 import argparse
@@ -16,6 +16,7 @@ import time
 sys.dont_write_bytecode = True
 
 import seeds
+import spent
 from edits import edits_of
 from kit import RT, linked
 from tasks import report, say, tasks_of_edits
@@ -84,9 +85,9 @@ def timed(name, call, table):
     return noted
 
 
-def beside(in_lanes, trials, table):
+def beside(in_lanes, trials, table, used):
     """Returns the kit's lanes, but for this: the edits of each crate run in them too, once its library is proved, what all wait for is
-    hastened, and the proof of each crate is timed. The lanes take first what has the most lines before it, so that of the edits counts for
+    hastened, the proof of each crate is timed, and the CPU seconds of each task are noted. The lanes take first what has the most lines before it, so that of the edits counts for
     next to nothing: they fill what rt ci leaves free."""
 
     def in_lanes_with_edits(tasks):
@@ -96,7 +97,8 @@ def beside(in_lanes, trials, table):
         more = {key: (waits, lines / 1e6, needs, call) for key, (waits, lines, needs, call) in more.items()}
         proofs = {key: it for key, it in {**tasks, **hastened(tasks)}.items() if key[1] == "proof"}
         proofs = {key: (*it[:3], timed(key[0], it[3], table)) for key, it in proofs.items()}
-        return in_lanes({**tasks, **proofs, **more})
+        counted = {key: (*it[:3], spent.noted(key, it[3], used)) for key, it in {**tasks, **proofs}.items()}
+        return in_lanes({**counted, **more})
 
     return in_lanes_with_edits
 
@@ -114,8 +116,8 @@ def main():
     tried = Tried(os.getcwd())
     tried.choose(trials, given.all)
     in_lanes = RT.in_lanes
-    table = open(f"{to}/seconds", "w", encoding="utf-8")
-    RT.in_lanes = beside(in_lanes, trials, table)
+    table, used = open(f"{to}/seconds", "w", encoding="utf-8"), {}
+    RT.in_lanes = beside(in_lanes, trials, table, used)
     name = seeds.name_of_kept()
     if name:
         threading.Thread(target=seeds.watch, args=(f"{to}/seeds", name, os.path.realpath("crates")), daemon=True).start()
@@ -126,6 +128,8 @@ def main():
         in_lanes(tasks_of([it for it in trials if not it.is_tried], lambda name: []))
     with open(f"{to}/edits", "w", encoding="utf-8") as said, contextlib.redirect_stdout(said):
         report(trials, tried)
+    with open(f"{to}/spent", "w", encoding="utf-8") as said:
+        said.writelines(spent.rows(used, trials))
     return status
 
 

@@ -178,7 +178,7 @@ def faults_of_gate():
         crate = RT.rtlib.crates_below(str(root))[0]
         seed = pathlib.Path(folder, "room", "seeds", crate.name)
         kept = len(list(seed.rglob("*.oantt")))
-        seconds = pathlib.Path(folder, "room", "seconds").read_text(encoding="utf-8")
+        seconds, spent = (pathlib.Path(folder, "room", it).read_text(encoding="utf-8") for it in ("seconds", "spent"))
         check = [RATTLE, "check", *crate.words(["--jobs", "1"], keeps=False), "--incremental", str(seed)]
         said = subprocess.run(check, **{**how, "cwd": crate.folder}).stdout
         # (there is nothing to prove in a folder that has no crates.txt)
@@ -189,6 +189,8 @@ def faults_of_gate():
         faults.append(f"where there is no edit to try, none is told to have failed: {none}")
     if not re.fullmatch(rf"{crate.name} [1-9]\d*\n", seconds):
         faults.append(f"the seconds of the one crate are noted as {seconds!r}")
+    if not re.fullmatch(rf"CPU s of {crate.name}: proof [1-9]\d*, must-fail [1-9]\d*, edits [1-9]\d*\n", spent):
+        faults.append(f"the CPU seconds of the one crate are noted as {spent!r}")
     if status != 2:
         faults.append(f"rt ci ends with 2 where there is no crates.txt, and gate.py ended with {status}")
     if ran.returncode or ran.stdout.rstrip("\n").split("\n")[-1] != "3 passed, 0 failed":

@@ -11,6 +11,7 @@ import html
 import os
 import pathlib
 import resource
+import shutil
 import signal
 import socket
 import subprocess
@@ -22,12 +23,15 @@ sys.path.insert(0, str(HOME / "tools/statuses"))
 sys.dont_write_bytecode = True
 
 import caches
+import commands
 import cuts
 import dumps
 import histories
+import limits
 import logs
 import outcomes
 import reasons
+import refusals
 import runs
 import scripts
 import settings
@@ -39,7 +43,7 @@ from kinds import CLOSED, FOLDER, FULL, READ, UNREAD
 from kinds import Begins, Broken, Crowded, Drawn, Filled, Lawful, Legal, Little, Page, Traced, WholePage
 
 PROGRAM = os.path.realpath(sys.argv[1] if sys.argv[1:] else HOME / "crates/sci_sim/out/sci_sim")
-TABLES = [scripts, reasons, caches, sizes, cuts, shortages, traces, dumps, histories, logs, outcomes, runs, settings]
+TABLES = [scripts, commands, reasons, caches, sizes, cuts, shortages, traces, dumps, histories, logs, outcomes, runs, settings]
 # The files that lie where the program runs; `folder` is a folder.
 FILES = scripts.FILES | dumps.FILES | histories.FILES | outcomes.FILES | runs.FILES
 # How long a file may be that an output fills.
@@ -144,7 +148,7 @@ def is_wanted(said, wanted, room):
             status, (verdict, _) = run(["check"], [said.removeprefix(wanted), "", ""], room)
             return said.startswith(wanted) and status == 0 and verdict.endswith("lawful\n")
         case Legal():
-            status, (verdict, _) = run(["legal"], [said, "", ""], room)
+            status, (verdict, _) = run(["check"], [said, "", ""], room)
             return said.startswith(wanted) and (status, verdict) == (0, "legal\n")
         case Begins():
             return said.startswith(wanted)
@@ -169,18 +173,22 @@ def passes(case, room):
     return [] if fails(case, room) else [f"{case[2:]} was taken for what it does"]
 
 
+# Commands that do the same with a script.
+ALIKE = [["script"], ["trace"], ["trace", "--page"]]
+
+
 def differs(script, room):
-    """Where `trace` and `draw` do with a script what `script` doesn't do."""
-    (status, (text, error)), traced, paged = (run([it], [script, "", ""], room) for it in ("script", "trace", "draw"))
+    """Where `trace`, as text and as a page, does with a script what `script` doesn't do."""
+    (status, (text, error)), traced, paged = (run(it, [script, "", ""], room) for it in ALIKE)
     wrong = []
     if (traced[0], without_turns(traced[1][0]), traced[1][1]) != (status, text, error):
         wrong.append("trace does what script doesn't do")
     # a script that can't be read has no page
     page = None if status and not traced[1][0] and not paged[1][0] else drawn(paged[1][0])
     if (paged[0], page or "", paged[1][1]) != (status, traced[1][0], error):
-        wrong.append("draw does what trace doesn't do")
+        wrong.append("its page does what trace doesn't do")
     if page is not None and script_in(paged[1][0]) != script:
-        wrong.append("draw shows another script")
+        wrong.append("the page shows another script")
     return wrong
 
 
@@ -188,12 +196,12 @@ def shortened(room):
     """The commands with an input each, and what is wrong with their answers in little memory, or of many in that of few."""
 
     def serve(command, given):
-        status, (said, error) = run([command], [given, "", ""], room)
-        text = drawn(said) if command == "draw" and said else said
+        status, (said, error) = run(command.split(), [given, "", ""], room)
+        text = drawn(said) if command == "trace --page" and said else said
         return status, "no page" if text is None else text, error
 
     low = shortages.least(serve)
-    served = [([it[0]], it[1], shortages.faults(serve, low, *it)) for it in shortages.SERVED]
+    served = [(it[0].split(), it[1], shortages.faults(serve, low, *it)) for it in shortages.SERVED]
     return [*served, (["talk"], shortages.ROUND, shortages.keeps(serve, shortages.FEW, shortages.MANY))]
 
 
@@ -232,20 +240,59 @@ def odd_names(room):
         yield words, "", [] if said == wanted else [f"it ended with {said}"]
 
 
+def help_words(room):
+    """What is wrong with how many words all help has."""
+    count = sum(len(run([*it, "--help"], ["", "", ""], room)[1][0].split()) for it in [[], *map(lambda it: [it], commands.NAMES)])
+    return [] if count <= commands.WORDS else [f"all help has {count} words, and may have {commands.WORDS}"]
+
+
+def at_terminal(room):
+    """What is wrong with what is said of a faulty script and a missing file where standard error is a terminal: there the reason is said unasked."""
+    for words, wanted in commands.AT_TERMINAL:
+        said, theirs = os.openpty()
+        ran = subprocess.run([PROGRAM, *words], stdin=subprocess.DEVNULL, stdout=subprocess.DEVNULL, stderr=theirs, cwd=room, timeout=120)
+        os.close(theirs)
+        found = ran.returncode, os.read(said, 4096).decode().replace("\r\n", "\n")
+        os.close(said)
+        yield words, "", [] if found == (1, wanted) else [f"at a terminal it ended with {found}"]
+
+
+def kept_out(room):
+    """What is wrong with what is said of a file that nobody may read, and of an input that would block."""
+    shut = pathlib.Path(room) / "shut"
+    shut.write_text("memory 1 1\n", encoding="utf-8")
+    shut.chmod(0)
+    reader, writer = os.pipe()
+    os.set_blocking(reader, False)
+    hand = {"user": 65534, "group": 65534, "extra_groups": []} if os.geteuid() == 0 else {}
+    program = pathlib.Path(room) / "program"
+    shutil.copy(PROGRAM, program)
+    program.chmod(0o755)
+    os.chmod(room, 0o755)
+    for words, why, how in (["shut"], "shut: permission denied", hand), ([], "standard input: it would block", {}):
+        ran = subprocess.run([program, "script", "--why", *words], stdin=reader, capture_output=True, text=True, cwd=room, timeout=120, **how)
+        found = ran.returncode, ran.stdout, ran.stderr
+        yield ["script", "--why", *words], "", [] if found == (1, "", READ + why + "\n") else [f"it ended with {found}"]
+    os.close(reader)
+    os.close(writer)
+
+
 def main():
     passed, failed = 0, 0
-    cases = [it for table in TABLES for it in table.CASES]
+    cases = [it for table in [*TABLES, refusals] for it in table.CASES]
     with tempfile.TemporaryDirectory(prefix="statuses-") as room:
         os.mkdir(f"{room}/folder")
         for name, text in FILES.items():
             pathlib.Path(f"{room}/{name}").write_bytes(bytes_of(text))
         told = [(arguments, given, fails((arguments, given, *rest), room)) for arguments, given, *rest in cases]
-        told += [(["script", "trace", "draw"], script, differs(script, room)) for script in scripts.ALIKE + traces.ALIKE]
+        told += [(ALIKE, script, differs(script, room)) for script in scripts.ALIKE + traces.ALIKE]
         told += shortened(room)
         told += [(["talk", "--why"], reasons.SAID, mixed(room))]
         told += odd_names(room)
+        told += [(["--help"], "", help_words(room)), *at_terminal(room), *kept_out(room)]
         told += [(arguments, given, passes((arguments, given, *rest), room)) for arguments, given, *rest in wrongs.CASES]
         told += wrongs.short()
+        told += [*limits.faults(PROGRAM, room), *refusals.faults(cases)]
     for arguments, given, wrong in told:
         passed, failed = passed + (not wrong), failed + bool(wrong)
         for it in wrong:

@@ -8,7 +8,7 @@ from runs import ALONE, ALONE_COUNTED
 from scripts import ROW, TEXT
 
 # A command that reads, its input, and its text.
-SERVED = [("script", ROW, TEXT), ("run", ALONE, ALONE_COUNTED), ("history", ALONE, counted(3)), ("check", DUMP, LAWFUL)]
+SERVED = [("script", ROW, TEXT), ("run", ALONE, ALONE_COUNTED), ("run --history", ALONE, counted(3)), ("check", DUMP, LAWFUL)]
 READER = "memory 1 1\nload 0 0 0\ndone 0\n"
 TRACED = (
     "# node 0 line 0 load: Queue(none) Done; Queueing(none); HOME\n"
@@ -21,14 +21,14 @@ TRACED = (
 
 def breaks(command, given):
     """An input that fails behind each of its bytes, the last among them: nothing is served."""
-    return [([command], Broken(given[:end]), 1, "", READ) for end in range(len(given) + 1)]
+    return [(command.split(), Broken(given[:end]), 1, "", READ) for end in range(len(given) + 1)]
 
 
 def fills(command, given, text):
     """An output that has room for each part of a text, and for all of it."""
     return [
-        *(([command], given, 1, Filled(text[:room]), WRITE) for room in range(len(text))),
-        ([command], given, 0, Filled(text), ""),
+        *((command.split(), given, 1, Filled(text[:room]), WRITE) for room in range(len(text))),
+        (command.split(), given, 0, Filled(text), ""),
     ]
 
 
@@ -45,7 +45,7 @@ def front(end):
 CASES = [
     *(it for command, given, _ in SERVED for it in breaks(command, given)),
     *(it for command, given, text in [*SERVED, ("trace", READER, TRACED)] for it in fills(command, given, text)),
-    *(([command], Broken(ROW), 1, "", READ) for command in ("trace", "draw")),
+    *((command.split(), Broken(ROW), 1, "", READ) for command in ("trace", "trace --page")),
     *((["script"], ROW[:end], *front(end)) for end in range(len(ROW))),
     # what isn't read to its end is told before what it is
     (["script"], Broken("memory 0 1\n"), 1, "", READ),

@@ -112,7 +112,7 @@ CASES = [
     (["check"], DUMP + "\n", 1, "", refused("21 at line 7")),
     (["check"], DUMP.replace("\n", "\r\n"), 1, "", refused("21 at line 1")),
     (["check"], "", 1, "", refused("21 at line 1")),
-    (["check", "row"], DUMP, 1, "", refused("21 at line 1")),
+    (["check", "row"], DUMP, 1, "", refused("16 at line 2")),
     (["check", "limit"], "", 1, "", refused("21 at line 1")),
     (["check", "long"], DUMP, 1, "", refused("23")),
     (["check", "missing"], DUMP, 1, "", READ),
@@ -128,7 +128,7 @@ CASES = [
     (["check", "broken"], "", 3, "line 0 breaks C4\n", CLOSED),
     (["check", "dump", "dump"], DUMP, 2, "", USAGE),
     (["check", "--nonsense"], DUMP, 2, "", USAGE),
-    (["check", "--help"], "", 0, Begins("Checks that each line of a dump is an exact sharing list\n\nUsage: scisim check [FILE]\n"), ""),
+    (["check", "--help"], "", 0, Begins("Judges a dump, a history or a log\n\nUsage: scisim check [OPTIONS] [FILE]\n"), ""),
     # a lent memory word, and one that names a node which is no sharer
     (["check"], DUMP.replace("0000000000020001", "0000000000020011"), 3, "line 0 breaks C1\n", ""),
     (["check"], DUMP.replace("0000000000020001", "0000000000030001"), 3, "line 0 breaks C2\n", ""),

@@ -32,7 +32,7 @@ class Lawful(str):
 
 
 class Legal(str):
-    """The first line of a history that `legal` calls legal."""
+    """The first line of a history that `check` calls legal."""
 
 
 class Little(str):

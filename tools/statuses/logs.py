@@ -1,4 +1,4 @@
-"""Which logs `follow` calls runs, the first line of others that is none, and which texts are no logs."""
+"""Which logs `check` calls runs, the first line of others that is none, and which texts are no logs."""
 
 import pathlib
 
@@ -45,27 +45,24 @@ def ranges():
 QUEUED = [EVENT.format("0", "0", f"Queue({number})") for number in ("5", *ABOVE)]
 
 CASES = [
-    *((["follow"], text, 1 if line else 0, "" if line else FOLLOWS, refused(f"17 at line {line}") if line else "") for text, line in ranges()),
-    *((["follow"], text, 3, "line 2: not in turn\n", "") for text in QUEUED),
-    *((["follow"], f"memory {number} 1\n", 1, "", refused("16 at line 1")) for number in ("", "01", "+1", "1_0", "x")),
-    (["follow"], PURGE, 0, FOLLOWS, ""),
-    (["follow"], "memory 1024 1024\n", 0, FOLLOWS, ""),
-    (["follow"], PURGE.replace("\n", "\r\n"), 0, FOLLOWS, ""),
-    (["follow"], PURGE.rstrip(), 0, FOLLOWS, ""),
-    (["follow"], LONG, 0, FOLLOWS, ""),
-    (["follow"], LONG + "node 0 line 0 Settle Done\n", 3, f"line {LONG.count(chr(10)) + 1}: not in turn\n", ""),
-    (["follow"], without(22), 3, "line 23: not in turn\n", ""),
-    (["follow"], PURGE.replace("0 ONLY_FRESH", "0 ONLY_DIRTY"), 3, "line 9: another word stood there\n", ""),
-    (["follow"], ALONE.replace("Settle Done", "Settle Done 1 0 0 0 0 0 0 0 0"), 3, "line 5: another line is answered\n", ""),
-    (["follow"], ALONE.replace("Settle Done", "Settle Busy"), 3, "line 5: it can't end so\n", ""),
-    (["follow"], "", 1, "", refused("16 at line 1")),
-    (["follow"], "# nothing\n", 1, "", refused("16 at line 2")),
-    (["follow"], PURGE.replace("Settle Done", "Settle done", 1), 1, "", refused("16 at line 5")),
-    (["follow"], PURGE.replace("node 1 ", "node 3 ", 1), 1, "", refused("17 at line 6")),
-    (["follow", "missing"], PURGE, 1, "", READ),
-    (["follow"], CLOSED, 1, "", READ),
-    (["follow"], FOLDER, 1, "", READ),
-    (["follow"], PURGE, 1, FULL, WRITE),
-    (["follow", "x", "y"], PURGE, 2, "", USAGE),
-    (["follow", "--help"], "", 0, Begins("Checks that a log of a simulator's own run is one of the table of exchanges\n\nUsage: scisim follow [FILE]\n"), ""),
+    *((["check"], text, 1 if line else 0, "" if line else FOLLOWS, refused(f"17 at line {line}") if line else "") for text, line in ranges()),
+    *((["check"], text, 3, "line 2: not in turn\n", "") for text in QUEUED),
+    *((["check"], f"memory {number} 1\n", 1, "", refused("16 at line 1")) for number in ("", "01", "+1", "1_0", "x")),
+    (["check"], PURGE, 0, FOLLOWS, ""),
+    (["check"], "memory 1024 1024\n", 0, FOLLOWS, ""),
+    (["check"], PURGE.replace("\n", "\r\n"), 0, FOLLOWS, ""),
+    (["check"], PURGE.rstrip(), 0, FOLLOWS, ""),
+    (["check"], LONG, 0, FOLLOWS, ""),
+    (["check"], LONG + "node 0 line 0 Settle Done\n", 3, f"line {LONG.count(chr(10)) + 1}: not in turn\n", ""),
+    (["check"], without(22), 3, "line 23: not in turn\n", ""),
+    (["check"], PURGE.replace("0 ONLY_FRESH", "0 ONLY_DIRTY"), 3, "line 9: another word stood there\n", ""),
+    (["check"], ALONE.replace("Settle Done", "Settle Done 1 0 0 0 0 0 0 0 0"), 3, "line 5: another line is answered\n", ""),
+    (["check"], ALONE.replace("Settle Done", "Settle Busy"), 3, "line 5: it can't end so\n", ""),
+    (["check"], PURGE.replace("Settle Done", "Settle done", 1), 1, "", refused("16 at line 5")),
+    (["check"], PURGE.replace("node 1 ", "node 3 ", 1), 1, "", refused("17 at line 6")),
+    (["check", "missing"], PURGE, 1, "", READ),
+    (["check"], CLOSED, 1, "", READ),
+    (["check"], FOLDER, 1, "", READ),
+    (["check"], PURGE, 1, FULL, WRITE),
+    (["check", "x", "y"], PURGE, 2, "", USAGE),
 ]

@@ -1,4 +1,4 @@
-"""What `outcomes` lists of the calls that a script leaves open, and when `play` writes a page of their states."""
+"""What `outcomes` lists of the calls that a script leaves open, and when it writes a page of their states."""
 
 from kinds import AT_LIMIT, CLOSED, FOLDER, FULL, READ, UNREAD, USAGE, WRITE
 from kinds import Begins, Broken, Filled, Little, refused
@@ -14,8 +14,7 @@ SHARERS = "memory 3 1\n" + "".join(f"load {node} 0 0\ndone {node}\n" for node in
 
 
 # Six loads have 488,518 states: without --most it is the 100,001st that is one too many, before 80,000 are visited.
-def visited(command):
-    return "".join(f"scisim: {command}: {count} states\n" for count in (20000, 40000, 60000))
+VISITED = "".join(f"scisim: outcomes: {count} states\n" for count in (20000, 40000, 60000))
 
 
 PAGE = "<!DOCTYPE html>\n<html lang=\"en\">\n"
@@ -48,7 +47,7 @@ CASES = [
     (["outcomes"], SHARERS + "store 0 0 0 5\nevict 1 0\nevict 2 0\n", 0, Begins("states 627\noutcomes 1\n\n"), ""),
     (["outcomes"], LOADS_OF_FIVE, 0, Begins("states 36167\noutcomes 120\n\n"), "scisim: outcomes: 20000 states\n"),
     (["outcomes", "--most", "638"], STORE_AND_LOADS, 1, "", MANY),
-    (["outcomes"], LOADS_OF_SIX, 1, "", visited("outcomes") + MANY),
+    (["outcomes"], LOADS_OF_SIX, 1, "", VISITED + MANY),
     (["outcomes"], "", 1, "", refused("16 at line 1")),
     (["outcomes"], "memory 1 1\nload 0 0 0\nload 0 0 0\n", 1, "", refused("16 at line 3")),
     (["outcomes"], "memory 2 1\nload 0 0 0\nturn 0\nturn 0\nload 1 0 0\ndone 1\n", 1, "", refused("18 at line 6")),
@@ -65,27 +64,26 @@ CASES = [
     (["outcomes"], LOAD, 1, Filled(LOADED[:-1]), WRITE),
     (["outcomes", "--most", "4"], LOAD, 1, "", CLOSED),
     (["outcomes", "race", "race"], LOAD, 2, "", USAGE),
-    (["play"], LOAD, 0, Begins(PAGE), ""),
-    (["play", "race"], "", 0, Begins(PAGE), ""),
-    (["play", "--most", "5"], LOAD, 0, Begins(PAGE), ""),
-    (["play", "--most", "4"], LOAD, 1, "", MANY),
-    (["play", "--most", "x"], LOAD, 2, "", USAGE),
-    (["play"], "memory 1 1\n", 0, Begins(PAGE), ""),
-    (["play"], VICTIM, 0, Begins(PAGE), ""),
-    (["play"], STORE_AND_LOADS, 0, Begins(PAGE), ""),
-    (["play"], SHARERS + "store 0 0 0 5\nevict 1 0\nevict 2 0\n", 0, Begins(PAGE), ""),
-    (["play"], "memory 2 1\nload 0 0 0\nturn 0\nturn 0\nload 1 0 0\ndone 1\n", 1, "", refused("18 at line 6")),
-    (["play"], LOADS_OF_FIVE, 0, Begins(PAGE), "scisim: play: 20000 states\n"),
-    (["play"], LOADS_OF_SIX, 1, "", visited("play") + MANY),
-    (["play"], "", 1, "", refused("16 at line 1")),
-    (["play"], "memory 1 1\nload 0 0 0\nload 0 0 0\n", 1, "", refused("16 at line 3")),
-    (["play"], AT_LIMIT + " ", 1, "", refused("23")),
-    (["play"], Little(SHARERS + "store 0 0 0 5\nstore 1 0 0 6\nstore 2 0 0 7\n"), 1, "", refused("7")),
-    (["play", "missing"], LOAD, 1, "", READ),
-    (["play"], CLOSED, 1, "", READ),
-    (["play"], LOAD, 1, CLOSED, WRITE),
-    (["play"], LOAD, 1, FULL, WRITE),
-    (["play", "race", "race"], LOAD, 2, "", USAGE),
-    (["play", "--help"], "", 0, Begins("Writes a page on which you pick whose turn it is\n\nUsage: scisim play [OPTIONS] [FILE]\n"), ""),
-    (["outcomes", "--help"], "", 0, Begins("Lists every outcome of the calls that a script leaves open\n\nUsage: scisim outcomes [OPTIONS] [FILE]\n"), ""),
+    (["outcomes", "--page"], LOAD, 0, Begins(PAGE), ""),
+    (["outcomes", "--page", "race"], "", 0, Begins(PAGE), ""),
+    (["outcomes", "--page", "--most", "5"], LOAD, 0, Begins(PAGE), ""),
+    (["outcomes", "--page", "--most", "4"], LOAD, 1, "", MANY),
+    (["outcomes", "--page", "--most", "x"], LOAD, 2, "", USAGE),
+    (["outcomes", "--page"], "memory 1 1\n", 0, Begins(PAGE), ""),
+    (["outcomes", "--page"], VICTIM, 0, Begins(PAGE), ""),
+    (["outcomes", "--page"], STORE_AND_LOADS, 0, Begins(PAGE), ""),
+    (["outcomes", "--page"], SHARERS + "store 0 0 0 5\nevict 1 0\nevict 2 0\n", 0, Begins(PAGE), ""),
+    (["outcomes", "--page"], "memory 2 1\nload 0 0 0\nturn 0\nturn 0\nload 1 0 0\ndone 1\n", 1, "", refused("18 at line 6")),
+    (["outcomes", "--page"], LOADS_OF_FIVE, 0, Begins(PAGE), "scisim: outcomes: 20000 states\n"),
+    (["outcomes", "--page"], LOADS_OF_SIX, 1, "", VISITED + MANY),
+    (["outcomes", "--page"], "", 1, "", refused("16 at line 1")),
+    (["outcomes", "--page"], "memory 1 1\nload 0 0 0\nload 0 0 0\n", 1, "", refused("16 at line 3")),
+    (["outcomes", "--page"], AT_LIMIT + " ", 1, "", refused("23")),
+    (["outcomes", "--page"], Little(SHARERS + "store 0 0 0 5\nstore 1 0 0 6\nstore 2 0 0 7\n"), 1, "", refused("7")),
+    (["outcomes", "--page", "missing"], LOAD, 1, "", READ),
+    (["outcomes", "--page"], CLOSED, 1, "", READ),
+    (["outcomes", "--page"], LOAD, 1, CLOSED, WRITE),
+    (["outcomes", "--page"], LOAD, 1, FULL, WRITE),
+    (["outcomes", "--page", "race", "race"], LOAD, 2, "", USAGE),
+    (["outcomes", "--help"], "", 0, Begins("Lists every outcome of a script's open calls\n\nUsage: scisim outcomes [OPTIONS] [FILE]\n"), ""),
 ]

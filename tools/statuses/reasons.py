@@ -1,4 +1,4 @@
-"""What the commands over scripts say of a refusal where `--why` asks for more."""
+"""What the commands say of a refusal where `--why` asks for more."""
 
 from kinds import AT_LIMIT, CLOSED, FULL, READ, WRITE
 from kinds import Drawn, Little, Traced, refused
@@ -48,6 +48,25 @@ REASONS = [
     ),
 ]
 
+# Settings, and why they are refused 22.
+SETTINGS = [
+    ("", "no work"),
+    ('work = "x"\n', 'line 1: work = "x": stencil, ring or count wanted'),
+    ('work = "count"\nnodes = 1\n', "no adds"),
+    ('work = "count"\n\nnodes = 65\n', "line 3: nodes = 65: 1 to 64 wanted"),
+    ('work = "ring"\nlnes = 2\n', 'line 2: no key "lnes"; is it lines?'),
+    ('work = "count"\nnodes = 1.5\n', "line 2: nodes: 1 to 64 wanted, float found"),
+]
+# A dump or a history, the line of its refusal 21, and the reason.
+ROWS = [
+    ("", 1, "an early end: scidump 1 or 2 wanted"),
+    ("scidump 2 0 1\n", 1, "word 3: a number from 1 to 1024 wanted"),
+    ("scidump 2 2 1\nend\n", 2, "line 0 wanted"),
+    ("scidump 2 2 1\nline 0 000000000000000 0 0 0 0 0 0 0 0 0\n", 2, "word 3: 16 hexadecimal digits in lower case wanted, 15 bytes found"),
+    ("scihistory 2 1 1\n", 1, "word 2: 1 wanted"),
+    ("scihistory 1 1 1\nclosed 0\n", 2, "line 0 wanted"),
+]
+
 ONE, ONE_TEXT = "memory 1 1\nload 0 0 0\nload 0 0 0\n", "16 at line 3"
 OPEN = refused(ONE_TEXT) + "node 0 has a call open\n"
 SAID = "load 0 0 0\nmemory 1 1\nturn 0\nlode\nload 0 0\nload 0 0 8\nload 0 0 0\nload 0 0 0\ndone 0\ndone 0\n"
@@ -66,22 +85,26 @@ MIXED = (
 CASES = [
     *[(["script", "--why"], script, 1, text, refused(rest) + why + "\n") for script, rest, why, text in REASONS],
     *[(["trace", "--why"], script, 1, Traced(text), refused(rest) + why + "\n") for script, rest, why, text in REASONS],
-    *[(["draw", "--why"], script, 1, Drawn(text), refused(rest) + why + "\n") for script, rest, why, text in REASONS],
+    *[(["trace", "--page", "--why"], script, 1, Drawn(text), refused(rest) + why + "\n") for script, rest, why, text in REASONS],
     *[(["outcomes", "--why"], script, 1, "", refused(rest) + why + "\n") for script, rest, why, _ in REASONS],
-    *[(["play", "--why"], script, 1, "", refused(rest) + why + "\n") for script, rest, why, _ in REASONS],
+    *[(["outcomes", "--page", "--why"], script, 1, "", refused(rest) + why + "\n") for script, rest, why, _ in REASONS],
+    *[([*run, "--why"], given, 1, "", refused("22") + why + "\n") for given, why in SETTINGS for run in (["run"], ["run", "--history"])],
+    *[(["check", "--why"], given, 1, "", refused(f"21 at line {line}") + why + "\n") for given, line, why in ROWS],
+    # A log streams, and gives no reason.
+    (["check", "--why"], "memory 1 1\nlode\n", 1, "", refused("16 at line 2")),
     (["script", "--why"], ROW, 0, TEXT, ""),
     (["script", "--why", "row"], "", 0, TEXT, ""),
     (["script", "bad", "--why"], "", 1, "", refused("17 at line 1") + "word 2: a number from 1 to 1024 wanted\n"),
     (["trace", "--log", "--why"], ONE, 1, "memory 1 1\n", OPEN),
     (["script", "--why", "long"], "", 1, "", refused("23")),
     (["script", "--why"], AT_LIMIT, 1, "", refused("16 at line 2") + "memory wanted first\n"),
-    (["script", "--why", "missing"], "", 1, "", READ),
-    (["script", "--why"], CLOSED, 1, "", READ),
-    (["script", "--why"], ROW, 1, FULL, WRITE),
+    (["script", "--why", "missing"], "", 1, "", READ + "missing: no such file\n"),
+    (["script", "--why"], CLOSED, 1, "", READ + "standard input: closed\n"),
+    (["script", "--why"], ROW, 1, FULL, WRITE + "standard output: no space left\n"),
     (["script", "--why"], ONE, 1, "", CLOSED),
     (["script", "--why"], Little(LARGEST), 1, "", refused("7")),
     (["outcomes", "--why", "--most", "1"], "memory 1 1\nload 0 0 0\n", 1, "", "scisim: too many states\nturns lead to more than 1 states\n"),
-    (["play", "--most", "4", "--why"], "memory 1 1\nload 0 0 0\n", 1, "", "scisim: too many states\nturns lead to more than 4 states\n"),
+    (["outcomes", "--page", "--most", "4", "--why"], "memory 1 1\nload 0 0 0\n", 1, "", "scisim: too many states\nturns lead to more than 4 states\n"),
     (["talk", "--why"], SAID, 0, ANSWERED, WHYS),
     (["talk", "--why"], AT_LIMIT + "xx\n" + AT_LIMIT + "x\n", 0, "refused 16\nrefused 16\n", "a line of more than 1048576 bytes\n" * 2),
     (["talk", "--why"], UNENDED, 0, "ok\nok\nnode 0 wrote stamp 1\nok\nok\nok\nok\nrefused 18\n", "node 1 waits for node 0\n"),

@@ -136,7 +136,7 @@ CASES = [
     (["run", "--progress"], LONG, 1, FULL, TOLD + WRITE),
     (["run", "--progress"], "", 1, "", refused("22")),
     (["run", "--progress", "--progress"], COUNT, 2, "", USAGE),
-    (["run", "--help"], "", 0, Begins("Runs a workload, each node in a thread of its own, and prints its result\n\nUsage: scisim run [OPTIONS] [FILE]\n"), ""),
+    (["run", "--help"], "", 0, Begins("Runs a workload in threads\n\nUsage: scisim run [OPTIONS] [FILE]\n"), ""),
     (["run"], COUNT.replace("nodes = 4\nadds = 1000", "nodes = 64\nadds = 10"), 0, "count 640\n", ""),
     (["run"], STENCIL.replace("nodes = 3", "nodes = 1"), 0, SPREAD, ""),
     (["run"], STENCIL.replace("nodes = 3", "nodes = 2"), 0, SPREAD, ""),

@@ -1,4 +1,4 @@
-"""What `script`, `trace` and `draw` read and write."""
+"""What `script` and `trace` read and write."""
 
 from kinds import AT_LIMIT, CLOSED, FOLDER, FULL, LIMIT, READ, UNREAD, USAGE, WRITE
 from kinds import Begins, Broken, Drawn, Filled, Little, Page, Traced, WholePage, refused
@@ -52,28 +52,13 @@ FILES = {
     "-row": ROW,
 }
 
-HELP = """A model of cache coherence by sharing lists: runs scripts of loads, stores and exits, turn by turn, runs workloads in threads, and checks
-texts of your own.
+HELP = """\
+A model of cache coherence by sharing lists.
 
 Usage: scisim <COMMAND>
 
-Scripts:
-  script    Runs a script and prints its text
-  trace     Runs a script, and says of each turn what it did
-  draw      Runs a script, and writes a page that shows each turn
-  outcomes  Lists every outcome of the calls that a script leaves open
-  play      Writes a page on which you pick whose turn it is
-  talk      Answers a script's commands one by one
-
-Workloads:
-  run       Runs a workload, each node in a thread of its own, and prints its result
-  history   Runs a workload, and prints what its nodes read and wrote on each line
-
-Checks of your own texts:
-  check     Checks that each line of a dump is an exact sharing list
-  legal     Checks that what the nodes read and wrote on each line is one history of it
-  follow    Checks that a log of a simulator's own run is one of the table of exchanges
-"""
+Commands, and whom they serve:
+  script """
 
 # The whole program's, and those of `script`.
 CASES = [
@@ -148,7 +133,7 @@ CASES = [
     (["script", "missing"], "", 1, "", CLOSED),
     (["script", "row", "row"], ROW, 2, "", USAGE),
     (["script", "--nonsense"], ROW, 2, "", USAGE),
-    (["script", "--help"], "", 0, Begins("Runs a script and prints its text\n\nUsage: scisim script [OPTIONS] [FILE]\n"), ""),
+    (["script", "--help"], "", 0, Begins("Runs a script\n\nUsage: scisim script [OPTIONS] [FILE]\n"), ""),
 ]
 
 SCRIPTS = [it for it in CASES if it[0][:1] == ["script"] and it[0] != ["script", "--help"]]
@@ -161,20 +146,19 @@ CASES += [
     for arguments, given, status, out, error in SCRIPTS
 ] + [
     (["trace"], ONE_TURN, 0, "# node 0 line 0 load: Queue(none) Done; Queueing(none); HOME\n", ""),
-    (["trace", "--help"], "", 0, Begins("Runs a script, and says of each turn what it did\n\nUsage: scisim trace [OPTIONS] [FILE]\n"), ""),
+    (["trace", "--help"], "", 0, Begins("Says of each turn of a script what it did\n\nUsage: scisim trace [OPTIONS] [FILE]\n"), ""),
 ]
 
-# And so does `draw`, as a page on standard output; it has one to write where the script's text is empty.
+# And so does --page, as a page on standard output; it has one to write where the script's text is empty.
 CASES += [
-    (["draw", *arguments[1:]], given, status, (Drawn if status else Page)(out) if isinstance(out, str) else out, error)
+    (["trace", "--page", *arguments[1:]], given, status, (Drawn if status else Page)(out) if isinstance(out, str) else out, error)
     for arguments, given, status, out, error in SCRIPTS
     if status or isinstance(out, str)
 ] + [
-    (["draw"], "memory 1 1", 1, FULL, WRITE),
-    (["draw"], "memory 1 1\n", 0, WholePage(""), ""),
-    (["draw"], "memory 1 1\nlist 0\n", 0, WholePage("line 0 HOME\n"), ""),
-    (["draw"], ONE_TURN, 0, Begins("<!DOCTYPE html>\n"), ""),
-    (["draw", "--help"], "", 0, Begins("Runs a script, and writes a page that shows each turn\n\nUsage: scisim draw [OPTIONS] [FILE]\n"), ""),
+    (["trace", "--page"], "memory 1 1", 1, FULL, WRITE),
+    (["trace", "--page"], "memory 1 1\n", 0, WholePage(""), ""),
+    (["trace", "--page"], "memory 1 1\nlist 0\n", 0, WholePage("line 0 HOME\n"), ""),
+    (["trace", "--page"], ONE_TURN, 0, Begins("<!DOCTYPE html>\n"), ""),
 ]
 
 TALKED = (
@@ -186,7 +170,7 @@ TALKED = (
 CASES += [
     (["talk"], ROW, 0, TALKED, ""),
     (["talk"], "", 0, "", ""),
-    (["talk"], "list 0\nmemory 0 1\nmemory 1 1\nmemory 1 1\nlist 0", 0, "refused 16\nrefused 17\nok\nrefused 16\nline 0 HOME\nok\n", ""),
+    (["talk"], "list 0\nmemory 0 1\nmemory 1 1\nmemory 1 1\nlist 0", 0, "refused 16\nrefused 17\nok\nok\nline 0 HOME\nok\n", ""),
     (["talk"], UNENDED + "done 0\n", 0, "ok\nok\nnode 0 wrote stamp 1\nok\nok\nok\nok\nrefused 18\nnode 0 wrote stamp 2\nok\n", ""),
     (["talk"], AT_LIMIT + "\n" + AT_LIMIT + " \n" + ROW, 0, "ok\nrefused 16\n" + TALKED, ""),
     # More than 1,000 reads: a talk has no end but that of its input.
@@ -203,7 +187,7 @@ CASES += [
     (["talk", "--help"], "", 0, Begins("Answers a script's commands one by one\n\nUsage: scisim talk [OPTIONS]\n"), ""),
 ]
 
-# Scripts that end in each way: `trace` and `draw` do with them what `script` does.
+# Scripts that end in each way: `trace` does with them what `script` does, as text and as a page.
 ALIKE = [
     ROW,
     UNENDED,

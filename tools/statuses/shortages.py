@@ -40,7 +40,7 @@ PHASES = 'work = "stencil"\nnodes = 1\ncapacity = 2\nphases = 100000\ncells = [1
 SERVED = [
     ("script", GROWING, ITS_TEXT, True),
     ("trace", GROWING, None, True),
-    ("draw", GROWING, None, True),
+    ("trace --page", GROWING, None, True),
     ("run", ONE.ljust(LIMIT, "\n"), "count 1000\n", False),
     ("check", LARGE_DUMP, ITS_LISTS, False),
     ("outcomes", STORE_AND_LOADS, None, False),
@@ -53,9 +53,9 @@ CASES = [
     (["run"], Crowded(COUNT.replace("nodes = 4", "nodes = 64")), 1, "", refused("26")),
     (["run"], Crowded(ONE), 0, "count 1000\n", ""),
     (["run"], Little(MILLIONS, 300_000_000), 1, "", refused("7")),
-    (["history"], Little(MILLIONS, 300_000_000), 1, "", refused("7")),
+    (["run", "--history"], Little(MILLIONS, 300_000_000), 1, "", refused("7")),
     (["run"], Little(PHASES, 60_000_000), 0, summed(100_000), ""),
-    (["history"], Little(PHASES, 60_000_000), 1, "", refused("7")),
+    (["run", "--history"], Little(PHASES, 60_000_000), 1, "", refused("7")),
 ]
 
 

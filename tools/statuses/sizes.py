@@ -76,9 +76,9 @@ CASES = [
     *((["script"], *it) for it in LARGEST),
     (["script"], NAMED, 0, ITS_NAMES, ""),
     (["trace"], NAMED, 0, Traced(ITS_NAMES), ""),
-    (["draw"], NAMED, 0, Page(ITS_NAMES), ""),
+    (["trace", "--page"], NAMED, 0, Page(ITS_NAMES), ""),
     *((["trace"], *it) for it in LARGEST[:1]),
-    *((["draw"], script, status, Page(text), said) for script, status, text, said in LARGEST[:1]),
+    *((["trace", "--page"], script, status, Page(text), said) for script, status, text, said in LARGEST[:1]),
     (["check"], DUMP, 0, ITS_VERDICT, ""),
     (["run"], RING, 0, ITS_ITEMS, ""),
 ]

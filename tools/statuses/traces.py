@@ -1,4 +1,4 @@
-"""What `trace` tells of each turn, worked by hand from the walks and the tables of docs/PROTOCOL.md. A page of `draw` has the same text."""
+"""What `trace` tells of each turn, worked by hand from the walks and the tables of docs/PROTOCOL.md. A page has the same text."""
 
 import re
 
@@ -390,10 +390,10 @@ CASES = [
     (["trace", "--log"], "memory 2 2\ncapacity 1\nopen 1 3 1 2 3 4 5 6 7 8\nopen 1 4 0 0 0 0 0 0 0 18446744073709551615\n", 0,
      "memory 2 2\nopen 1 3 1 2 3 4 5 6 7 8\nopen 1 4 0 0 0 0 0 0 0 18446744073709551615\n", ""),
     (["trace"], LITTLE, 1, ITS_TRACE, refused("18 at line 7")),
-    (["draw"], LITTLE, 1, WholePage(ITS_TRACE), refused("18 at line 7")),
+    (["trace", "--page"], LITTLE, 1, WholePage(ITS_TRACE), refused("18 at line 7")),
     *((["trace"], script, status, text, error) for script, status, text, error in TRACED),
-    *((["draw"], script, status, WholePage(text), error) for script, status, text, error in TRACED),
+    *((["trace", "--page"], script, status, WholePage(text), error) for script, status, text, error in TRACED),
 ]
 
-# What `trace` and `draw` do with these is what `script` does.
+# What `trace` does with these, as text and as a page, is what `script` does.
 ALIKE = [script for script, *_ in TRACED]

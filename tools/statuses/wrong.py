@@ -24,16 +24,16 @@ CASES = [
     (["script"], ROW, 0, Filled(TEXT.replace("node", "NODE")), ""),
     (["trace"], ROW, 0, TEXT, ""),
     (["trace"], ROW, 0, Traced(TEXT[:-1]), ""),
-    (["draw"], ROW, 0, Traced(TEXT), ""),
-    (["draw"], ROW, 0, Drawn(TEXT[:-1]), ""),
-    (["draw"], ROW, 0, Page(TEXT[:-1]), ""),
-    (["draw"], ROW, 0, WholePage(TEXT), ""),
-    (["draw"], "", 1, Page(""), refused("16 at line 1")),
+    (["trace", "--page"], ROW, 0, Traced(TEXT), ""),
+    (["trace", "--page"], ROW, 0, Drawn(TEXT[:-1]), ""),
+    (["trace", "--page"], ROW, 0, Page(TEXT[:-1]), ""),
+    (["trace", "--page"], ROW, 0, WholePage(TEXT), ""),
+    (["trace", "--page"], "", 1, Page(""), refused("16 at line 1")),
     (["script"], ROW, 0, Page(TEXT), ""),
     (["run"], COUNT, 0, Lawful("count 4000\n"), ""),
     (["run"], ALONE, 0, Lawful("count 4\n"), ""),
     (["run"], ALONE, 0, Legal("count 3\n"), ""),
-    (["history"], ALONE, 0, Legal("scihistory 1 2 1\n"), ""),
+    (["run", "--history"], ALONE, 0, Legal("scihistory 1 2 1\n"), ""),
 ]
 
 LOW, LEAST, WHOLE = 1_000_000, 50_000_000, "one\ntwo\n"

@@ -12,4 +12,6 @@ mod ops;
 #[cfg(test)]
 mod port;
 #[cfg(test)]
+mod reasons;
+#[cfg(test)]
 mod whole;

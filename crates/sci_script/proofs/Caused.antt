@@ -1,11 +1,11 @@
 -- Why a command was refused is a reason of that refusal.
-use Rattle.std.proofs.Common.{◌≡◌, ◌∙◌, ℕ, zero, suc, ◌<◌, ◌&&◌, nat_lt, Bool, true, false, true≢false, List, Option, Some, None, Result, Ok, Err, is_some, if◌then◌else◌, refl, sym, ap, subst, ⊎_elim, arith}
+use Rattle.std.proofs.Common.{◌≡◌, ◌∙◌, ℕ, zero, suc, ◌<◌, ◌&&◌, nat_lt, Bool, true, false, true≢false, List, Option, Some, None, Result, Err, is_some, if◌then◌else◌, refl, sym, ap, subst, ⊎_elim, arith}
 use Rattle.std.proofs.lemmas.Bool.Decides.{nat_tests}
 use Rattle.sci_core.proofs.Answered.{update_same}
 use Rattle.sci_ops.specs.declared.answers.Turn.{Turn}
 use Rattle.sci_ops.specs.declared.answers.Turn.TheVariants as turns
 use Rattle.sci_cache.specs.declared.calls.OpenCall.{OpenCall}
-use Rattle.sci_cache.specs.Nodes.{NodeState, node_after, call_after, line_by, shown_by}
+use Rattle.sci_cache.specs.Nodes.{NodeState, node_after, call_after, shown_by}
 use Rattle.sci_script.specs.declared.commands.Command.{Command}
 use Rattle.sci_script.specs.declared.commands.Command.TheVariants.{Begin, Turn as TakeTurn, Done, Rest, End, List as ListLine, Tag as ShowTag, Residents}
 use Rattle.sci_script.specs.declared.commands.Opening.{Opening}
@@ -16,16 +16,15 @@ use Rattle.sci_script.specs.declared.reasons.Reason.TheVariants.{CallOpen, NoCal
 use Rattle.sci_script.specs.declared.refusals.ScriptRefusal.{ScriptRefusal}
 use Rattle.sci_script.specs.declared.refusals.ScriptRefusal.TheVariants.{OutOfMemory, BadCommand, BadNumber, NotDone, WriteFailed}
 use Rattle.sci_script.specs.Causes.{refused_for, IsRefusedFor, HasReason}
-use Rattle.sci_script.specs.Event.{Turned, IsNoEnd}
+use Rattle.sci_script.specs.Event.{IsNoEnd}
 use Rattle.sci_script.specs.Reasons.{IsWhy, IsUnendedBy, IsWhySaid, IsWhyTaken, wait_reason, unbegun_reason}
 use Rattle.sci_script.specs.Run.{Unended, StopsAt}
 use Rattle.sci_script.specs.ScriptText.{Opens}
 use Rattle.sci_script.specs.Shared.{Shared, TakesTurnOf, shared_is_open, shared_does}
 use Rattle.sci_script.specs.Size.{is_request, IsIn}
-use Rattle.sci_script.specs.Talks.{Standing, Declines, FailsFirst, Refuses, place_of, said_step}
+use Rattle.sci_script.specs.Talks.{Standing, Declines, FailsFirst, Refuses, heard, said_step}
 use Rattle.sci_script.specs.declared.said.Read.{Read}
 use Rattle.sci_script.specs.Format.{Sayings}
-use Rattle.sci_script.specs.Grammar.{line_read}
 
 -- a turn that doesn't end the call leaves it open
 open_after : (c : OpenCall) (victim : Option ℕ) (turn : Turn) → IsNoEnd (shown_by victim turn) → is_some (call_after c victim turn) ≡ true
@@ -154,7 +153,7 @@ pub first_fits : (said : Sayings) (command : Command) (e : ScriptRefusal) → Is
 first_fits said command e inside (s, end, o, h) some = first_by said.place.size said.capacity said.openings command e s end inside o h some
 
 -- and of a line that isn't taken
-pub line_fits : (s t : Standing) (line : List ℕ) (reason : Reason) (e : ScriptRefusal) (why : Option Reason) → line_read (place_of s) line ≡ Err reason → Refuses s line e t → (e ≡ OutOfMemory → ⊥) → IsWhySaid t line why
+pub line_fits : (s t : Standing) (line : List ℕ) (reason : Reason) (e : ScriptRefusal) (why : Option Reason) → heard s line ≡ Err reason → Refuses s line e t → (e ≡ OutOfMemory → ⊥) → IsWhySaid t line why
     → IsRefusedFor e why
 line_fits s t line reason e why is (kept, h) some told =
     let (refused, same) = subst (λ (r : Result Read Reason). Declines s r e t) is h in

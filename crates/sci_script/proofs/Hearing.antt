@@ -7,20 +7,19 @@ use Rattle.sci_cache.specs.Nodes.{node_state}
 use Rattle.sci_script.specs.declared.commands.Size.{Size}
 use Rattle.sci_script.specs.declared.commands.Opening.{Opening}
 use Rattle.sci_script.specs.declared.commands.Step.{Step}
-use Rattle.sci_script.specs.declared.commands.Command.{Command}
 use Rattle.sci_script.specs.declared.said.Read.{Read}
 use Rattle.sci_script.specs.declared.said.Read.TheVariants as reads
 use Rattle.sci_script.specs.Format.{Sayings, entries_from, script_of, unsaid, with_lines, with_read}
 use Rattle.sci_script.specs.Grammar.{line_read}
 use Rattle.sci_script.specs.Openings.{zeros, content_of}
 use Rattle.sci_script.specs.Request.{no_words, words_after}
-use Rattle.sci_script.specs.Run.{Prints, PrintsAll}
+use Rattle.sci_script.specs.Run.{PrintsAll}
 use Rattle.sci_script.specs.ScriptText.{IsTextOf, Opens}
 use Rattle.sci_script.specs.Shared.{Shared, shared_is_open, shared_does}
-use Rattle.sci_script.specs.Talks.{Standing, Silent, Gathering, Going, Accepts, AcceptsBy, AcceptsAll, Says, Takes, place_of}
+use Rattle.sci_script.specs.Talks.{Standing, Silent, Gathering, Going, Accepts, AcceptsBy, AcceptsAll, Says, Takes, heard}
 use Rattle.sci_script.specs.Words.{is_skipped}
 use Rattle.sci_script.proofs.Reading.{entries_skip, entries_found, entries_end, first_read, no_lines, said_of, same_ok}
-use Rattle.sci_script.proofs.Saying.{Commands, commanded, commands_of, decide}
+use Rattle.sci_script.proofs.Saying.{Commands, commanded, commands_of, decide, heard_as}
 
 -- what the parts are together
 abbrev together : List (List ℕ) → List ℕ
@@ -30,7 +29,7 @@ together parts = flat_map (λ (part : List ℕ). part) parts
 skips : (s mid : Standing) (line first : List ℕ) → is_skipped line ≡ true → Accepts s line first mid → (first ≡ []) × (mid ≡ s)
 skips s mid line first skip a = subst (λ (b : Bool). AcceptsBy b s line first mid) skip a
 
-takes : (s mid : Standing) (line first : List ℕ) (read : Read) → is_skipped line ≡ false → line_read (place_of s) line ≡ Ok read → Accepts s line first mid → Takes s read first mid
+takes : (s mid : Standing) (line first : List ℕ) (read : Read) → is_skipped line ≡ false → heard s line ≡ Ok read → Accepts s line first mid → Takes s read first mid
 takes s mid line first read kept is a =
     let (found, found_is, k) = subst (λ (b : Bool). AcceptsBy b s line first mid) kept a in
     subst (λ (r : Read). Takes s r first mid) (same_ok found read (sym found_is ∙ is)) k
@@ -93,24 +92,24 @@ heard_front line first lines rest n s f (reads.Command command) mid u none kept 
     subst (λ (x : Sayings). IsTextBehind x (together (first ∷ rest))) (sym behind) (from, rest_of.0, opened, (first, together rest, e, printed, rest_of.1, refl))
 
 -- lines of which none is behind a command yet
-heard : (lines : List (List ℕ)) (n : ℕ) (s f : Sayings) (parts : List (List ℕ)) (u : Standing) → s.steps ≡ [] → with_lines s (entries_from n lines) ≡ Ok f → AcceptsAll (Gathering s) lines parts u
+heard_lines : (lines : List (List ℕ)) (n : ℕ) (s f : Sayings) (parts : List (List ℕ)) (u : Standing) → s.steps ≡ [] → with_lines s (entries_from n lines) ≡ Ok f → AcceptsAll (Gathering s) lines parts u
     → IsTextBehind f (together parts)
-heard [] n s f parts u none e a =
+heard_lines [] n s f parts u none e a =
     let same = no_lines s f (ap (with_lines s) (sym (entries_end n)) ∙ e) in
     let from = unused f.place.size f.capacity f.openings in
     let nothing = ap (λ (x : Sayings). x.steps) (sym same) ∙ none in
     (from, from, opens_unused f.place.size f.capacity f.openings, subst (λ (ss : List Step). PrintsAll shared_is_open shared_does no_words from ss (together parts) from) (sym nothing) (ap together a.0, refl))
-heard (line ∷ lines) n s f parts u none e (first, rest, mid, a, all, is) =
+heard_lines (line ∷ lines) n s f parts u none e (first, rest, mid, a, all, is) =
     subst (λ (ps : List (List ℕ)). IsTextBehind f (together ps)) (sym is) (decide (is_skipped line)
     (λ skip.
     let p = past (Gathering s) mid line first lines rest u skip a all in
-    subst (IsTextBehind f) (sym p.1) (heard lines (n + 1) s f rest u none (ap (with_lines s) (sym (entries_skip n line lines (is_skipped line) refl skip)) ∙ e) p.0))
+    subst (IsTextBehind f) (sym p.1) (heard_lines lines (n + 1) s f rest u none (ap (with_lines s) (sym (entries_skip n line lines (is_skipped line) refl skip)) ∙ e) p.0))
     (λ kept.
     let (read, reads, more) = first_read s (n, line) (entries_from (n + 1) lines) f (ap (with_lines s) (sym (entries_found n line lines (is_skipped line) refl kept)) ∙ e) in
-    heard_front line first lines rest n s f read mid u none kept reads more (takes (Gathering s) mid line first read kept reads a) all
-    (λ next left on these. heard lines (n + 1) next f rest u left on these)))
+    heard_front line first lines rest n s f read mid u none kept reads more (takes (Gathering s) mid line first read kept (heard_as s line read reads) a) all
+    (λ next left on these. heard_lines lines (n + 1) next f rest u left on these)))
 
 pub heard_script : (input text : List ℕ) (script : Size × ℕ × List Opening × List Step) → script_of input ≡ Ok script → Says Silent (lines input) text → IsTextOf script.0 script.1 script.2 script.3 text
 heard_script input text script e (parts, u, all, is) =
     let (f, these, same) = said_of input script e in
-    subst (λ (q : Size × ℕ × List Opening × List Step). IsTextOf q.0 q.1 q.2 q.3 text) same (subst (IsTextBehind f) is (heard (lines input) 1 unsaid f parts u refl these all))
+    subst (λ (q : Size × ℕ × List Opening × List Step). IsTextOf q.0 q.1 q.2 q.3 text) same (subst (IsTextBehind f) is (heard_lines (lines input) 1 unsaid f parts u refl these all))

@@ -1,23 +1,24 @@
 -- A script's lines, said one by one, print what the script prints.
-use Rattle.std.proofs.Common.{◌≡◌, ℕ, ◌+◌, List, [], ◌∷◌, ◌++◌, Bool, true, false, Ok, refl, sym, ap, subst, ◌∙◌, append_assoc}
+use Rattle.std.proofs.Common.{◌≡◌, ℕ, ◌+◌, List, [], ◌∷◌, ◌++◌, Bool, true, false, Result, Ok, refl, sym, ap, subst, ◌∙◌, append_assoc}
 use Rattle.std.specs.Str.Lines.{lines}
 use Rattle.std.proofs.lemmas.List.{append-nil}
 use Rattle.sci_script.specs.declared.commands.Size.{Size}
 use Rattle.sci_script.specs.declared.commands.Opening.{Opening}
 use Rattle.sci_script.specs.declared.commands.Step.{Step}
 use Rattle.sci_script.specs.declared.commands.Command.{Command}
+use Rattle.sci_script.specs.declared.reasons.Reason.{Reason}
 use Rattle.sci_script.specs.declared.said.Read.{Read}
 use Rattle.sci_script.specs.declared.said.Read.TheVariants as reads
 use Rattle.sci_script.specs.Format.{Sayings, entries_from, script_of, unsaid, with_lines, with_read}
-use Rattle.sci_script.specs.Grammar.{line_read}
+use Rattle.sci_script.specs.Grammar.{first_place, line_read}
 use Rattle.sci_script.specs.Request.{no_words, words_after}
 use Rattle.sci_script.specs.Run.{PrintsAll}
 use Rattle.sci_script.specs.ScriptText.{Opens, IsTextOf}
 use Rattle.sci_script.specs.Shared.{Shared, shared_is_open, shared_does}
-use Rattle.sci_script.specs.Talks.{Standing, Silent, Gathering, Going, Accepts, AcceptsBy, Says, Takes, place_of}
+use Rattle.sci_script.specs.Talks.{Standing, Silent, Gathering, Going, Accepts, AcceptsBy, Says, Takes, anew, heard}
 use Rattle.sci_script.specs.Words.{is_skipped}
 use Rattle.sci_script.proofs.Fitting.{behind_commands, late_line}
-use Rattle.sci_script.proofs.Reading.{entries_skip, entries_found, entries_end, first_read, no_lines, said_of, same_ok}
+use Rattle.sci_script.proofs.Reading.{entries_skip, entries_found, entries_end, first_read, no_lines, said_of}
 
 pub decide : {X : Type 0} (b : Bool) → (b ≡ true → X) → (b ≡ false → X) → X
 decide true f g = f refl
@@ -30,7 +31,11 @@ more_said s mid line lines first rest a r = (first ∷ r.0, r.1, (first, r.0, mi
 skipped : (s : Standing) (line : List ℕ) (lines : List (List ℕ)) (text : List ℕ) → is_skipped line ≡ true → Says s lines text → Says s (line ∷ lines) text
 skipped s line lines text skip r = more_said s s line lines [] text (subst (λ (b : Bool). AcceptsBy b s line [] s) (sym skip) (refl, refl)) r
 
-accepted : (s t : Standing) (line text : List ℕ) (read : Read) → is_skipped line ≡ false → line_read (place_of s) line ≡ Ok read → Takes s read text t → Accepts s line text t
+-- what a line of a script says it says in a talk
+pub heard_as : (said : Sayings) (line : List ℕ) (read : Read) → line_read said.place line ≡ Ok read → heard (Gathering said) line ≡ Ok read
+heard_as said line read is = ap (λ (r : Result Read Reason). anew r (line_read first_place line)) is
+
+accepted : (s t : Standing) (line text : List ℕ) (read : Read) → is_skipped line ≡ false → heard s line ≡ Ok read → Takes s read text t → Accepts s line text t
 accepted s t line text read kept is k = subst (λ (b : Bool). AcceptsBy b s line text t) (sym kept) (read, is, k)
 
 -- lines behind a command, and what they say: commands
@@ -79,13 +84,13 @@ front_said : (line : List ℕ) (lines : List (List ℕ)) (n : ℕ) (s f : Saying
     → Says (Gathering s) (line ∷ lines) text
 front_said line lines n s f from to text (reads.Memory size) none kept is more o p on =
     let next = with_read s 1 (reads.Memory size) in
-    more_said (Gathering s) (Gathering next) line lines [] text (accepted (Gathering s) (Gathering next) line [] (reads.Memory size) kept is (refl, refl)) (on next refl more)
+    more_said (Gathering s) (Gathering next) line lines [] text (accepted (Gathering s) (Gathering next) line [] (reads.Memory size) kept (heard_as s line (reads.Memory size) is) (refl, refl)) (on next refl more)
 front_said line lines n s f from to text (reads.Capacity capacity) none kept is more o p on =
     let next = with_read s 1 (reads.Capacity capacity) in
-    more_said (Gathering s) (Gathering next) line lines [] text (accepted (Gathering s) (Gathering next) line [] (reads.Capacity capacity) kept is (refl, refl)) (on next none more)
+    more_said (Gathering s) (Gathering next) line lines [] text (accepted (Gathering s) (Gathering next) line [] (reads.Capacity capacity) kept (heard_as s line (reads.Capacity capacity) is) (refl, refl)) (on next none more)
 front_said line lines n s f from to text (reads.Open opening) none kept is more o p on =
     let next = with_read s 1 (reads.Open opening) in
-    more_said (Gathering s) (Gathering next) line lines [] text (accepted (Gathering s) (Gathering next) line [] (reads.Open opening) kept is (refl, refl)) (on next none more)
+    more_said (Gathering s) (Gathering next) line lines [] text (accepted (Gathering s) (Gathering next) line [] (reads.Open opening) kept (heard_as s line (reads.Open opening) is) (refl, refl)) (on next none more)
 front_said line lines n s f from to text (reads.Command command) none kept is more o p on =
     let size = s.place.size in
     let step : Step = record { number = n; command = command } in
@@ -96,7 +101,7 @@ front_said line lines n s f from to text (reads.Command command) none kept is mo
     let after = words_after no_words command in
     subst (Says (Gathering s) (line ∷ lines)) (sym q.5)
     (more_said (Gathering s) (Going size after q.2) line lines q.0 q.1
-    (accepted (Gathering s) (Going size after q.2) line q.0 (reads.Command command) kept is (from, q.2, opened, q.3, refl)) (going lines (n + 1) size after q.2 to steps q.1 are q.4))
+    (accepted (Gathering s) (Going size after q.2) line q.0 (reads.Command command) kept (heard_as s line (reads.Command command) is) (from, q.2, opened, q.3, refl)) (going lines (n + 1) size after q.2 to steps q.1 are q.4))
 
 -- lines of which none is behind a command yet
 said : (lines : List (List ℕ)) (n : ℕ) (s f : Sayings) (from to : Shared) (text : List ℕ) → s.steps ≡ [] → with_lines s (entries_from n lines) ≡ Ok f

@@ -1,5 +1,5 @@
 -- Why a command of a script is refused over its desk, as that stands behind the refusal. This project's profile.
-use Rattle.std.specs.Prelude.{◌≡◌, ◌⊎◌, ℕ, Bool, true, false, List, [], Option, Some, None, Result, Ok, Err, slice_get, if◌then◌else◌}
+use Rattle.std.specs.Prelude.{◌≡◌, ◌⊎◌, ℕ, List, Option, Some, None, Result, Ok, Err, slice_get, if◌then◌else◌}
 use Rattle.sci_ops.specs.declared.answers.Turn.TheVariants.{Moved}
 use Rattle.sci_cache.specs.Nodes.{line_by}
 use Rattle.sci_cache.specs.declared.calls.OpenCall.{OpenCall}
@@ -15,11 +15,10 @@ use Rattle.sci_script.specs.declared.refusals.ScriptRefusal.TheVariants as refus
 use Rattle.sci_script.specs.declared.said.Read.{Read}
 use Rattle.sci_script.specs.declared.said.Read.TheVariants as reads
 use Rattle.sci_script.specs.Event.{Turned}
-use Rattle.sci_script.specs.Grammar.{line_read}
 use Rattle.sci_script.specs.Run.{Leaves, Repeats}
 use Rattle.sci_script.specs.ScriptText.{Opens, IsTextOf}
 use Rattle.sci_script.specs.Shared.{Shared, shared_is_open, shared_does}
-use Rattle.sci_script.specs.Talks.{Standing, Gathering, Going, place_of}
+use Rattle.sci_script.specs.Talks.{Standing, Gathering, Going, heard}
 use Rattle.sci_script.specs.Waiting.{IsAwaited}
 
 -- a node that waits for nobody could go on
@@ -92,4 +91,4 @@ IsWhyTaken s (Ok read) why = why ≡ None
 
 -- why a line of a talk was refused, by the talk as it stands behind the refusal
 abbrev pub IsWhySaid : Standing → List ℕ → Option Reason → Type 0
-IsWhySaid s line why = IsWhyTaken s (line_read (place_of s) line) why
+IsWhySaid s line why = IsWhyTaken s (heard s line) why

@@ -1,5 +1,5 @@
 -- A talk: the commands of a script, said one by one. This project's profile.
-use Rattle.std.specs.Prelude.{◌≡◌, ◌⊎◌, ℕ, Bool, true, false, List, [], ◌∷◌, Result, Ok, Err}
+use Rattle.std.specs.Prelude.{◌≡◌, ◌⊎◌, ℕ, Bool, true, false, List, [], ◌∷◌, Result, Ok, Err, if◌then◌else◌}
 use Rattle.std.specs.List.{flat_map}
 use Rattle.sci_script.specs.declared.commands.Size.{Size}
 use Rattle.sci_script.specs.declared.commands.Step.{Step}
@@ -7,13 +7,14 @@ use Rattle.sci_script.specs.declared.commands.Command.{Command}
 use Rattle.sci_script.specs.declared.places.Place.{Place}
 use Rattle.sci_script.specs.declared.places.Stand.TheVariants as stands
 use Rattle.sci_script.specs.declared.reasons.Reason.{Reason}
+use Rattle.sci_script.specs.declared.reasons.Reason.TheVariants.{Early, Late}
 use Rattle.sci_script.specs.declared.refusals.ScriptRefusal.{ScriptRefusal}
 use Rattle.sci_script.specs.declared.refusals.ScriptRefusal.TheVariants.{OutOfMemory}
 use Rattle.sci_script.specs.declared.said.Read.{Read}
 use Rattle.sci_script.specs.declared.said.Read.TheVariants as reads
 use Rattle.sci_script.specs.Causes.{refused_for}
 use Rattle.sci_script.specs.Format.{Sayings, unsaid, with_read}
-use Rattle.sci_script.specs.Grammar.{line_read}
+use Rattle.sci_script.specs.Grammar.{first_place, line_read}
 use Rattle.sci_script.specs.Request.{no_words, words_after}
 use Rattle.sci_script.specs.Run.{Prints, StopsAt}
 use Rattle.sci_script.specs.ScriptText.{Opens}
@@ -34,6 +35,29 @@ abbrev pub place_of : Standing → Place
 place_of (Gathering said) = said.place
 place_of (Going size shown s) = record { stand = stands.Commands; size = size }
 
+abbrev pub is_late : Reason → Bool
+is_late Late = true
+is_late reason = false
+
+abbrev pub is_early : Reason → Bool
+is_early Early = true
+is_early reason = false
+
+-- what a line that comes too late says as the first of all: `memory` begins anew, another comes too late
+abbrev pub begun : Result Read Reason → Result Read Reason
+begun (Ok (reads.Memory size)) = Ok (reads.Memory size)
+begun (Ok read) = Err Late
+begun (Err reason) = Err (if is_early reason then Late else reason)
+
+abbrev pub anew : Result Read Reason → Result Read Reason → Result Read Reason
+anew (Ok read) first = Ok read
+anew (Err reason) first = if is_late reason then begun first else Err reason
+
+-- what a line says: while no command was said, `memory` may be said again
+abbrev pub heard : Standing → List ℕ → Result Read Reason
+heard (Gathering said) line = anew (line_read said.place line) (line_read first_place line)
+heard (Going size shown s) line = line_read (place_of (Going size shown s)) line
+
 -- a command on a line that is said
 abbrev pub said_step : Command → Step
 said_step command = record { number = 1; command = command }
@@ -50,7 +74,7 @@ Takes s read text t = (text ≡ []) × (t ≡ s)
 -- a line may print this and lead to t: a comment or blanks, which are skipped, print nothing and change nothing
 abbrev pub AcceptsBy : Bool → Standing → List ℕ → List ℕ → Standing → Type 0
 AcceptsBy true s line text t = (text ≡ []) × (t ≡ s)
-AcceptsBy false s line text t = (read : Read) × (line_read (place_of s) line ≡ Ok read) × Takes s read text t
+AcceptsBy false s line text t = (read : Read) × (heard s line ≡ Ok read) × Takes s read text t
 
 abbrev pub Accepts : Standing → List ℕ → List ℕ → Standing → Type 0
 Accepts s line text t = AcceptsBy (is_skipped line) s line text t
@@ -77,7 +101,7 @@ Declines s (Err reason) e t = ((e ≡ OutOfMemory) ⊎ (e ≡ refused_for 1 reas
 
 -- a line is refused, and leads to t
 abbrev pub Refuses : Standing → List ℕ → ScriptRefusal → Standing → Type 0
-Refuses s line e t = (is_skipped line ≡ false) × Declines s (line_read (place_of s) line) e t
+Refuses s line e t = (is_skipped line ≡ false) × Declines s (heard s line) e t
 
 -- the lines are accepted one after another, and print these parts
 abbrev pub AcceptsAll : Standing → List (List ℕ) → List (List ℕ) → Standing → Type 0

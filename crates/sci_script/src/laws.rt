@@ -12,7 +12,6 @@ ghost use Rattle.sci_script.specs.declared.watching.Passed.{Passed};
 ghost use Rattle.sci_script.specs.declared.refusals.ScriptRefusal.TheVariants.{OutOfMemory, NotDone};
 ghost use Rattle.sci_script.specs.Causes.{HasReason, IsRefusedFor};
 ghost use Rattle.sci_script.specs.Format.{Sayings, script_of};
-ghost use Rattle.sci_script.specs.Grammar.{line_read};
 ghost use Rattle.sci_script.specs.Reasons.{IsUndoneOf, IsWhy, IsWhySaid, unbegun_reason};
 ghost use Rattle.sci_script.specs.Event.{Turned};
 ghost use Rattle.sci_script.specs.Passed.{shared_passes};
@@ -21,7 +20,7 @@ ghost use Rattle.sci_script.specs.Run.{IsNoRest, PrintsAll, StopsAt};
 ghost use Rattle.sci_script.specs.ScriptText.{IsTextOf, Opens};
 ghost use Rattle.sci_script.specs.Shared.{Shared, shared_is_open, shared_does};
 ghost use Rattle.sci_script.specs.Size.{AreIn, IsIn, IsSize};
-ghost use Rattle.sci_script.specs.Talks.{FailsFirst, Hears, Refuses, Says, Silent, Standing, Stops, place_of};
+ghost use Rattle.sci_script.specs.Talks.{FailsFirst, Hears, Refuses, Says, Silent, Standing, Stops, heard};
 ghost use Rattle.sci_script.specs.declared.said.Read.TheVariants as reads;
 ghost use Rattle.sci_script.specs.Waiting.{IsAwaited};
 
@@ -44,7 +43,7 @@ pub fn rest_and_end_are_done()
         → Opens size capacity openings s → PrintsAll shared_is_open shared_does no_words s (take k steps) text mid → slice_get steps k ≡ Some step
         → StopsAt shared_is_open shared_does size.nodes mid step (NotDone n) t → IsNoRest step.command }
     ensures read { (input : List ℕ) (script : Size × ℕ × List Opening × List Step) → script_of input ≡ Ok script → IsSize script.0 × AreIn script.0 script.3 }
-    ensures talk { (before : List (List ℕ)) (line : List ℕ) (command : Command) (n : ℕ) (s t : Standing) → Hears Silent before s → line_read (place_of s) line ≡ Ok (reads.Command command)
+    ensures talk { (before : List (List ℕ)) (line : List ℕ) (command : Command) (n : ℕ) (s t : Standing) → Hears Silent before s → heard s line ≡ Ok (reads.Command command)
         → Stops s command (NotDone n) t → IsNoRest command }
 {}
 
@@ -70,6 +69,6 @@ pub fn refusals_have_reasons()
         → (e ≡ OutOfMemory → ⊥) → IsWhy t step.command why → HasReason step.command e why }
     ensures first { (said : Sayings) (command : Command) (e : ScriptRefusal) → IsIn said.place.size command → FailsFirst said command e
         → (e ≡ OutOfMemory → ⊥) → HasReason command e (unbegun_reason command) }
-    ensures line { (s t : Standing) (line : List ℕ) (reason : Reason) (e : ScriptRefusal) (why : Option Reason) → line_read (place_of s) line ≡ Err reason → Refuses s line e t
+    ensures line { (s t : Standing) (line : List ℕ) (reason : Reason) (e : ScriptRefusal) (why : Option Reason) → heard s line ≡ Err reason → Refuses s line e t
         → (e ≡ OutOfMemory → ⊥) → IsWhySaid t line why → IsRefusedFor e why }
 {}

@@ -18,7 +18,8 @@ pub enum Reason {
     /// Of refusal 16: no `memory` stands before it, or anywhere.
     #[error("memory wanted first")]
     Early,
-    /// Of refusal 16: a second `memory`, a `capacity` that isn't directly behind `memory`, or an `open` behind a command of a desk.
+    /// Of refusal 16: a second `memory`, in a talk only behind a command of a desk; a `capacity` that isn't directly behind `memory`; or an
+    /// `open` behind a command of a desk.
     #[error("too late for this command")]
     Late,
     /// Of refusal 16: how many words the command has, its name among them, and how many stand there.

@@ -1,11 +1,15 @@
 //! A script's commands, said one by one.
-ghost use Rattle.std.specs.Prelude.{◌≡◌, ◌<◌, ◌⊎◌, [], string_bytes, IfOk, IfErr, OnOk, OnErr, All};
-ghost use Rattle.sci_script.specs.Format.{sayings_of};
+ghost use Rattle.std.specs.Prelude.{◌≡◌, ◌<◌, ◌⊎◌, [], string_bytes, Result, IfOk, IfErr, OnOk, OnErr, All};
+ghost use Rattle.sci_script.specs.declared.commands.Size.{Size};
+ghost use Rattle.sci_script.specs.declared.reasons.Reason.{Reason};
+ghost use Rattle.sci_script.specs.declared.said.Read.{Read};
+ghost use Rattle.sci_script.specs.Format.{Finds, on_line, sayings_of};
+ghost use Rattle.sci_script.specs.Grammar.{first_place};
 ghost use Rattle.sci_script.specs.Request.{words_after};
 ghost use Rattle.sci_script.specs.Run.{Prints, StopsAt};
 ghost use Rattle.sci_script.specs.Shared.{shared_is_open, shared_does};
 ghost use Rattle.sci_script.specs.Size.{IsSize, IsIn, IsReadIn};
-ghost use Rattle.sci_script.specs.Talks.{FailsFirst, Gathering, IsDeclined, Takes, Accepts, Refuses, place_of, said_step};
+ghost use Rattle.sci_script.specs.Talks.{FailsFirst, Gathering, IsDeclined, Takes, Accepts, Refuses, begun, heard, place_of, said_step};
 ghost use Rattle.sci_script.specs.Wholes.{shared_of};
 ghost use Rattle.sci_script.specs.declared.refusals.ScriptRefusal.TheVariants.{OutOfMemory};
 ghost use Rattle.sci_script.specs.declared.said.Read.TheVariants as reads;
@@ -14,9 +18,11 @@ use crate::commands::{Command, Step};
 use crate::drafts::Draft;
 use crate::line_words::is_skipped;
 use crate::places::{Place, Stand};
+use crate::reasons::Reason;
 use crate::refusals::ScriptRefusal;
 use crate::running::{NODES, note, perform};
 use crate::said::Read;
+use crate::unread::Unread;
 use crate::wholes::WholeDesk;
 use std::alloc::Global;
 
@@ -82,6 +88,27 @@ impl Draft {
     }
 }
 
+/// What a line that comes too late says, by what it says as the first of all.
+fn begun(first: Result<Read, Unread>) -> Result<Read, Unread>
+    ensures exact { (read : Result Read Reason) → Finds (λ r. r) first (on_line 1 read) → Finds (λ r. r) result (on_line 1 (begun read)) }
+    ensures fits { IfOk first (IsReadIn first_place.size) → (size : Size) → IfOk result (IsReadIn size) }
+{
+    match first {
+        Ok(Read::Memory(size)) => Ok(Read::Memory(size)),
+        Ok(_)
+        | Err(
+            Unread::Refused {
+                reason: Reason::Early,
+                ..
+            },
+        ) => Err(Unread::Refused {
+            number: HERE,
+            reason: Reason::Late,
+        }),
+        Err(unread) => Err(unread),
+    }
+}
+
 /// How far a talk has come.
 #[derive(Drop)]
 pub(crate) enum TalkState {
@@ -124,7 +151,27 @@ impl Talk {
         }
     }
 
-    /// What a line says.
+    /// What a line says. While no command was said that needs a desk, `memory` may be said again.
+    pub(crate) fn heard(&self, line: &[u8]) -> Result<Read, Unread>
+        ensures exact { Finds (λ r. r) result (on_line 1 (heard (standing_of self.now) line.now)) }
+        ensures fits { IfOk result (IsReadIn (place_of (standing_of self.now)).size) }
+    {
+        let mut words = Vec::new(self.alloc);
+        match (&self.state, self.place().read_line(&mut words, HERE, line)) {
+            (
+                TalkState::Gathering(_),
+                Err(
+                    Unread::Refused {
+                        reason: Reason::Late,
+                        ..
+                    },
+                ),
+            ) => begun(Place::first().read_line(&mut words, HERE, line)),
+            (_, read) => read,
+        }
+    }
+
+    /// Takes what a line says.
     fn take(&mut self, text: &mut String, read: Read) -> Result<(), ScriptRefusal>
         requires empty { string_bytes text.old ≡ [] }
         requires read { IsReadIn (place_of (standing_of self.old)).size read }
@@ -150,8 +197,9 @@ impl Talk {
     }
 
     /// One line of a script, without its line end, and the text that it prints, in place of what stood there. The first lines are
-    /// `memory`, `capacity` and each `open`, as in a script; the first other command opens the desk. A comment, or blanks, print
-    /// nothing and change nothing.
+    /// `memory`, `capacity` and each `open`, as in a script; the first other command opens the desk. Until then `memory` may be said
+    /// again, as where the desk found no memory: what was said before is forgotten. A comment, or blanks, print nothing and change
+    /// nothing.
     ///
     /// Behind a refusal the text may hold anything. The refusals: 16 for a faulty line, for one out of place, for a call begun while the
     /// node's call is open, and for a turn without a call, and 17 for a faulty number: all is as before. 18 for a call that didn't
@@ -165,8 +213,7 @@ impl Talk {
         if is_skipped(line) {
             return Ok(());
         }
-        let mut words = Vec::new(self.alloc);
-        match self.place().read_line(&mut words, HERE, line) {
+        match self.heard(line) {
             Ok(read) => self.take(text, read),
             Err(unread) => Err(ScriptRefusal::from(unread)),
         }

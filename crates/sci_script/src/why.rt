@@ -17,7 +17,7 @@ use crate::reader::read_lines;
 use crate::reasons::Reason;
 use crate::refusals::ScriptRefusal;
 use crate::said::Read;
-use crate::talk::{HERE, Talk, TalkState};
+use crate::talk::{Talk, TalkState};
 use crate::unread::Unread;
 use crate::wholes::WholeDesk;
 use sci_words::{LineNo, NodeId};
@@ -153,8 +153,7 @@ impl Talk {
     pub fn why(&self, line: &[u8]) -> Result<Option<Reason>, AllocError>
         ensures { IfOk result (IsWhySaid (standing_of self.now) line.now) }
     {
-        let mut words = Vec::new(self.alloc);
-        match self.place().read_line(&mut words, HERE, line) {
+        match self.heard(line) {
             Ok(read) => Ok(self.why_taken(read)),
             Err(Unread::OutOfMemory) => Err(AllocError),
             Err(Unread::Refused { reason, .. }) => Ok(Some(reason)),

@@ -1,4 +1,4 @@
--- The faults of the commands `run` and `history`.
+-- The faults of the commands `run` and `run --history`.
 use Rattle.std.proofs.Common.{◌≡◌, ℕ, ◌≤◌, List, [], length, None, IsUtf8, refl, sym, ◌∙◌}
 use Rattle.sci_script.specs.declared.refusals.ScriptRefusal.TheVariants.{OutOfMemory, BadCommand, BadNumber, NotDone, WriteFailed}
 use Rattle.sci_work.specs.declared.refusals.WorkRefusal.{WorkRefusal}

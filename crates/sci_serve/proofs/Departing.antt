@@ -1,4 +1,4 @@
--- What the command `follow` writes, by how the log ended.
+-- What the command `check` writes of a log, by how that ended.
 use Rattle.std.proofs.Common.{◌≡◌, ℕ, ◌<◌, List, [], length, take, Option, IfSome, refl, inl, inr}
 use Rattle.std.specs.Prelude.{codes}
 use Rattle.std.proofs.KnownBytes.{Appends-nil}

@@ -1,4 +1,4 @@
--- The faults of the command `legal`.
+-- The faults of the command `check` of a history.
 use Rattle.std.proofs.Common.{◌≡◌, ℕ, Option, Some, None, List, [], refl}
 use Rattle.std.specs.Option.{IfSome}
 use Rattle.sci_script.specs.declared.refusals.ScriptRefusal.TheVariants.{OutOfMemory, BadCommand, BadNumber, NotDone, WriteFailed}

@@ -1,11 +1,11 @@
 -- The numbers of an array, one item after another.
-use Rattle.std.proofs.Common.{◌≡◌, ℕ, ◌+◌, ◌<◌, ◌≤◌, length, get_or, drop, List, [], ◌∷◌, ◌++◌, Option, Some, None, option_map, refl, sym, ap, ◌∙◌, append_assoc, append-nil}
+use Rattle.std.proofs.Common.{◌≡◌, ℕ, ◌+◌, ◌<◌, ◌≤◌, length, get_or, drop, List, [], ◌∷◌, ◌++◌, Option, Some, None, option_map, refl, sym, ap, subst, ◌∙◌, append_assoc, append-nil}
 use Rattle.std.proofs.Math.ListN.{drop_of_length-le}
 use Rattle.toml.specs.Data.{Data, Items, item}
 use Rattle.toml.specs.View.{view, items_view}
 use Rattle.toml.specs.declared.value.Value.{Value}
-use Rattle.toml.proofs.Views.{items_view-drop}
-use Rattle.sci_serve.specs.Settings.{number_in, numbers_in, ◌>>=◌}
+use Rattle.toml.proofs.Views.{get_item_within, items_view-drop}
+use Rattle.sci_serve.specs.Settings.{IsNoNumber, number_in, numbers_in, ◌>>=◌}
 
 -- the numbers so far in front of those that are left
 abbrev pub with_front : List ℕ → Option (List ℕ) → Option (List ℕ)
@@ -34,3 +34,11 @@ item_bad front vs i v all less e so_far = so_far ∙ ap (λ (is : Items). with_f
 
 pub items_done : (front : List ℕ) (vs : List Value) (i : ℕ) (all : Option (List ℕ)) → length vs ≤ i → all ≡ with_front front (numbers_in (items_view (drop i vs))) → all ≡ Some front
 items_done front vs i all full so_far = so_far ∙ ap (λ (ws : List Value). with_front front (numbers_in (items_view ws))) (drop_of_length-le vs full) ∙ ap Some (append-nil front)
+
+-- the value at this index is no number
+pub item_named : (vs : List Value) (i place : ℕ) (v : Value) → i < length vs → number_in (view (get_or vs i v)) ≡ None → place ≡ i + 1 → IsNoNumber (Some (items_view vs)) place
+unfolding IsNoNumber
+item_named vs i place v less e at = (i, at, view (get_or vs i v), sym (get_item_within vs i v less), e)
+
+pub item_there : (there : Option Items) (items : Items) (place : ℕ) → IsNoNumber (Some items) place → there ≡ Some items → IsNoNumber there place
+item_there there items place none is = subst (λ (x : Option Items). IsNoNumber x place) (sym is) none

@@ -6,8 +6,8 @@ use Rattle.std.proofs.lemmas.Option.{cond_some, same_Some}
 use Rattle.toml.specs.Data.{Members, get_member}
 use Rattle.toml.specs.Parse.{parse_document}
 use Rattle.sci_serve.specs.declared.settings.Settings.{Settings}
-use Rattle.sci_serve.specs.declared.settings.fields.Work.{Work}
-use Rattle.sci_serve.specs.declared.settings.fields.Work.TheVariants as work
+use Rattle.sci_serve.specs.declared.settings.works.Work.{Work}
+use Rattle.sci_serve.specs.declared.settings.works.Work.TheVariants as work
 use Rattle.sci_serve.specs.Runs.{AreWithin}
 use Rattle.sci_serve.specs.Settings.{◌>>=◌, within, number_in, number_at, numbers_at, if_so, are_cells, are_items, dump_at, work_at, has_keys_of, settings_for, settings_in, settings_of}
 

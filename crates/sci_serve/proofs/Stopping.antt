@@ -1,4 +1,4 @@
--- The faults of the command `check`.
+-- The faults of the command `check` of a dump.
 use Rattle.std.proofs.Common.{◌≤◌, ℕ, List, [], length, refl}
 use Rattle.sci_dump.specs.declared.refusals.DumpRefusal.{DumpRefusal}
 use Rattle.sci_dump.specs.declared.refusals.DumpRefusal.TheVariants.{OutOfMemory as NoMemory, DumpFault}

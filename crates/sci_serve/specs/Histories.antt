@@ -1,4 +1,4 @@
--- What the command `history` writes of a workload. This project's profile.
+-- What the command `run --history` writes of a workload. This project's profile.
 use Rattle.std.specs.Prelude.{◌≡◌, ℕ, List, [], ◌∷◌, All}
 use Rattle.sci_core.specs.declared.receipts.Receipt.{Receipt}
 use Rattle.sci_core.specs.Closed.{ClosedLine, value_of}

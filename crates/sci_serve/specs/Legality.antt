@@ -1,4 +1,4 @@
--- What the command `legal` writes. This project's profile.
+-- What the command `check` writes of a history. This project's profile.
 use Rattle.std.specs.Prelude.{◌≡◌, ℕ, ◌<◌, List, [], ◌++◌, length, take, codes, Ok, Err}
 use Rattle.std.specs.Fmt.{decimal}
 use Rattle.std.specs.Global.{Vec}

@@ -13,6 +13,7 @@ pub mod Worked
 pub mod Talked
 pub mod Races
 pub mod Explained
+pub mod Explaining
 pub mod Plays
 pub mod Accepted
 pub mod ReadBack

@@ -1,4 +1,4 @@
--- What the command `play` writes. This project's profile.
+-- What the command `outcomes --page` writes. This project's profile.
 use Rattle.std.specs.Prelude.{◌≡◌, ℕ, List}
 use Rattle.sci_play.specs.Plays.{IsPlay}
 use Rattle.sci_races.specs.Race.{RaceState}

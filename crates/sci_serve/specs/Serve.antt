@@ -1,4 +1,4 @@
--- What the commands `script`, `trace` and `draw` write. This project's profile.
+-- What the commands `script` and `trace` write. This project's profile.
 use Rattle.std.specs.Prelude.{◌≡◌, ℕ, ◌<◌, ◌≤◌, List, [], length, Option, None, Some, Ok, Err, ◌⊎◌}
 use Rattle.std.specs.Io.KnownBytes.{Appends}
 use Rattle.sci_script.specs.declared.commands.Size.{Size}

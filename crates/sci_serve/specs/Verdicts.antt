@@ -1,4 +1,4 @@
--- What the command `check` writes. This project's profile.
+-- What the command `check` writes of a dump. This project's profile.
 use Rattle.std.specs.Prelude.{◌≡◌, ℕ, ◌+◌, ◌<◌, ◌≤◌, List, [], ◌∷◌, ◌++◌, length, map, take, codes, Ok, Err}
 use Rattle.std.specs.Fmt.{decimal}
 use Rattle.sci_words.specs.declared.tags.Tag.{Tag}

@@ -1,4 +1,4 @@
-//! The command `follow`, from the bytes of a log to whether it is a run.
+//! The command `check` of a log, from its bytes to whether it is a run.
 
 ghost use Rattle.std.specs.Prelude.{◌≡◌, ℕ, List, IfOk, IfErr, IfSome, OnOk, codes, string_bytes};
 ghost use Rattle.std.specs.Io.KnownBytes.{Appends};

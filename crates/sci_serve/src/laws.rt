@@ -40,7 +40,7 @@ pub fn script_is_talked()
         → Talks Silent (lines input) talk t → refuses talk ≡ false → IsTextOf script.0 script.1 script.2 script.3 (without_ok talk) }
 {}
 
-/// What `trace --log` writes line by line is read by `follow` as what it tells: the size, what a line opens with, each look, and each
+/// What `trace --log` writes line by line is read by `check` as what it tells: the size, what a line opens with, each look, and each
 /// exchange with its outcome.
 pub fn entries_are_read_back()
     ensures memory { (size : Size) (openings : List Opening) → IsSize size
@@ -61,7 +61,7 @@ pub fn turns_are_followed()
 {}
 
 /// The log of every script follows: what `trace --log` writes of a script that ends, or of one that is refused at one of its lines,
-/// is a run of the table from its opening, and `follow` finds no fault in it, unless it can't be read or memory runs out.
+/// is a run of the table from its opening, and `check` finds no fault in it, unless it can't be read or memory runs out.
 pub fn logs_follow()
     ensures ended { (input text : List ℕ) → Serves forms.Log input text → IsSurelyFollowed text }
     ensures refused { (input written : List ℕ) (refusal : ScriptRefusal) → IsOfLine refusal → StopsRunning forms.Log refusal input written → IsSurelyFollowed written }

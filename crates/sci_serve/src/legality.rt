@@ -1,4 +1,4 @@
-//! The command `legal`, from the bytes of a history to the verdict.
+//! The command `check` of a history, from its bytes to the verdict.
 
 ghost use Rattle.std.specs.Prelude.{◌≡◌, [], ℕ, List, string_bytes, IfOk, OnOk, IfErr, IfSome};
 ghost use Rattle.std.specs.Io.KnownBytes.{Appends, IsAtEnd};

@@ -4,11 +4,12 @@
 //! leaves open come to, [`serve_talk`] answers a script's commands one by one, [`serve_run`] and [`serve_run_by`] run the workload that
 //! settings ask for, [`serve_history`] and [`serve_history_by`] write the history of its lines, [`serve_check`] checks a dump, and
 //! [`serve_legal`] a history. Each answers Ok or a [`SimFault`], which has the program's status; [`serve_outcomes`] a [`RaceFault`].
-//! [`read_settings`] reads the settings of a workload.
+//! [`read_settings`] reads the settings of a workload, and [`explained`] says why a text is refused.
 //! [`script_is_talked`], [`entries_are_read_back`], [`turns_are_followed`] and [`logs_follow`] are laws: they compute nothing.
 #![tactic(auto)]
 
 mod checking;
+mod explaining;
 mod faults;
 mod following;
 mod histories;
@@ -30,6 +31,7 @@ mod workloads;
 mod works;
 
 pub use checking::serve_check;
+pub use explaining::{Explanation, Text, explained};
 pub use faults::SimFault;
 pub use following::serve_follow;
 pub use input::read_input;
@@ -41,6 +43,9 @@ pub use racing::{RaceFault, serve_outcomes};
 pub use reasons::{Explain, Told, Untold, explanation};
 pub use running::{serve_history, serve_history_by, serve_run, serve_run_by};
 pub use scripts::{Form, serve, serve_buffered, serve_draw, serve_script, serve_trace};
-pub use settings::{Numbers, Settings, SettingsRefusal, read_settings};
+pub use settings::{
+    Found, Misfit, Numbers, Settings, SettingsReason, SettingsRefusal, Wanted, Work, read_settings,
+    why_settings,
+};
 pub use talking::{serve_talk, serve_talk_by};
 pub use works::{cells_text, count_text, items_text};

@@ -1,4 +1,4 @@
-//! The command `play`, from the bytes of a script to the page of the states of the calls that it leaves open.
+//! The command `outcomes --page`, from the bytes of a script to the page of the states of the calls that it leaves open.
 
 ghost use Rattle.std.specs.Prelude.{◌≡◌, ◌≤◌, [], ℕ, List, length, IfOk, OnOk, IfErr, IfSome};
 ghost use Rattle.std.specs.Io.KnownBytes.{Appends, IsAtEnd};

@@ -1,4 +1,4 @@
-//! The commands `run` and `history`, from the bytes of settings to the text of the workload's result, or of its lines' histories.
+//! The command `run`, from the bytes of settings to the text of the workload's result, or of its lines' histories.
 
 ghost use Rattle.std.specs.Prelude.{◌≤◌, [], length, string_bytes, IfOk, OnOk, IfErr};
 ghost use Rattle.std.specs.Io.KnownBytes.{IsAtEnd};

@@ -1,4 +1,4 @@
-//! The commands `script`, `trace` and `draw`, from the bytes of a script to what is written of its run.
+//! The commands `script` and `trace`, from the bytes of a script to what is written of its run.
 
 ghost use Rattle.std.specs.Prelude.{◌≡◌, ◌≤◌, ℕ, List, [], length, OnOk, IfErr, IfSome};
 ghost use Rattle.std.specs.Io.Buffered.{writer_contents};

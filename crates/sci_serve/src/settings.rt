@@ -1,18 +1,27 @@
 //! The settings of a run, and their reader.
 
-ghost use Rattle.std.specs.Prelude.{◌≡◌, Some, IfOk, IfErr, IsUtf8};
+ghost use Rattle.std.specs.Prelude.{◌≡◌, Some, true, false, IfOk, IfErr, IsUtf8};
+ghost use Rattle.toml.specs.Data.{Members};
 ghost use Rattle.toml.specs.View.{table_view};
-ghost use Rattle.sci_serve.specs.Settings.{Gives, Fails};
-ghost use Rattle.sci_serve.specs.Settings.{settings_for, settings_in, settings_of};
+ghost use Rattle.sci_serve.specs.Settings.{Gives, Fails, IsWhy, has_array, suits, wanted_at};
+ghost use Rattle.sci_serve.specs.Settings.{settings_for, settings_in, settings_of, work_at};
 
 mod fields;
+mod misfits;
 mod refusals;
+mod why;
+mod works;
 
 pub use fields::Numbers;
-use fields::{Work, dump_at, has_keys_of, number_at, numbers_at, work_at};
+use fields::{dump_at, number_at, numbers_at};
+use misfits::Unread;
+pub use misfits::{Found, Misfit, Wanted};
 pub use refusals::SettingsRefusal;
 use std::alloc::Global;
 use toml::{Table, table_from_slice};
+pub use why::{SettingsReason, why_settings};
+pub use works::Work;
+use works::{foreign, foreign_key, work_at};
 
 /// The settings of a run: its work, with what it works on.
 #[derive(Debug, Drop)]
@@ -78,27 +87,28 @@ impl Settings {
     }
 }
 
-#[tactic(auto, unfolding(crate::specs::Settings::settings_for))]
-fn stencil_in(alloc: Global, table: &Table) -> Result<Settings, SettingsRefusal>
-    ensures { Gives result (settings_for Work.Stencil (table_view table.now)) }
+/// So many numbers are too few or too many.
+fn miscount(key: &'static str, wanted: Wanted, count: usize) -> Unread
+    ensures { (work : Work) → (ms : Members) → wanted_at (Some work) key.now ≡ Some wanted → suits wanted key.now ms ≡ false → has_array key.now ms ≡ true → IsWhy (Some work) ms result }
 {
-    let Some(nodes) = number_at(table, "nodes", 1, 64) else {
-        return Err(SettingsRefusal::BadSettings);
-    };
-    let Some(capacity) = number_at(table, "capacity", 1, 1024) else {
-        return Err(SettingsRefusal::BadSettings);
-    };
-    let Some(phases) = number_at(table, "phases", 0, 1_000_000) else {
-        return Err(SettingsRefusal::BadSettings);
-    };
-    let cells = numbers_at(alloc, table, "cells")?;
+    let found = Found::Array(count);
+    Unread::Misfit(Misfit::Value { key, wanted, found })
+}
+
+#[tactic(auto, unfolding(crate::specs::Settings::settings_for))]
+fn stencil_in(alloc: Global, table: &Table) -> Result<Settings, Unread>
+    ensures exact { Gives result (settings_for Work.Stencil (table_view table.now)) }
+    ensures why { IfErr result (IsWhy (Some Work.Stencil) (table_view table.now)) }
+{
+    let nodes = number_at(alloc, table, "nodes", 1, 64)?;
+    let capacity = number_at(alloc, table, "capacity", 1, 1024)?;
+    let phases = number_at(alloc, table, "phases", 0, 1_000_000)?;
+    let cells = numbers_at(alloc, table, "cells", Wanted::Cells)?;
     let count = cells.len();
     if count < 1 || count > 3584 || count % 7 != 0 {
-        return Err(SettingsRefusal::BadSettings);
+        return Err(miscount("cells", Wanted::Cells, count));
     }
-    let Some(dump) = dump_at(table) else {
-        return Err(SettingsRefusal::BadSettings);
-    };
+    let dump = dump_at(alloc, table)?;
     Ok(Settings::Stencil {
         nodes: nodes as u16,
         capacity: capacity as u16,
@@ -109,22 +119,17 @@ fn stencil_in(alloc: Global, table: &Table) -> Result<Settings, SettingsRefusal>
 }
 
 #[tactic(auto, unfolding(crate::specs::Settings::settings_for))]
-fn ring_in(alloc: Global, table: &Table) -> Result<Settings, SettingsRefusal>
-    ensures { Gives result (settings_for Work.Ring (table_view table.now)) }
+fn ring_in(alloc: Global, table: &Table) -> Result<Settings, Unread>
+    ensures exact { Gives result (settings_for Work.Ring (table_view table.now)) }
+    ensures why { IfErr result (IsWhy (Some Work.Ring) (table_view table.now)) }
 {
-    let Some(lines) = number_at(table, "lines", 1, 1023) else {
-        return Err(SettingsRefusal::BadSettings);
-    };
-    let Some(capacity) = number_at(table, "capacity", 1, 1024) else {
-        return Err(SettingsRefusal::BadSettings);
-    };
-    let items = numbers_at(alloc, table, "items")?;
+    let lines = number_at(alloc, table, "lines", 1, 1023)?;
+    let capacity = number_at(alloc, table, "capacity", 1, 1024)?;
+    let items = numbers_at(alloc, table, "items", Wanted::Items)?;
     if items.len() > 100_000 {
-        return Err(SettingsRefusal::BadSettings);
+        return Err(miscount("items", Wanted::Items, items.len()));
     }
-    let Some(dump) = dump_at(table) else {
-        return Err(SettingsRefusal::BadSettings);
-    };
+    let dump = dump_at(alloc, table)?;
     Ok(Settings::Ring {
         lines: lines as u16,
         capacity: capacity as u16,
@@ -134,14 +139,15 @@ fn ring_in(alloc: Global, table: &Table) -> Result<Settings, SettingsRefusal>
 }
 
 #[tactic(auto, unfolding(crate::specs::Settings::settings_for))]
-fn count_in(table: &Table) -> Option<Settings>
-    ensures { result ≡ settings_for Work.Count (table_view table.now) }
+fn count_in(alloc: Global, table: &Table) -> Result<Settings, Unread>
+    ensures exact { Gives result (settings_for Work.Count (table_view table.now)) }
+    ensures why { IfErr result (IsWhy (Some Work.Count) (table_view table.now)) }
 {
-    let nodes = number_at(table, "nodes", 1, 64)?;
-    let adds = number_at(table, "adds", 0, 1_000_000)?;
-    let capacity = number_at(table, "capacity", 1, 1024)?;
-    let dump = dump_at(table)?;
-    Some(Settings::Count {
+    let nodes = number_at(alloc, table, "nodes", 1, 64)?;
+    let adds = number_at(alloc, table, "adds", 0, 1_000_000)?;
+    let capacity = number_at(alloc, table, "capacity", 1, 1024)?;
+    let dump = dump_at(alloc, table)?;
+    Ok(Settings::Count {
         nodes: nodes as u16,
         adds,
         capacity: capacity as u16,
@@ -149,20 +155,19 @@ fn count_in(table: &Table) -> Option<Settings>
     })
 }
 
-#[tactic(auto, unfolding(crate::specs::Settings::settings_in))]
-fn settings_in(alloc: Global, table: &Table) -> Result<Settings, SettingsRefusal>
-    ensures { Gives result (settings_in (table_view table.now)) }
+#[tactic(auto, unfolding(crate::specs::Settings::settings_in), using(crate::proofs::SettingsKeys::why_of))]
+fn settings_in(alloc: Global, table: &Table) -> Result<Settings, Unread>
+    ensures exact { Gives result (settings_in (table_view table.now)) }
+    ensures why { IfErr result (IsWhy (work_at (table_view table.now)) (table_view table.now)) }
 {
-    let Some(work) = work_at(table) else {
-        return Err(SettingsRefusal::BadSettings);
-    };
-    if !has_keys_of(work, table) {
-        return Err(SettingsRefusal::BadSettings);
+    let work = work_at(alloc, table)?;
+    if let Some(key) = foreign_key(work, table) {
+        return Err(foreign(alloc, work, key.as_str()));
     }
     match work {
         Work::Stencil => stencil_in(alloc, table),
         Work::Ring => ring_in(alloc, table),
-        Work::Count => count_in(table).ok_or(SettingsRefusal::BadSettings),
+        Work::Count => count_in(alloc, table),
     }
 }
 
@@ -174,7 +179,11 @@ pub fn read_settings(alloc: Global, text: &[u8]) -> Result<Settings, SettingsRef
     ensures err { IfErr result (λ e. IsUtf8 text.now → Fails e (settings_of text.now)) }
 {
     match table_from_slice(alloc, text) {
-        Ok(table) => settings_in(alloc, &table),
+        Ok(table) => match settings_in(alloc, &table) {
+            Ok(settings) => Ok(settings),
+            Err(Unread::OutOfMemory) => Err(SettingsRefusal::OutOfMemory),
+            Err(Unread::Misfit(_)) => Err(SettingsRefusal::BadSettings),
+        },
         Err(error) if error.is_memory() => Err(SettingsRefusal::OutOfMemory),
         Err(_) => Err(SettingsRefusal::BadSettings),
     }

@@ -1,6 +1,7 @@
 //! What the tests here check, each proved once: an `assert_eq!` costs as much as a test of its own.
 ghost use Rattle.std.specs.Prelude.{IsTrue};
 
+use std::alloc::Global;
 use std::fmt::Debug;
 use std::process::Abort;
 
@@ -21,4 +22,15 @@ pub(crate) fn same_at<Row: Debug, T: Debug + PartialEq>(
     ensures { IsTrue (T.eq left.now right.now) }
 {
     assert_eq!(rt; left, right, "at {row:?}");
+}
+
+/// Both are the same bytes, and otherwise the message tells the row.
+pub(crate) fn same_bytes_at<Row: Debug>(rt: &impl Abort, row: &Row, left: &[u8], right: &[u8]) {
+    assert!(rt; left == right, "text at {row:?}");
+}
+
+/// Makes one allocation. Where that is refused, this is said.
+pub(crate) fn allocates(rt: &impl Abort, alloc: Global, said: &str) {
+    let last = Vec::<u8>::with_capacity(alloc, 1);
+    assert!(rt; last.is_ok(), "{said}");
 }

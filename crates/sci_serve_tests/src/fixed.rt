@@ -4,25 +4,35 @@ ghost use Rattle.std.specs.Prelude.{None};
 use std::io;
 use std::io::Write;
 
-/// A writer that holds up to 256 bytes.
+const FRONT: &[u8; 16] = b"<!DOCTYPE html>\n";
+
+const END: &[u8; 8] = b"</html>\n";
+
+/// A writer that counts bytes, and holds the first 256, and how many at the end are those at the front of END.
 #[derive(Drop)]
 pub(crate) struct Fixed {
     bytes: [u8; 256],
     pub(crate) length: usize,
+    end: usize,
 }
 
 impl Write for Fixed {
     ghost contents = { λ _. None };
 
     fn write(&mut self, buf: &[u8]) -> io::Result<usize> {
-        match buf {
-            [first, ..] if self.length < 256 => {
-                self.bytes[self.length] = *first;
-                self.length += 1;
-                Ok(1)
-            }
-            _ => Ok(0),
+        let [byte, ..] = buf else {
+            return Ok(0);
+        };
+        if self.length < 256 {
+            self.bytes[self.length] = *byte;
         }
+        self.length = self.length.saturating_add(1);
+        self.end = if END.get(self.end) == Some(byte) {
+            self.end.saturating_add(1)
+        } else {
+            usize::from(*byte == b'<')
+        };
+        Ok(1)
     }
 
     fn flush(&mut self) -> io::Result<()> {
@@ -33,7 +43,12 @@ impl Write for Fixed {
 impl Fixed {
     /// What it holds.
     pub(crate) fn text(&self) -> &[u8] {
-        self.bytes.get(..self.length).unwrap_or(&[])
+        self.bytes.get(..self.length).unwrap_or(&self.bytes)
+    }
+
+    /// Whether it was given a whole page.
+    pub(crate) fn is_page(&self) -> bool {
+        self.text().starts_with(FRONT) && self.end == END.len()
     }
 }
 
@@ -42,6 +57,7 @@ pub(crate) fn empty() -> Fixed {
     Fixed {
         bytes: [0; 256],
         length: 0,
+        end: 0,
     }
 }
 

@@ -1,15 +1,28 @@
-//! The tests of scripts, traces, workloads and what the program serves, in a crate above them: so what they have proved isn't proved once more for them.
+//! The tests of what the program serves, of traces, logs, talks and races, in a crate above them: so what they have proved isn't proved once
+//! more for them.
 #![tactic(auto)]
 
+#[cfg(test)]
+mod calls;
 #[cfg(test)]
 mod checks;
 #[cfg(test)]
 mod fixed;
 #[cfg(test)]
-mod paced;
+mod growths;
 #[cfg(test)]
-mod script;
+mod logs;
 #[cfg(test)]
-mod serve;
+mod long_inputs;
 #[cfg(test)]
-mod work;
+mod outcomes;
+#[cfg(test)]
+mod reasons;
+#[cfg(test)]
+mod rows;
+#[cfg(test)]
+mod slow;
+#[cfg(test)]
+mod talks;
+#[cfg(test)]
+mod texts;

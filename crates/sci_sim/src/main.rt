@@ -1,355 +1,170 @@
-//! `scisim script [FILE]` runs a script; `scisim trace [FILE]` says of each turn what it did, and `scisim draw [FILE]` shows it on a
-//! page; `scisim outcomes [FILE]` lists the outcomes of the calls that it leaves open, and `scisim play [FILE]` writes a page of their
-//! states; `scisim talk` answers a script's commands one by one; `scisim run [FILE]` runs a workload, and `scisim history [FILE]` prints
-//! the history of its lines; `scisim check [FILE]` checks a dump, `scisim legal [FILE]` a history, and `scisim follow [FILE]` a log.
+//! `scisim script [FILE]` runs a script; `scisim trace [FILE]` says of each turn what it did; `scisim outcomes [FILE]` lists what the calls
+//! come to that it leaves open; `scisim talk` answers its commands one by one; `scisim run [FILE]` runs a workload; and
+//! `scisim check [FILE]` judges a dump, a history or a log.
 #![tactic(auto)]
-
-ghost use Rattle.std.specs.Prelude.{◌≤◌, length, IfOk};
 
 mod arguments;
 mod commands;
-mod histories;
-mod races;
+mod failures;
+mod help;
+mod kinds;
+mod streams;
+mod tasks;
 
 use arguments::Named;
 use clap::{ArgMatches, Error, error};
 use commands::commands;
-use sci_serve::{
-    Form, Progress, RaceFault, SimFault, Told, Visits, explanation, read_input, serve_buffered,
-    serve_check, serve_follow, serve_history, serve_history_by, serve_legal, serve_outcomes,
-    serve_play, serve_run, serve_run_by, serve_talk, serve_talk_by,
-};
-use std::alloc::{AllocError, Global};
-use std::fs::File;
-use std::io::{self, BufReader, BufWriter, ErrorKind, Read, Write};
+use failures::{Failure, stream_reason};
+use sci_serve::{Form, RaceFault, SimFault};
+use std::alloc::AllocError;
+use std::io::{ErrorKind, IsTerminal};
 use std::process::ExitCode;
 use std::sync::Wait;
 use std::thread::Threads;
-
-/// How many bytes of the text wait to be written together.
-const BUFFER: usize = 65_536;
-
-fn open(rt: &HostRuntime, path: &str) -> Result<File, SimFault> {
-    File::open(rt, path).map_err(|_| SimFault::CannotRead)
-}
-
-/// Runs the script of a reader, and writes its run in this form.
-fn script_from<R: Read>(rt: &HostRuntime, form: Form, reader: &mut R) -> Result<(), SimFault> {
-    let output = BufWriter::with_capacity(rt.alloc(), BUFFER, io::writer(rt)).map_err(
-        |_| SimFault::from(AllocError),
-    )?;
-    let (_, served) = serve_buffered(rt.alloc(), form, reader, output);
-    served
-}
-
-/// Runs a script, and writes its run in this form.
-fn script(rt: &HostRuntime, form: Form, path: Option<&str>) -> Result<(), SimFault> {
-    match path {
-        Some(path) => script_from(rt, form, &mut open(rt, path)?),
-        None => script_from(rt, form, &mut rt.reader()),
-    }
-}
-
-/// Answers the commands that standard input has.
-fn talk(rt: &HostRuntime, why: bool) -> Result<(), SimFault> {
-    let mut output = BufWriter::with_capacity(rt.alloc(), BUFFER, io::writer(rt)).map_err(
-        |_| SimFault::from(AllocError),
-    )?;
-    if why {
-        serve_talk_by(rt.alloc(), &Told::new(rt), &mut rt.reader(), &mut output)
-    } else {
-        serve_talk(rt.alloc(), &mut rt.reader(), &mut output)
-    }
-}
-
-/// The status of a search of so many states at most, which says on standard error where there are more, and in words where that is wanted.
-fn searched(
-    rt: &HostRuntime,
-    served: Result<(), RaceFault>,
-    most: usize,
-    why: bool,
-) -> Result<ExitCode, SimFault> {
-    match served {
-        Ok(()) => Ok(ExitCode::SUCCESS),
-        Err(RaceFault::Fault(fault)) => Err(fault),
-        Err(many @ RaceFault::TooManyStates) => {
-            let _ = eprintln!(rt; "scisim: {many}");
-            if why {
-                let _ = eprintln!(rt; "turns lead to more than {most} states");
-            }
-            Ok(ExitCode::from(1))
-        }
-    }
-}
-
-/// Lists the outcomes of the calls that a script leaves open.
-fn outcomes<R: Read>(rt: &HostRuntime, most: usize, reader: &mut R) -> Result<(), RaceFault> {
-    let visits = Visits::new(rt, "outcomes");
-    serve_outcomes(rt.alloc(), &visits, most, reader, &mut io::writer(rt))
-}
-
-/// Writes a page of their states.
-fn play<R: Read>(rt: &HostRuntime, most: usize, reader: &mut R) -> Result<(), RaceFault> {
-    let visits = Visits::new(rt, "play");
-    serve_play(rt.alloc(), &visits, most, reader, &mut io::writer(rt))
-}
-
-/// What a command of this name, that searches all states, comes to.
-fn race<R: Read>(
-    rt: &HostRuntime,
-    name: &str,
-    options: &ArgMatches<'_>,
-    reader: &mut R,
-) -> Result<ExitCode, SimFault> {
-    let most: u32 = options.get_one("most").unwrap_or(0);
-    let most = most as usize;
-    let served = if name == "play" {
-        play(rt, most, reader)
-    } else {
-        outcomes(rt, most, reader)
-    };
-    searched(rt, served, most, options.get_flag("why"))
-}
-
-/// Whether a command of this name searches all states.
-fn searches(name: &str) -> bool {
-    matches!(name, "outcomes" | "play")
-}
-
-/// The whole of a script, which is kept.
-fn kept(rt: &HostRuntime, path: Option<&str>) -> Result<Vec<u8>, SimFault>
-    ensures { IfOk result (λ v. length v.items ≤ 1048576) }
-{
-    match path {
-        Some(path) => read_input(rt.alloc(), &mut open(rt, path)?),
-        None => read_input(rt.alloc(), &mut rt.reader()),
-    }
-}
-
-/// The status of a command over this script, which is refused: that and why stand on standard error, where it is of a line.
-fn explained(rt: &HostRuntime, fault: SimFault, input: &[u8]) -> Result<ExitCode, SimFault>
-    requires { length input.now ≤ 1048576 }
-{
-    match explanation(rt.alloc(), fault, input) {
-        Ok(Some(reason)) => {
-            let _ = eprintln!(rt; "scisim: {fault}");
-            let _ = eprintln!(rt; "{reason}");
-            Ok(ExitCode::from(fault.status()))
-        }
-        Ok(None) | Err(_) => Err(fault),
-    }
-}
-
-/// The status where all is written.
-fn written(served: Result<(), SimFault>) -> Result<ExitCode, SimFault> {
-    served?;
-    Ok(ExitCode::SUCCESS)
-}
-
-/// Runs a script in this form, or searches its states, and says why it is refused.
-fn script_explained(
-    rt: &HostRuntime,
-    name: &str,
-    options: &ArgMatches<'_>,
-) -> Result<ExitCode, SimFault> {
-    let input = kept(rt, options.get_str("FILE"))?;
-    let mut reader = input.as_slice();
-    let served = if searches(name) {
-        race(rt, name, options, &mut reader)
-    } else {
-        written(script_from(rt, form(name, options), &mut reader))
-    };
-    match served {
-        Ok(status) => Ok(status),
-        Err(fault) => explained(rt, fault, &input),
-    }
-}
-
-/// Runs the settings of a reader, and prints the result, or the history of its lines. It says meanwhile on standard error how many calls
-/// have ended.
-fn run_told<T: Threads + Wait + Eprint + Sync, R: Read, W: Write>(
-    threads: &T,
-    alloc: Global,
-    keeps: bool,
-    reader: &mut R,
-    writer: &mut W,
-) -> Result<(), SimFault> {
-    if keeps {
-        let progress = Progress::new(threads, "history");
-        serve_history_by(threads, alloc, &progress, reader, writer)
-    } else {
-        let progress = Progress::new(threads, "run");
-        serve_run_by(threads, alloc, &progress, reader, writer)
-    }
-}
-
-/// Runs the settings of a reader, and prints the result, or the history of its lines.
-fn run_from<T: Threads + Wait + Eprint + Sync, R: Read, W: Write>(
-    threads: &T,
-    alloc: Global,
-    keeps: bool,
-    says: bool,
-    reader: &mut R,
-    writer: &mut W,
-) -> Result<(), SimFault> {
-    if says {
-        run_told(threads, alloc, keeps, reader, writer)
-    } else if keeps {
-        serve_history(threads, alloc, reader, writer)
-    } else {
-        serve_run(threads, alloc, reader, writer)
-    }
-}
-
-/// The command `run` or `history`. The nodes' threads are started by the other handle.
-fn run<T: Threads + Wait + Eprint + Sync>(
-    rt: &HostRuntime,
-    threads: &T,
-    name: &str,
-    options: &ArgMatches<'_>,
-) -> Result<(), SimFault> {
-    let keeps = name == "history";
-    let says = options.get_flag("progress");
-    let mut output = io::writer(rt);
-    match options.get_str("FILE") {
-        Some(path) => {
-            let mut file = open(rt, path)?;
-            run_from(threads, rt.alloc(), keeps, says, &mut file, &mut output)
-        }
-        None => run_from(
-            threads,
-            rt.alloc(),
-            keeps,
-            says,
-            &mut rt.reader(),
-            &mut output,
-        ),
-    }
-}
-
-fn check(rt: &HostRuntime, path: Option<&str>) -> Result<(), SimFault> {
-    let mut output = io::writer(rt);
-    match path {
-        Some(path) => serve_check(rt.alloc(), &mut open(rt, path)?, &mut output),
-        None => serve_check(rt.alloc(), &mut rt.reader(), &mut output),
-    }
-}
-
-fn legal(rt: &HostRuntime, path: Option<&str>) -> Result<(), SimFault> {
-    let mut output = io::writer(rt);
-    match path {
-        Some(path) => serve_legal(rt.alloc(), &mut open(rt, path)?, &mut output),
-        None => serve_legal(rt.alloc(), &mut rt.reader(), &mut output),
-    }
-}
-
-/// Follows the log of a reader.
-fn follow_from<R: Read + Drop>(rt: &HostRuntime, reader: R) -> Result<(), SimFault> {
-    let mut input = BufReader::with_capacity(rt.alloc(), BUFFER, reader).map_err(|_| SimFault::from(
-        AllocError,
-    ))?;
-    serve_follow(rt.alloc(), &mut input, &mut io::writer(rt))
-}
-
-fn follow(rt: &HostRuntime, path: Option<&str>) -> Result<(), SimFault> {
-    match path {
-        Some(path) => follow_from(rt, open(rt, path)?),
-        None => follow_from(rt, rt.reader()),
-    }
-}
+use streams::{Input, Output, words_of};
+use tasks::{Place, Task, check, serve, talk};
 
 /// The form in which `trace` writes a run.
 fn trace_form(options: &ArgMatches<'_>) -> Form {
-    if options.get_flag("log") {
+    if options.get_flag("page") {
+        Form::Draw
+    } else if options.get_flag("log") {
         Form::Log
     } else {
         Form::Trace
     }
 }
 
-/// The form in which a command of this name writes a run.
-fn form(name: &str, options: &ArgMatches<'_>) -> Form {
-    match name {
-        "draw" => Form::Draw,
-        "trace" => trace_form(options),
-        _ => Form::Script,
+/// What `outcomes` does.
+fn race(options: &ArgMatches<'_>) -> Task {
+    let most: u32 = options.get_one("most").unwrap_or(0);
+    Task::Race {
+        page: options.get_flag("page"),
+        most: most as usize,
     }
 }
 
-/// Whether a command of this name reads a script whole, so that it can say why that is refused.
-fn explains(name: &str) -> bool {
-    matches!(name, "script" | "trace" | "draw" | "outcomes" | "play")
-}
-
-/// The status of the program's command of this name.
-fn served<T: Threads + Wait + Eprint + Sync>(
-    rt: &HostRuntime,
-    threads: &T,
+/// Does the program's command of this name.
+fn command<T: Threads + Wait + Eprint + Sync>(
+    place: &Place<'_, T>,
     name: &str,
     options: &ArgMatches<'_>,
-) -> Result<ExitCode, SimFault> {
-    if explains(name) && options.get_flag("why") {
-        return script_explained(rt, name, options);
-    }
-    let path = options.get_str("FILE");
-    match name {
-        "script" | "trace" | "draw" => script(rt, form(name, options), path)?,
-        "talk" => talk(rt, options.get_flag("why"))?,
-        "run" | "history" => run(rt, threads, name, options)?,
-        "check" => check(rt, path)?,
-        "legal" => legal(rt, path)?,
-        "follow" => follow(rt, path)?,
-        "outcomes" | "play" => {
-            return match path {
-                Some(path) => race(rt, name, options, &mut open(rt, path)?),
-                None => race(rt, name, options, &mut rt.reader()),
-            };
+    input: &mut Input<'_>,
+    output: &mut Output,
+) -> Result<(), Failure> {
+    let task = match name {
+        "script" => Task::Script(Form::Script),
+        "trace" => Task::Script(trace_form(options)),
+        "outcomes" => race(options),
+        "run" => Task::Run {
+            history: options.get_flag("history"),
+            progress: options.get_flag("progress"),
+        },
+        "talk" => {
+            return talk(place.rt, place.why, input, output).map_err(|fault| Failure::from(fault));
         }
-        _ => return Ok(ExitCode::from(2)),
+        _ => return check(place, input, output),
+    };
+    serve(place, task, input, output)
+}
+
+/// Opens what the command reads.
+fn open<'a, T>(place: &Place<'_, T>, path: Option<&'a str>) -> Result<Input<'a>, Failure> {
+    match Input::open(place.rt, path) {
+        Ok(input) => Ok(input),
+        Err(error) => Err(Failure::of(
+            place.rt.alloc(),
+            SimFault::CannotRead,
+            place.why,
+            path.unwrap_or("standard input"),
+            words_of(&error),
+        )),
     }
-    Ok(ExitCode::SUCCESS)
+}
+
+/// Does the command over its streams; where one of these fails, it says which, and what the system says.
+fn served<T: Threads + Wait + Eprint + Sync>(
+    place: &Place<'_, T>,
+    name: &str,
+    options: &ArgMatches<'_>,
+) -> Result<(), Failure> {
+    let mut input = open(place, options.get_str("FILE"))?;
+    let mut output = Output::new(place.rt);
+    match command(place, name, options, &mut input, &mut output) {
+        Ok(()) => Ok(()),
+        Err(failure) if place.why && failure.reason.is_none() => Err(Failure {
+            fault: failure.fault,
+            reason: stream_reason(place.rt.alloc(), failure.fault, &input, &output),
+        }),
+        Err(failure) => Err(failure),
+    }
 }
 
 /// The status of the program where its arguments are no command to be served: they ask for help, or are a fault of usage.
-fn told(rt: &HostRuntime, error: &Error) -> Result<ExitCode, SimFault> {
+fn told(rt: &HostRuntime, why: bool, error: &Error) -> Result<ExitCode, Failure> {
     if error.kind() == error::ErrorKind::OutOfMemory {
-        return Err(SimFault::from(AllocError));
+        return Err(Failure::from(AllocError));
     }
     match (error.exit_code(), error.print(rt)) {
-        (0, Err(_)) => Err(SimFault::CannotWrite),
+        (0, Err(error)) => {
+            let name = "standard output";
+            Err(Failure::of(
+                rt.alloc(),
+                SimFault::CannotWrite,
+                why,
+                name,
+                words_of(&error),
+            ))
+        }
         (status, _) => Ok(ExitCode::from(status as u8)),
     }
 }
 
-/// The status of the program with its arguments. An argument that isn't UTF-8 can't be read;
-/// its own name may be any bytes.
+/// The words of the command line. One that isn't UTF-8 can't be read; the program's own name may be any bytes.
+fn words(rt: &HostRuntime, why: bool) -> Result<Vec<String>, Failure> {
+    match std::env::args(&(Named(rt), rt.alloc())) {
+        Ok(arguments) => Ok(arguments.collect(rt.alloc())?),
+        Err(error) if error.kind() == ErrorKind::OutOfMemory => Err(Failure::from(AllocError)),
+        Err(_) => {
+            let words = "not UTF-8";
+            Err(Failure::of(rt.alloc(), SimFault::CannotRead, why, "an argument", words))
+        }
+    }
+}
+
+/// The status of the program with its arguments. At a terminal it says why it fails without being asked.
 fn scisim<T: Threads + Wait + Eprint + Sync>(
     rt: &HostRuntime,
     threads: &T,
-) -> Result<ExitCode, SimFault> {
-    let arguments = std::env::args(&(Named(rt), rt.alloc())).map_err(|error| match error.kind() {
-        ErrorKind::OutOfMemory => SimFault::from(AllocError),
-        _ => SimFault::CannotRead,
-    })?;
-    let words: Vec<String> = arguments.collect(rt.alloc())?;
+) -> Result<ExitCode, Failure> {
+    let is_shown = rt.stderr().is_terminal();
+    let words = words(rt, is_shown)?;
     match commands(rt)?.try_get_matches_from(words.as_slice()) {
-        Ok(matches) => match matches.subcommand() {
-            Some((name, options)) => served(rt, threads, name, options),
-            None => Ok(ExitCode::from(2)),
-        },
-        Err(error) => told(rt, &error),
+        Ok(matches) => {
+            let Some((name, options)) = matches.subcommand() else {
+                return Ok(ExitCode::from(2));
+            };
+            let why = is_shown || options.get_flag("why");
+            served(&Place { rt, threads, why }, name, options)?;
+            Ok(ExitCode::SUCCESS)
+        }
+        Err(error) => told(rt, is_shown, &error),
     }
 }
 
 fn main(rt: HostRuntime) -> ExitCode {
     match scisim(&rt, &rt) {
         Ok(status) => status,
-        Err(fault) => {
-            // its verdict stands on standard output
-            if fault != SimFault::Unlawful {
+        Err(failure) => {
+            // the verdict of a check that says no stands on standard output
+            let fault = failure.fault;
+            if fault != RaceFault::Fault(SimFault::Unlawful) {
                 let _ = eprintln!(rt; "scisim: {fault}");
             }
-            ExitCode::from(fault.status())
+            if let Some(reason) = &failure.reason {
+                let _ = eprintln!(rt; "{reason}");
+            }
+            ExitCode::from(failure.status())
         }
     }
 }

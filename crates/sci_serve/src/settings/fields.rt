@@ -1,27 +1,16 @@
 //! What stands at the keys of a table of settings.
 
-ghost use Rattle.std.specs.Prelude.{◌≡◌, ◌≤◌, Some, IfSome, pos, option_map, string_bytes};
+ghost use Rattle.std.specs.Prelude.{◌≡◌, ◌≤◌, Option, Some, None, codes, option_map, true, false, IfOk, IfErr, pos};
+ghost use Rattle.sci_serve.specs.declared.settings.works.Work.{Work};
 ghost use Rattle.toml.specs.Data.{get_member};
 ghost use Rattle.toml.specs.View.{view, items_view, table_view};
-ghost use Rattle.sci_serve.specs.declared.settings.fields.Work.TheVariants as works;
-ghost use Rattle.sci_serve.specs.Settings.{Gives};
-ghost use Rattle.sci_serve.specs.Settings.{is_key_of, has_keys_of, named, work_at, number_at, number_in, numbers_in, numbers_at, flag_of, dump_at};
+ghost use Rattle.sci_serve.specs.Settings.{Gives, IsWhy, IsWrong, IsMissing, IsOfItem, has_array, is_of_numbers, suits, wanted_at};
+ghost use Rattle.sci_serve.specs.Settings.{number_at, number_in, numbers_in, numbers_at, flag_of, dump_at};
 
-use super::refusals::SettingsRefusal;
+use super::misfits::{Found, Misfit, Unread, Wanted};
 use std::alloc::Global;
 use std::marker::Model;
 use toml::{Table, Value};
-
-/// A work that settings name.
-#[derive(Clone, Copy, Debug, PartialEq, Eq, Drop)]
-pub enum Work {
-    /// The stencil.
-    Stencil,
-    /// The ring.
-    Ring,
-    /// The count.
-    Count,
-}
 
 /// Whole numbers from 0, in order.
 #[derive(Debug, Drop)]
@@ -54,77 +43,28 @@ impl Numbers {
     }
 }
 
-/// Whether a stencil may have this key.
-fn is_key_of_stencil(key: &str) -> bool
-    ensures { result ≡ is_key_of works.Stencil key.now }
-{
-    matches!(
-        key,
-        "work" | "nodes" | "capacity" | "phases" | "cells" | "dump"
-    )
-}
-
-/// Whether a ring may have this key.
-fn is_key_of_ring(key: &str) -> bool
-    ensures { result ≡ is_key_of works.Ring key.now }
-{
-    matches!(key, "work" | "lines" | "capacity" | "items" | "dump")
-}
-
-/// Whether a count may have this key.
-fn is_key_of_count(key: &str) -> bool
-    ensures { result ≡ is_key_of works.Count key.now }
-{
-    matches!(key, "work" | "nodes" | "adds" | "capacity" | "dump")
-}
-
-/// Whether a work may have this key.
-fn is_key_of(work: Work, key: &str) -> bool
-    ensures { result ≡ is_key_of work key.now }
-{
-    match work {
-        Work::Stencil => is_key_of_stencil(key),
-        Work::Ring => is_key_of_ring(key),
-        Work::Count => is_key_of_count(key),
-    }
-}
-
-/// Whether each key of the table is one of the work's.
-pub fn has_keys_of(work: Work, table: &Table) -> bool
-    ensures { result ≡ has_keys_of work (table_view table.now) }
-{
-    table.keys().all(|key| is_key_of(work, key.as_str()))
-}
-
-/// The value at a key.
-fn value_at<'a>(table: &'a Table, key: &str) -> Option<&'a Value>
+/// What stands at a key, if anything does.
+fn value_in<'a>(table: &'a Table, key: &str) -> Option<&'a Value>
     ensures { option_map (λ v. view v.now) result ≡ get_member key.now (table_view table.now) }
 {
     table.get(key)
 }
 
-/// The work of this name.
-fn named(name: &str) -> Option<Work>
-    ensures { result ≡ named name.now }
+/// What stands at a key.
+pub fn value_at<'a>(table: &'a Table, key: &'static str) -> Result<&'a Value, Misfit>
+    ensures ok { IfOk result (λ v. get_member key.now (table_view table.now) ≡ Some (view v.now)) }
+    ensures err { IfErr result (λ m. (get_member key.now (table_view table.now) ≡ None) × IsMissing key.now m) }
 {
-    match name {
-        "stencil" => Some(Work::Stencil),
-        "ring" => Some(Work::Ring),
-        "count" => Some(Work::Count),
-        _ => None,
-    }
+    value_in(table, key).ok_or(Misfit::Missing(key))
 }
 
-/// The work that the table names.
-pub fn work_at(table: &Table) -> Option<Work>
-    ensures { result ≡ work_at (table_view table.now) }
+/// Something else than what is wanted stands at a key.
+pub fn misfit(alloc: Global, key: &'static str, wanted: Wanted, value: &Value) -> Unread
+    ensures { IsWrong key.now wanted (view value.now) result }
 {
-    match value_at(table, "work") {
-        Some(value) => match value.as_str() {
-            Some(name) => named(name),
-            None => None,
-        },
-        None => None,
+    match Found::new(alloc, value) {
+        Ok(found) => Unread::Misfit(Misfit::Value { key, wanted, found }),
+        Err(e) => Unread::from(e),
     }
 }
 
@@ -139,52 +79,70 @@ fn number_in(value: &Value) -> Option<u64>
 }
 
 /// The number at a key, from low to high.
-pub fn number_at(table: &Table, key: &str, low: u64, high: u64) -> Option<u64>
-    ensures exact { result ≡ number_at key.now low high (table_view table.now) }
-    ensures range { IfSome result (λ n. (low ≤ n) × (n ≤ high)) }
+#[tactic(auto, using(crate::proofs::SettingsKeys::needed_at))]
+pub fn number_at(
+    alloc: Global,
+    table: &Table,
+    key: &'static str,
+    low: u64,
+    high: u64,
+) -> Result<u64, Unread>
+    ensures exact { Gives result (number_at key.now low high (table_view table.now)) }
+    ensures why { IfErr result (λ e. (work : Option Work) → wanted_at work key.now ≡ Some (Wanted.Number low high) → IsWhy work (table_view table.now) e) }
+    ensures range { IfOk result (λ n. (low ≤ n) × (n ≤ high)) }
 {
-    match value_at(table, key) {
-        Some(value) => match number_in(value) {
-            Some(number) if low <= number && number <= high => Some(number),
-            _ => None,
-        },
-        None => None,
+    let value = value_at(table, key)?;
+    match number_in(value) {
+        Some(number) if low <= number && number <= high => Ok(number),
+        _ => Err(misfit(alloc, key, Wanted::Number(low, high), value)),
     }
 }
 
-/// The numbers that the values of an array are.
-fn numbers_in(alloc: Global, array: &[Value]) -> Result<Numbers, SettingsRefusal>
-    ensures { Gives result (numbers_in (items_view array.now)) }
+/// The numbers that the values of the array at a key are.
+fn numbers_in(alloc: Global, key: &'static str, array: &[Value]) -> Result<Numbers, Unread>
+    ensures exact { Gives result (numbers_in (items_view array.now)) }
+    ensures why { IfErr result (IsOfItem key.now (items_view array.now)) }
 {
     let mut items = Vec::new(alloc);
     for value in array {
         let Some(number) = number_in(value) else {
-            return Err(SettingsRefusal::BadSettings);
+            let place = items.len() + 1;
+            return Err(Unread::Misfit(Misfit::Item { key, place }));
         };
         items.push(number)?;
     }
     Ok(Numbers { items })
 }
 
-/// The numbers of the array at a key.
-pub fn numbers_at(alloc: Global, table: &Table, key: &str) -> Result<Numbers, SettingsRefusal>
-    ensures { Gives result (numbers_at key.now (table_view table.now)) }
+/// The numbers of the array at a key, where as many are wanted.
+#[tactic(auto, using(crate::proofs::SettingsItems::item_there, crate::proofs::SettingsKeys::needed_at, crate::proofs::SettingsKeys::numbers_needed))]
+pub fn numbers_at(
+    alloc: Global,
+    table: &Table,
+    key: &'static str,
+    wanted: Wanted,
+) -> Result<Numbers, Unread>
+    ensures exact { Gives result (numbers_at key.now (table_view table.now)) }
+    ensures why { IfErr result (λ e. (work : Option Work) → wanted_at work key.now ≡ Some wanted → is_of_numbers (Some wanted) ≡ true → suits wanted key.now (table_view table.now) ≡ false → IsWhy work (table_view table.now) e) }
+    ensures there { IfOk result (λ _. has_array key.now (table_view table.now) ≡ true) }
 {
-    match value_at(table, key) {
-        Some(value) => match value.as_array() {
-            Some(array) => numbers_in(alloc, array),
-            None => Err(SettingsRefusal::BadSettings),
-        },
-        None => Err(SettingsRefusal::BadSettings),
+    let value = value_at(table, key)?;
+    match value.as_array() {
+        Some(array) => numbers_in(alloc, key, array),
+        None => Err(misfit(alloc, key, wanted, value)),
     }
 }
 
 /// Whether the dump is wanted too.
-pub fn dump_at(table: &Table) -> Option<bool>
-    ensures { result ≡ dump_at (table_view table.now) }
+pub fn dump_at(alloc: Global, table: &Table) -> Result<bool, Unread>
+    ensures exact { Gives result (dump_at (table_view table.now)) }
+    ensures why { IfErr result (λ e. (work : Option Work) → wanted_at work (codes "dump") ≡ Some Wanted.Flag → IsWhy work (table_view table.now) e) }
 {
-    match value_at(table, "dump") {
-        Some(value) => value.as_bool(),
-        None => Some(false),
+    match value_in(table, "dump") {
+        Some(value) => match value.as_bool() {
+            Some(flag) => Ok(flag),
+            None => Err(misfit(alloc, "dump", Wanted::Flag, value)),
+        },
+        None => Ok(false),
     }
 }

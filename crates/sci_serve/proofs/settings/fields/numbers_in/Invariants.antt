@@ -1,9 +1,9 @@
-use Rattle.std.proofs.Common.{◌≡◌, drop}
+use Rattle.std.proofs.Common.{◌≡◌, drop, length}
 use Rattle.toml.specs.View.{items_view}
 use Rattle.sci_serve.specs.Settings.{numbers_in}
 use Rattle.sci_serve.proofs.SettingsItems.{with_front}
 use Rattle.sci_serve.proofs.settings.fields.numbers_in.Given as goal
 
--- the numbers so far and those of what is left are those of all
+-- the numbers so far and those of what is left are those of all, and each value so far is one of them
 abbrev pub invariant-loop-value : goal.invariant-loop-value
-invariant-loop-value l = numbers_in (items_view l.array) ≡ with_front l.items.items (numbers_in (items_view (drop l.value-index l.array)))
+invariant-loop-value l = (length l.items.items ≡ l.value-index) × (numbers_in (items_view l.array) ≡ with_front l.items.items (numbers_in (items_view (drop l.value-index l.array))))

@@ -1,0 +1,217 @@
+//! Why a dump or a history is refused: of each text the line and the words, over both sides of each range.
+
+use crate::checks::same_at;
+use sci_reasons::{RowFault, why_dump, why_history};
+use std::alloc::{AllocError, Global};
+
+/// The line and the words of a reason.
+fn words(alloc: Global, why: Result<Option<RowFault>, AllocError>) -> Result<String, AllocError> {
+    match why? {
+        Some(fault) => {
+            let line = fault.line;
+            format!(in alloc; "{line}: {fault}")
+        }
+        None => String::from_str(alloc, "it is read"),
+    }
+}
+
+/// A dump of one line of two nodes, neither of which shares it.
+const DUMPS: &[(&str, &str)] = &[
+    ("", "1: an early end: scidump 1 or 2 wanted"),
+    ("dump 2 2 1\n", "1: scidump 1 or 2 wanted"),
+    ("scidump 2 2\n", "1: 4 words wanted, 3 found"),
+    ("scidump 2 2  1\n", "1: 4 words wanted, 5 found"),
+    ("scidump 0 2 1\n", "1: word 2: a number from 1 to 2 wanted"),
+    ("scidump 3 2 1\n", "1: word 2: a number from 1 to 2 wanted"),
+    (
+        "scidump 1 65 1\n",
+        "1: word 3: a number from 1 to 64 wanted",
+    ),
+    (
+        "scidump 2 0 1\n",
+        "1: word 3: a number from 1 to 1024 wanted",
+    ),
+    (
+        "scidump 2 1025 1\n",
+        "1: word 3: a number from 1 to 1024 wanted",
+    ),
+    (
+        "scidump 2 1024 0\n",
+        "1: word 4: a number from 1 to 1024 wanted",
+    ),
+    (
+        "scidump 2 1024 1025\n",
+        "1: word 4: a number from 1 to 1024 wanted",
+    ),
+    (
+        "scidump 2 02 1\n",
+        "1: word 3: a number from 1 to 1024 wanted",
+    ),
+    ("scidump 2 2 1", "1: a line feed wanted at its end"),
+    ("scidump 2 2 1\n", "2: an early end: line 0 wanted"),
+    ("scidump 2 2 1\n\n", "2: line 0 wanted"),
+    ("scidump 2 2 1\nend\n", "2: line 0 wanted"),
+    (
+        "scidump 2 2 1\nline 1 0000000000020001 0 0 0 0 0 0 0 0 0\n",
+        "2: word 2: 0 wanted",
+    ),
+    (
+        "scidump 2 2 1\nline 0 000000000000000 0 0 0 0 0 0 0 0 0\n",
+        "2: word 3: 16 hexadecimal digits in lower case wanted, 15 bytes found",
+    ),
+    (
+        "scidump 2 2 1\nline 0 000000000000000A 0 0 0 0 0 0 0 0 0\n",
+        "2: word 3: 16 hexadecimal digits in lower case wanted, 16 bytes found",
+    ),
+    (
+        "scidump 2 2 1\nline 0 ffffffffffffffff 0 0 0 0 0 0 0 0 0\n",
+        "2: word 3: a memory word of the layout wanted",
+    ),
+    (
+        "scidump 2 2 1\nline 0 0000000000020001 18446744073709551616 0 0 0 0 0 0 0 0\n",
+        "2: word 4: a number from 0 to 18446744073709551615 wanted",
+    ),
+    (
+        "scidump 2 2 1\nline 0 0000000000020001 0 0 0 0 0 0 0 0 x\n",
+        "2: word 12: a number from 0 to 18446744073709551615 wanted",
+    ),
+    (
+        "scidump 2 2 1\nline 0 0000000000020001 0 0 0 0 0 0 0 0\n",
+        "2: 12 words wanted, 11 found",
+    ),
+    (
+        "scidump 2 3 1\nline 0 0000000000020001 0 0 0 0 0 0 0 0 0\n",
+        "3: an early end: tag 0 or end wanted",
+    ),
+    (
+        "scidump 2 3 1\nline 0 0000000000020001 0 0 0 0 0 0 0 0 0\nline 1\n",
+        "3: tag 0 or end wanted",
+    ),
+    (
+        "scidump 2 3 2\nline 0 0000000000020001 0 0 0 0 0 0 0 0 0\nend\n",
+        "3: tag 0 or line 1 wanted",
+    ),
+    (
+        "scidump 2 3 2\nline 0 0000000000020001 0 0 0 0 0 0 0 0 0\nline 2 0\n",
+        "3: 12 words wanted, 3 found",
+    ),
+    (
+        "scidump 2 3 1\nline 0 0000000000020001 0 0 0 0 0 0 0 0 0\ntag 0 3 00000001ffff0007 0 0 0 0 0 0 0 0 0\n",
+        "3: word 3: a number from 0 to 2 wanted",
+    ),
+    (
+        "scidump 2 3 1\nline 0 0000000000020001 0 0 0 0 0 0 0 0 0\ntag 0 1 00000001ffff0007 0 0 0 0 0 0 0 0 0\ntag 0 1 0000000200000007 0 0 0 0 0 0 0 0 0\n",
+        "4: word 3: 2 wanted",
+    ),
+    (
+        "scidump 2 3 1\nline 0 0000000000020001 0 0 0 0 0 0 0 0 0\ntag 1 0 00000001ffff0007 0 0 0 0 0 0 0 0 0\n",
+        "3: word 2: 0 wanted",
+    ),
+    (
+        "scidump 2 3 1\nline 0 0000000000020001 0 0 0 0 0 0 0 0 0\ntag 0 0 0000000000000000 0 0 0 0 0 0 0 0 0\n",
+        "3: word 4: a tag of the layout wanted, and no Invalid one",
+    ),
+    (
+        "scidump 2 2 1\nline 0 0000000000020001 0 0 0 0 0 0 0 0 0\ntag 0 0 00000001ffff0007 0 0 0 0 0 0 0 0 0\ntag 0 1 0000ffff00000002 0 0 0 0 0 0 0 0 0\ntag 0 2\n",
+        "5: end wanted",
+    ),
+    (
+        "scidump 2 2 1\nline 0 0000000000020001 0 0 0 0 0 0 0 0 0\nend",
+        "3: a line feed wanted at its end",
+    ),
+    (
+        "scidump 2 2 1\nline 0 0000000000020001 0 0 0 0 0 0 0 0 0\nend\n",
+        "it is read",
+    ),
+    (
+        "scidump 2 2 1\nline 0 0000000000020001 0 0 0 0 0 0 0 0 0\nend\nx",
+        "4: nothing wanted behind end",
+    ),
+    (
+        "scidump 2 2 1\r\nline 0 0000000000020001 0 0 0 0 0 0 0 0 0\nend\n",
+        "1: word 4: a number from 1 to 1024 wanted",
+    ),
+];
+
+const HISTORIES: &[(&str, &str)] = &[
+    ("", "1: an early end: scihistory 1 wanted"),
+    ("scidump 2 1 1\n", "1: scihistory 1 wanted"),
+    ("scihistory 2 1 1\n", "1: word 2: 1 wanted"),
+    (
+        "scihistory 1 0 1\n",
+        "1: word 3: a number from 1 to 1024 wanted",
+    ),
+    (
+        "scihistory 1 1025 1\n",
+        "1: word 3: a number from 1 to 1024 wanted",
+    ),
+    (
+        "scihistory 1 1 1025\n",
+        "1: word 4: a number from 1 to 1024 wanted",
+    ),
+    ("scihistory 1 1 1\nclosed 0\n", "2: line 0 wanted"),
+    (
+        "scihistory 1 1 1\nline 0 0 0 0 0 0 0 0 0\n",
+        "2: 11 words wanted, 10 found",
+    ),
+    (
+        "scihistory 1 1 1\nline 0 0 0 0 0 0 0 0 0 0\nend\n",
+        "3: closed 0 wanted",
+    ),
+    (
+        "scihistory 1 1 1\nline 0 0 0 0 0 0 0 0 0 0\nclosed 1 0 0 0 0 0 0 0 0 0\n",
+        "3: word 2: 0 wanted",
+    ),
+    (
+        "scihistory 1 1 2\nline 0 0 0 0 0 0 0 0 0 0\nclosed 0 0 0 0 0 0 0 0 0 0\nend\n",
+        "4: read, passed, wrote or line 1 wanted",
+    ),
+    (
+        "scihistory 1 1 1\nline 0 0 0 0 0 0 0 0 0 0\nclosed 0 0 0 0 0 0 0 0 0 0\n",
+        "4: an early end: read, passed, wrote or end wanted",
+    ),
+    (
+        "scihistory 1 2 1\nline 0 0 0 0 0 0 0 0 0 0\nclosed 0 0 0 0 0 0 0 0 0 0\nread 1 0 0 0 0 0 0 0 0 0\nread 2 0 0 0 0 0 0 0 0 0\n",
+        "5: word 2: 1 wanted",
+    ),
+    (
+        "scihistory 1 2 1\nline 0 0 0 0 0 0 0 0 0 0\nclosed 0 0 0 0 0 0 0 0 0 0\nread 1 0 0 0 0 0 0 0 0 0\npassed 0 0 0 0 0 0 0 0 0 0\n",
+        "5: word 2: 1 wanted",
+    ),
+    (
+        "scihistory 1 2 1\nline 0 0 0 0 0 0 0 0 0 0\nclosed 0 1 0 0 0 0 0 0 0 0\nwrote 0 1 0 0 0 0 0 0 0 0\n",
+        "4: 20 words wanted, 11 found",
+    ),
+    (
+        "scihistory 1 2 1\nline 0 0 0 0 0 0 0 0 0 0\nclosed 0 1 0 0 0 0 0 0 0 0\nwrote 0 1 0 0 0 0 0 0 0 0 under 0 0 0 0 0 0 0 0\n",
+        "4: word 12: over wanted",
+    ),
+    (
+        "scihistory 1 2 1\nline 0 0 0 0 0 0 0 0 0 0\nclosed 0 1 0 0 0 0 0 0 0 0\nwrote 0 1 0 0 0 0 0 0 0 0 over 0 0 0 0 0 0 0 -1\n",
+        "4: word 20: a number from 0 to 18446744073709551615 wanted",
+    ),
+    (
+        "scihistory 1 2 1\nline 0 0 0 0 0 0 0 0 0 0\nclosed 0 1 0 0 0 0 0 0 0 0\nwrote 1 1 0 0 0 0 0 0 0 0 over 0 0 0 0 0 0 0 0\nend\n",
+        "it is read",
+    ),
+    (
+        "scihistory 1 1 1\nline 0 0 0 0 0 0 0 0 0 0\nclosed 0 0 0 0 0 0 0 0 0 0\nend\n\n",
+        "5: nothing wanted behind end",
+    ),
+];
+
+#[test]
+fn dumps(rt: HostRuntime) {
+    for row in DUMPS {
+        let found = words(rt.alloc(), why_dump(rt.alloc(), row.0.as_bytes()));
+        same_at(&rt, row, &found, &String::from_str(rt.alloc(), row.1));
+    }
+}
+
+#[test]
+fn histories(rt: HostRuntime) {
+    for row in HISTORIES {
+        let found = words(rt.alloc(), why_history(rt.alloc(), row.0.as_bytes()));
+        same_at(&rt, row, &found, &String::from_str(rt.alloc(), row.1));
+    }
+}

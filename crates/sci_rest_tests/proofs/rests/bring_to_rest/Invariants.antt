@@ -1,4 +1,0 @@
-use Rattle.sci_rest_tests.proofs.rests.bring_to_rest.Given as goal
-
-abbrev pub ghosts-counted : goal.ghosts-counted
-ghosts-counted a = record { name = a.blank.name; parts = a.blank.parts }

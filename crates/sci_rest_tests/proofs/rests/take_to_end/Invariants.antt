@@ -1,4 +1,0 @@
-use Rattle.sci_rest_tests.proofs.rests.take_to_end.Given as goal
-
-abbrev pub ghosts-counted_end : goal.ghosts-counted_end
-ghosts-counted_end a = record { name = a.blank.name; parts = a.blank.parts }

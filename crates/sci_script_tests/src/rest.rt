@@ -1,0 +1,5 @@
+//! Turns that bring a line to rest.
+
+mod desks;
+mod memory;
+mod rests;

@@ -1,8 +1,0 @@
-use Rattle.std.proofs.Common.{◌≡◌, ◌<◌, All}
-use Rattle.sci_serve_tests.proofs.script.growths.performs.Given as goal
-
-abbrev pub invariant-loop-step : goal.invariant-loop-step
-invariant-loop-step g l = record {
-  size : l.desk.size ≡ l.script.size;
-  range : All (λ w. w < 8) l.words;
-}

@@ -1,0 +1,7 @@
+//! Logs.
+
+mod follow;
+mod reads;
+mod runs;
+mod serving;
+mod texts;

@@ -1,0 +1,51 @@
+//! Inputs at the limits of their length, and of reads.
+use crate::calls::{Call, served};
+use crate::checks::{same_at, same_bytes_at};
+use crate::slow::Slow;
+use sci_script::ScriptRefusal;
+use sci_serve::SimFault;
+use std::test::Fail;
+
+/// A comment of so many bytes; whether its reader is interrupted before each byte and its end, so that each takes two reads; whether its
+/// last byte comes again and again; how often its reader is interrupted at the end; the read that fails; and the fault.
+type Input = (usize, bool, bool, u32, usize, SimFault);
+
+const NEVER: usize = usize::MAX;
+
+const LAST: SimFault = SimFault::Refused(ScriptRefusal::BadCommand(2));
+
+const EMPTY: SimFault = SimFault::Refused(ScriptRefusal::BadCommand(1));
+
+const INPUTS: [Input; 9] = [
+    (1_048_576, false, false, 0, NEVER, LAST),
+    (1_048_577, false, false, 0, NEVER, SimFault::InputTooLong),
+    // a fault is told before a length
+    (1_048_577, false, false, 0, 1_048_577, SimFault::CannotRead),
+    // 2,097,152 reads
+    (1_048_575, true, false, 0, NEVER, LAST),
+    (1_048_576, true, false, 0, NEVER, SimFault::CannotRead),
+    (0, false, false, 2_097_151, NEVER, EMPTY),
+    (0, false, false, 2_097_152, NEVER, SimFault::CannotRead),
+    (0, false, false, u32::MAX, NEVER, SimFault::CannotRead),
+    (1, false, true, 0, NEVER, SimFault::CannotRead),
+];
+
+#[test]
+fn long_inputs(rt: HostRuntime) -> Result<(), Fail> {
+    for (length, is_shy, is_endless, interruptions, faulty, fault) in &INPUTS {
+        let mut input = vec![in rt.alloc(); b' '; *length]?;
+        if let Some(first) = input.first_mut() {
+            *first = b'#';
+        }
+        let mut reader = Slow::new(&input, *is_shy);
+        reader.is_endless = *is_endless;
+        reader.interruptions = *interruptions;
+        reader.faulty = *faulty;
+        let mut out = Vec::new(rt.alloc());
+        let end = served(&rt, rt.alloc(), Call::Script, &mut reader, &mut out);
+        let row = (length, is_shy, interruptions);
+        same_at(&rt, &row, &end, &Some(*fault));
+        same_bytes_at(&rt, &row, &out, b"");
+    }
+    Ok(())
+}

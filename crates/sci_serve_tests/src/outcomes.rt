@@ -1,0 +1,5 @@
+//! The search of turns, and races.
+
+mod races;
+mod search;
+mod serve;

@@ -1,3 +1,0 @@
-//! The commands `legal` and `history`.
-
-mod growths;

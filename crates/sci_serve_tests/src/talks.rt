@@ -1,0 +1,4 @@
+//! Talks.
+
+mod serve;
+mod talk;

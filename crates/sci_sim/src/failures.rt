@@ -1,0 +1,85 @@
+//! Why the program fails, and what is said of it.
+
+use crate::streams::{Input, Output};
+use sci_serve::{RaceFault, SimFault, Text, explained};
+use std::alloc::{AllocError, Global};
+
+/// Why the program fails, and what its second line says of that, where it is wanted and known.
+#[derive(Drop)]
+pub struct Failure {
+    pub fault: RaceFault,
+    pub reason: Option<String>,
+}
+
+impl Failure {
+    /// A fault of a file or a stream, and what the system says of it, where that is wanted.
+    pub fn of(alloc: Global, fault: SimFault, why: bool, name: &str, words: &str) -> Failure {
+        Failure {
+            fault: RaceFault::Fault(fault),
+            reason: if why {
+                said_of(alloc, name, words)
+            } else {
+                None
+            },
+        }
+    }
+
+    /// The status that the program ends with.
+    pub fn status(&self) -> u8 {
+        match self.fault {
+            RaceFault::Fault(fault) => fault.status(),
+            RaceFault::TooManyStates => 1,
+        }
+    }
+}
+
+impl From<SimFault> for Failure {
+    fn from(fault: SimFault) -> Failure {
+        Failure {
+            fault: RaceFault::Fault(fault),
+            reason: None,
+        }
+    }
+}
+
+impl From<AllocError> for Failure {
+    fn from(_e: AllocError) -> Failure {
+        Failure::from(SimFault::from(AllocError))
+    }
+}
+
+/// Why a text is refused with this fault, in words, where that is known: not of memory that ran out, also here.
+pub fn reason_of(alloc: Global, fault: SimFault, text: Text, input: &[u8]) -> Option<String> {
+    let explained = match text {
+        Text::Script if input.len() > 1_048_576 => return None,
+        Text::Script => explained(alloc, Text::Script, fault, input),
+        Text::Settings => explained(alloc, Text::Settings, fault, input),
+        Text::Dump => explained(alloc, Text::Dump, fault, input),
+        Text::History => explained(alloc, Text::History, fault, input),
+    };
+    match explained {
+        Ok(Some(reason)) => format!(in alloc; "{reason}").ok(),
+        Ok(None) | Err(_) => None,
+    }
+}
+
+/// What the system says of a file or a stream.
+fn said_of(alloc: Global, name: &str, words: &str) -> Option<String> {
+    format!(in alloc; "{name}: {words}").ok()
+}
+
+/// Why a stream is at fault, in words.
+pub fn stream_reason(
+    alloc: Global,
+    fault: RaceFault,
+    input: &Input<'_>,
+    output: &Output,
+) -> Option<String> {
+    match fault {
+        RaceFault::Fault(SimFault::CannotRead) => said_of(alloc, input.name, input.fault()),
+        RaceFault::Fault(SimFault::CannotWrite) => {
+            said_of(alloc, "standard output", output.fault())
+        }
+        _ => None,
+    }
+}

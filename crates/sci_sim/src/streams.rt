@@ -1,0 +1,179 @@
+//! What a command reads and writes, and what the system said where that failed.
+
+ghost use Rattle.std.specs.Prelude.{◌≤◌, length};
+
+use std::fs::File;
+use std::io::{self, Error, ErrorKind, Read, Stdin, Stdout, Write};
+
+/// The system's code of a stream that isn't open.
+const CLOSED: i32 = 9;
+
+/// The system's code of a device that fails.
+const FAILS: i32 = 5;
+
+/// What the system says of an error that it names by its code alone.
+fn words_of_code(code: Option<i32>) -> &'static str {
+    match code {
+        Some(CLOSED) => "closed",
+        Some(FAILS) => "the device fails",
+        _ => "an error of the system",
+    }
+}
+
+/// What the system says of an error, in plain words.
+pub fn words_of(error: &Error) -> &'static str {
+    match error.kind() {
+        ErrorKind::NotFound => "no such file",
+        ErrorKind::PermissionDenied => "permission denied",
+        ErrorKind::IsADirectory => "a folder",
+        ErrorKind::NotADirectory => "its path goes through a file",
+        ErrorKind::InvalidFilename => "no name of a file",
+        ErrorKind::FilesystemLoop => "its links go in a circle",
+        ErrorKind::WouldBlock => "it would block",
+        ErrorKind::Interrupted => "interrupted again and again",
+        ErrorKind::ConnectionReset | ErrorKind::ConnectionAborted => "the other end broke off",
+        ErrorKind::BrokenPipe => "nobody reads it",
+        ErrorKind::StorageFull => "no space left",
+        ErrorKind::QuotaExceeded => "its quota is used up",
+        ErrorKind::FileTooLarge => "too large a file",
+        _ => words_of_code(error.raw_os_error()),
+    }
+}
+
+/// Where bytes come from.
+#[derive(Drop)]
+enum Source {
+    Input(Stdin),
+    File(File),
+}
+
+impl Read for Source {
+    fn read(&mut self, buf: &mut [u8]) -> io::Result<usize> {
+        match self {
+            Source::Input(stdin) => stdin.read(buf),
+            Source::File(file) => file.read(buf),
+        }
+    }
+}
+
+/// What a command reads: FILE, or standard input.
+#[derive(Drop)]
+pub struct Input<'a> {
+    /// How it is called.
+    pub name: &'a str,
+    source: Source,
+    failed: Option<&'static str>,
+    /// What is read before the source is read on: so many line feeds, and what is left of these bytes.
+    feeds: u64,
+    front: Vec<u8>,
+    at: usize,
+    /// How many reads these took that aren't taken again: so many are interrupted behind them, and count as they did.
+    spent: u32,
+}
+
+impl<'a> Input<'a> {
+    /// Opens FILE, or standard input where there is none, or FILE is `-`.
+    pub fn open(rt: &HostRuntime, path: Option<&'a str>) -> io::Result<Input<'a>> {
+        let (name, source) = match path {
+            None | Some("-") => ("standard input", Source::Input(rt.stdin())),
+            Some(path) => (path, Source::File(File::open(rt, path)?)),
+        };
+        Ok(Input {
+            name,
+            source,
+            failed: None,
+            feeds: 0,
+            front: Vec::new(rt.alloc()),
+            at: 0,
+            spent: 0,
+        })
+    }
+
+    /// Lets so many line feeds and these bytes be read before what follows, in no fewer reads than these.
+    pub fn put_before(&mut self, feeds: u64, front: Vec<u8>, reads: u32) {
+        self.feeds = feeds;
+        self.front = front;
+        self.at = 0;
+        self.spent = reads;
+    }
+
+    /// Reads of what stands before the source.
+    fn read_before(&mut self, buf: &mut [u8]) -> usize
+        ensures { result ≤ length buf.new }
+    {
+        if self.feeds > 0 {
+            let count = buf.len().min(self.feeds as usize);
+            buf[..count].fill(b'\n');
+            self.feeds -= count as u64;
+            return count;
+        }
+        if self.at >= self.front.len() {
+            return 0;
+        }
+        let rest = &self.front[self.at..];
+        let count = buf.len().min(rest.len());
+        buf[..count].copy_from_slice(&rest[..count]);
+        self.at += count;
+        count
+    }
+
+    /// What the system said as it failed; where it never did, it has no end.
+    pub fn fault(&self) -> &'static str {
+        self.failed.unwrap_or("no end")
+    }
+}
+
+impl Read for Input<'_> {
+    fn read(&mut self, buf: &mut [u8]) -> io::Result<usize> {
+        let count = self.read_before(buf);
+        if count > 0 {
+            self.spent = self.spent.saturating_sub(1);
+            return Ok(count);
+        }
+        if self.spent > 0 {
+            self.spent -= 1;
+            return Err(Error::from(ErrorKind::Interrupted));
+        }
+        let read = self.source.read(buf);
+        self.failed = match &read {
+            Ok(_) => None,
+            Err(error) => Some(words_of(error)),
+        };
+        read
+    }
+}
+
+/// Standard output.
+#[derive(Drop)]
+pub struct Output {
+    stdout: Stdout,
+    failed: Option<&'static str>,
+}
+
+impl Output {
+    pub fn new(rt: &HostRuntime) -> Output {
+        Output {
+            stdout: rt.stdout(),
+            failed: None,
+        }
+    }
+
+    /// What the system said as it failed; where it never did, it took no byte.
+    pub fn fault(&self) -> &'static str {
+        self.failed.unwrap_or("it takes no byte")
+    }
+}
+
+impl Write for Output {
+    fn write(&mut self, buf: &[u8]) -> io::Result<usize> {
+        let written = self.stdout.write(buf);
+        if let Err(error) = &written {
+            self.failed = Some(words_of(error));
+        }
+        written
+    }
+
+    fn flush(&mut self) -> io::Result<()> {
+        Ok(())
+    }
+}
