@@ -57,7 +57,7 @@ Refusals; what was printed before stays:
       without a call
   17  a faulty number: not 1 to 20 digits, or no such node, line, word or value
   18  a command that didn't end: the call waits for another node, whose turns must come first
-  23  more than 1048576 bytes";
+  23  more than 1048576 bytes, without --large";
 
 /// What `scisim trace --help` says behind its options.
 pub const TRACE: &str = "\
@@ -189,4 +189,4 @@ Refusals; nothing is printed:
   16  a faulty line of a log
   17  no such node or line, in a log
   21  no dump, or no history, from this line on
-  23  a dump of more than 1048576 bytes";
+  23  a dump of more than 1048576 bytes, without --large";
