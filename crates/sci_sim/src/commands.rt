@@ -68,7 +68,7 @@ fn limited<'a>(
     about: &'a str,
     help: &'a str,
 ) -> Result<Command<'a>, AllocError> {
-    let large = flag(rt, "large", "takes more than 1048576 bytes");
+    let large = flag(rt, "large", "takes any length");
     reader_of(rt, name, about, help)?.arg(large)
 }
 
