@@ -15,7 +15,7 @@ const LAST: SimFault = SimFault::Refused(ScriptRefusal::BadCommand(2));
 
 const EMPTY: SimFault = SimFault::Refused(ScriptRefusal::BadCommand(1));
 
-const INPUTS: [Input; 15] = [
+const INPUTS: [Input; 14] = [
     (INPUT_LIMIT, 1_048_576, false, false, 0, NEVER, LAST),
     (INPUT_LIMIT, 1_048_577, false, false, 0, NEVER, SimFault::InputTooLong),
     // a fault is told before a length
@@ -32,8 +32,7 @@ const INPUTS: [Input; 15] = [
     (4, 0, false, false, 7, NEVER, EMPTY),
     (4, 0, false, false, 8, NEVER, SimFault::CannotRead),
     // no limit but memory
-    (NEVER, 1_048_577, true, false, 0, NEVER, LAST),
-    (NEVER, 0, false, false, 2_097_152, NEVER, EMPTY),
+    (NEVER, 1_048_577, false, false, 0, NEVER, LAST),
 ];
 
 #[test]
