@@ -309,5 +309,9 @@ class Trial:
             self.say(f"{self.crate.name}: {label}: dear, by CPU s: {', '.join(dear)}")
         if not why and OFFER.search(said):
             self.say(f"{self.crate.name}: {label}: goals without an answer: {' '.join(sorted({*OFFER.findall(said)}))}")
+        # an edit isn't judged where a function that its own calls fails by another: what is left goes together once more
+        if 1 < len(again) < len(batch):
+            self.try_batch(again, f"{label}, what is left")
+            return
         for edit in again:
             self.try_batch([edit], f"{label}: {edit.name} alone")

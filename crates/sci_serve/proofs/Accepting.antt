@@ -106,7 +106,7 @@ parts_of (line ∷ said) s t talk (first, rest, mid, now, more, is) none =
     let (parts, all, same) = parts_of said mid t rest more left in
     (printed ∷ parts, (printed, parts, mid, a, all, refl), ap (λ (l : List ℕ). printed ++ l) same ∙ sym without ∙ sym (ap without_ok is))
 
-pub talked_so : (input text : List ℕ) → Serves Form.Script input text → (talk : List ℕ) × (t : Standing) × Talks Silent (lines input) talk t × (refuses talk ≡ false) × (without_ok talk ≡ text)
+pub talked_so : (input text : List ℕ) → Serves 1048576 Form.Script input text → (talk : List ℕ) × (t : Standing) × Talks Silent (lines input) talk t × (refuses talk ≡ false) × (without_ok talk ≡ text)
 talked_so input text (long, size, capacity, openings, steps, is, written) =
     let (parts, t, all, whole) = of_script input text (size, capacity, openings, steps) is written in
     let short = short_by (length input) 1048576 (lines input) long (short_lines (length input) (slice_split (λ b. eqb b 10) input) (short_parts input)) in

@@ -26,17 +26,17 @@ gone_out_front (Some x) (Some y) (Some z) rest text n p less q h =
     )
 
 -- what is left behind where a write of the rest fails
-pub left_cut : (form : Form) (r : Result (Unit {0}) SimFault) (remaining old mid new held : Option (List ℕ)) (rest : List ℕ) → held ≡ append_known mid rest
-    → OnOk r (IfSome remaining (λ input. (text : List ℕ) × Serves form input text × Appends old held text))
-    → IfErr r (λ e. IfSome remaining (λ input. (written : List ℕ) × Stops form e input written × Appends old held written))
-    → ((n : ℕ) × (n < length rest) × Appends mid new (take n rest)) → IfSome remaining (λ input. LeavesBehind form CannotWrite input old new)
-left_cut form r None old mid new held rest is served stopped front = tt
-left_cut form (Ok x) (Some input) old mid new held rest is (text, serves, appended) stopped (n, less, front) = λ h.
+pub left_cut : (limit : ℕ) (form : Form) (r : Result (Unit {0}) SimFault) (remaining old mid new held : Option (List ℕ)) (rest : List ℕ) → held ≡ append_known mid rest
+    → OnOk r (IfSome remaining (λ input. (text : List ℕ) × Serves limit form input text × Appends old held text))
+    → IfErr r (λ e. IfSome remaining (λ input. (written : List ℕ) × Stops limit form e input written × Appends old held written))
+    → ((n : ℕ) × (n < length rest) × Appends mid new (take n rest)) → IfSome remaining (λ input. LeavesBehind limit form CannotWrite input old new)
+left_cut limit form r None old mid new held rest is served stopped front = tt
+left_cut limit form (Ok x) (Some input) old mid new held rest is (text, serves, appended) stopped (n, less, front) = λ h.
     let (m, short, gone) = gone_out_front old mid new rest text n (subst (λ (k : Option (List ℕ)). Appends old k text) is appended) less front h in
-    (take m text, front_of_text form input text m short serves, gone)
-left_cut form (Err e) (Some input) old mid new held rest is served (written, stops, appended) (n, less, front) = λ h.
+    (take m text, front_of_text limit form input text m short serves, gone)
+left_cut limit form (Err e) (Some input) old mid new held rest is served (written, stops, appended) (n, less, front) = λ h.
     let (m, short, gone) = gone_out_front old mid new rest written n (subst (λ (k : Option (List ℕ)). Appends old k written) is appended) less front h in
-    (take m written, front_of_stop form e input written m short stops, gone)
+    (take m written, front_of_stop limit form e input written m short stops, gone)
 
 -- what the writer holds where the rest was written
 put_through : (old mid new held : Option (List ℕ)) (rest text : List ℕ) → held ≡ append_known mid rest → Appends mid new rest → Appends old held text → Appends old new text
@@ -46,23 +46,23 @@ put_through (Some x) (Some y) None held rest text is put appended = absurd put
 put_through (Some x) (Some y) (Some z) held rest text is put appended = put ∙ subst (λ (k : Option (List ℕ)). Appends (Some x) k text) is appended
 
 -- and what is served is then there
-pub put_behind : (form : Form) (r : Result (Unit {0}) SimFault) (remaining old mid new held : Option (List ℕ)) (rest : List ℕ) → held ≡ append_known mid rest → Appends mid new rest
-    → OnOk r (IfSome remaining (λ input. (text : List ℕ) × Serves form input text × Appends old held text))
-    → OnOk r (IfSome remaining (λ input. (text : List ℕ) × Serves form input text × Appends old new text))
-put_behind form (Err e) remaining old mid new held rest is put served = tt
-put_behind form (Ok x) None old mid new held rest is put served = tt
-put_behind form (Ok x) (Some input) old mid new held rest is put (text, serves, appended) = (text, serves, put_through old mid new held rest text is put appended)
+pub put_behind : (limit : ℕ) (form : Form) (r : Result (Unit {0}) SimFault) (remaining old mid new held : Option (List ℕ)) (rest : List ℕ) → held ≡ append_known mid rest → Appends mid new rest
+    → OnOk r (IfSome remaining (λ input. (text : List ℕ) × Serves limit form input text × Appends old held text))
+    → OnOk r (IfSome remaining (λ input. (text : List ℕ) × Serves limit form input text × Appends old new text))
+put_behind limit form (Err e) remaining old mid new held rest is put served = tt
+put_behind limit form (Ok x) None old mid new held rest is put served = tt
+put_behind limit form (Ok x) (Some input) old mid new held rest is put (text, serves, appended) = (text, serves, put_through old mid new held rest text is put appended)
 
 -- and of a script that fails what was written before
-pub left_behind : (form : Form) (r : Result (Unit {0}) SimFault) (remaining old mid new held : Option (List ℕ)) (rest : List ℕ) → held ≡ append_known mid rest → Appends mid new rest
-    → IfErr r (λ e. IfSome remaining (λ input. (written : List ℕ) × Stops form e input written × Appends old held written))
-    → IfErr r (λ e. IfSome remaining (λ input. LeavesBehind form e input old new))
-left_behind form (Ok x) remaining old mid new held rest is put stopped = tt
-left_behind form (Err e) None old mid new held rest is put stopped = tt
-left_behind form (Err CannotRead) (Some input) old mid new held rest is put (written, stops, appended) = (written, stops, put_through old mid new held rest written is put appended)
-left_behind form (Err CannotWrite) (Some input) old mid new held rest is put (written, stops, appended) = λ h. (written, stops, put_through old mid new held rest written is put appended)
-left_behind form (Err InputTooLong) (Some input) old mid new held rest is put (written, stops, appended) = (written, stops, put_through old mid new held rest written is put appended)
-left_behind form (Err (Refused e)) (Some input) old mid new held rest is put (written, stops, appended) = (written, stops, put_through old mid new held rest written is put appended)
-left_behind form (Err (NoDump n)) (Some input) old mid new held rest is put (written, stops, appended) = absurd stops
-left_behind form (Err Unlawful) (Some input) old mid new held rest is put (written, stops, appended) = absurd stops
-left_behind form (Err (NoRun e)) (Some input) old mid new held rest is put (written, stops, appended) = absurd stops
+pub left_behind : (limit : ℕ) (form : Form) (r : Result (Unit {0}) SimFault) (remaining old mid new held : Option (List ℕ)) (rest : List ℕ) → held ≡ append_known mid rest → Appends mid new rest
+    → IfErr r (λ e. IfSome remaining (λ input. (written : List ℕ) × Stops limit form e input written × Appends old held written))
+    → IfErr r (λ e. IfSome remaining (λ input. LeavesBehind limit form e input old new))
+left_behind limit form (Ok x) remaining old mid new held rest is put stopped = tt
+left_behind limit form (Err e) None old mid new held rest is put stopped = tt
+left_behind limit form (Err CannotRead) (Some input) old mid new held rest is put (written, stops, appended) = (written, stops, put_through old mid new held rest written is put appended)
+left_behind limit form (Err CannotWrite) (Some input) old mid new held rest is put (written, stops, appended) = λ h. (written, stops, put_through old mid new held rest written is put appended)
+left_behind limit form (Err InputTooLong) (Some input) old mid new held rest is put (written, stops, appended) = (written, stops, put_through old mid new held rest written is put appended)
+left_behind limit form (Err (Refused e)) (Some input) old mid new held rest is put (written, stops, appended) = (written, stops, put_through old mid new held rest written is put appended)
+left_behind limit form (Err (NoDump n)) (Some input) old mid new held rest is put (written, stops, appended) = absurd stops
+left_behind limit form (Err Unlawful) (Some input) old mid new held rest is put (written, stops, appended) = absurd stops
+left_behind limit form (Err (NoRun e)) (Some input) old mid new held rest is put (written, stops, appended) = absurd stops

@@ -51,5 +51,5 @@ stops_in_run shown (NoRun WorkRefusal.BadSettings) input s are h = absurd h
 stops_in_run shown (NoRun WorkRefusal.Stopped) input s are h = ((s, are), refl)
 stops_in_run shown (NoRun WorkRefusal.NoThread) input s are h = ((s, are), refl)
 
-pub stops_run_input : (shown : Shown) (e : SimFault) (input : List ℕ) → IsReadFault e input → StopsPrinting shown e input []
-stops_run_input shown e input h = of_read_fault (λ f. StopsPrinting shown f input []) input refl (λ long. (long, refl)) refl e h
+pub stops_run_input : (shown : Shown) (e : SimFault) (input : List ℕ) → IsReadFault 1048576 e input → StopsPrinting shown e input []
+stops_run_input shown e input h = of_read_fault 1048576 (λ f. StopsPrinting shown f input []) input refl (λ long. (long, refl)) refl e h

@@ -100,21 +100,21 @@ front_of_written Form.Draw input size capacity openings steps text n less (s, t,
     (s, t, opens, (traced, (length steps, t, so_far), (n, subst (λ (x : List ℕ). n < length x) is less, ap (take n) is)))
 front_of_written Form.Log input size capacity openings steps text n less (s, t, opens, logged) = (s, t, opens, (text, (n, less, refl), inl logged))
 
-front_of_run : (form : Form) (e : ScriptRefusal) (input written : List ℕ) (n : ℕ) → n < length written → StopsRunning form e input written → StopsRunning form WriteFailed input (take n written)
-front_of_run form e input written n less (short, size, capacity, openings, steps, is, left) =
+front_of_run : (limit : ℕ) (form : Form) (e : ScriptRefusal) (input written : List ℕ) (n : ℕ) → n < length written → StopsRunning limit form e input written → StopsRunning limit form WriteFailed input (take n written)
+front_of_run limit form e input written n less (short, size, capacity, openings, steps, is, left) =
     (short, size, capacity, openings, steps, is, front_of_left form input size capacity openings steps e written n less left)
 
-pub front_of_text : (form : Form) (input text : List ℕ) (n : ℕ) → n < length text → Serves form input text → StopsRunning form WriteFailed input (take n text)
-front_of_text form input text n less (short, size, capacity, openings, steps, is, written) =
+pub front_of_text : (limit : ℕ) (form : Form) (input text : List ℕ) (n : ℕ) → n < length text → Serves limit form input text → StopsRunning limit form WriteFailed input (take n text)
+front_of_text limit form input text n less (short, size, capacity, openings, steps, is, written) =
     (short, size, capacity, openings, steps, is, front_of_written form input size capacity openings steps text n less written)
 
 -- wherever the command stops, a front of what it wrote is what it leaves where the writer fails
-pub front_of_stop : (form : Form) (e : SimFault) (input written : List ℕ) (n : ℕ) → n < length written → Stops form e input written → Stops form CannotWrite input (take n written)
-front_of_stop form CannotRead input written n less none = absurd (front_of_nothing written n less none)
-front_of_stop form CannotWrite input written n less h = front_of_run form WriteFailed input written n less h
-front_of_stop form InputTooLong input written n less h = absurd (front_of_nothing written n less h.1)
-front_of_stop form (Refused e) input written n less (inl h) = absurd (front_of_nothing written n less h.1)
-front_of_stop form (Refused e) input written n less (inr h) = front_of_run form e input written n less h
-front_of_stop form (NoDump l) input written n less h = absurd h
-front_of_stop form Unlawful input written n less h = absurd h
-front_of_stop form (NoRun e) input written n less h = absurd h
+pub front_of_stop : (limit : ℕ) (form : Form) (e : SimFault) (input written : List ℕ) (n : ℕ) → n < length written → Stops limit form e input written → Stops limit form CannotWrite input (take n written)
+front_of_stop limit form CannotRead input written n less none = absurd (front_of_nothing written n less none)
+front_of_stop limit form CannotWrite input written n less h = front_of_run limit form WriteFailed input written n less h
+front_of_stop limit form InputTooLong input written n less h = absurd (front_of_nothing written n less h.1)
+front_of_stop limit form (Refused e) input written n less (inl h) = absurd (front_of_nothing written n less h.1)
+front_of_stop limit form (Refused e) input written n less (inr h) = front_of_run limit form e input written n less h
+front_of_stop limit form (NoDump l) input written n less h = absurd h
+front_of_stop limit form Unlawful input written n less h = absurd h
+front_of_stop limit form (NoRun e) input written n less h = absurd h

@@ -125,8 +125,8 @@ run_follows size capacity openings s t log is are opens goes =
     head_fed size is line openings added memory (openings_read size openings is.few_lines are) (λ k end holds kept. told_fed size told added (At size t) k end read noted (stands end holds) kept) in
     (follows_so log (subst (λ (x : List ℕ). IsFed x 1 Log.New) whole fed), (λ e stops. stops_only log e (subst (λ (x : List ℕ). NoFault x 1 Log.New) whole fine) stops))
 
-pub served_log_follows : (input text : List ℕ) → Serves Form.Log input text → IsSurelyFollowed text
-served_log_follows input text (long, size, capacity, openings, steps, is, (s, t, opens, (printed, prints))) =
+pub served_log_follows : (limit : ℕ) (input text : List ℕ) → Serves limit Form.Log input text → IsSurelyFollowed text
+served_log_follows limit input text (long, size, capacity, openings, steps, is, (s, t, opens, (printed, prints))) =
     let (sized, are, inside, small) = script_read input (size, capacity, openings, steps) is in
     let goes : Goes size (telling s (log_head size openings)) (telling t text) =
     prints_all telling_is_open logs size (asks size) (Goes size) (goes_none size) (goes_on size) (call_goes size sized) no_words (telling s (log_head size openings)) steps printed (telling t text) inside (all_ask size steps inside small) prints in
@@ -139,8 +139,8 @@ stopped_so size openings steps s (BadCommand n) written t of_line h = h
 stopped_so size openings steps s (BadNumber n) written t of_line h = h
 stopped_so size openings steps s (NotDone n) written t of_line h = h
 
-pub stopped_log_follows : (input written : List ℕ) (refusal : ScriptRefusal) → IsOfLine refusal → StopsRunning Form.Log refusal input written → IsSurelyFollowed written
-stopped_log_follows input written refusal of_line (long, size, capacity, openings, steps, is, (s, t, opens, left)) =
+pub stopped_log_follows : (limit : ℕ) (input written : List ℕ) (refusal : ScriptRefusal) → IsOfLine refusal → StopsRunning limit Form.Log refusal input written → IsSurelyFollowed written
+stopped_log_follows limit input written refusal of_line (long, size, capacity, openings, steps, is, (s, t, opens, left)) =
     let (sized, are, inside, small) = script_read input (size, capacity, openings, steps) is in
     let (printed, stopped) = stopped_so size openings steps s refusal written t of_line left in
     let goes : Goes size (telling s (log_head size openings)) (telling t written) =

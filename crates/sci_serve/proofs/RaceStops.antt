@@ -21,27 +21,27 @@ use Rattle.sci_serve.specs.Input.{IsReadFault}
 use Rattle.sci_serve.specs.Races.{race_fault_of, IsRaceIn, IsRaceToldInTime, Halts}
 use Rattle.sci_serve.proofs.ReadFaults.{of_read_fault}
 
-pub stops_read : (is : List ℕ → Type 0) (most : ℕ) (e : ScriptRefusal) (input : List ℕ) → length input ≤ 1048576 → Fails e (script_of input) → Halts is most (Fault (fault_of e)) input []
-stops_read is most OutOfMemory input short h = (inl tt, refl)
-stops_read is most (BadCommand n) input short h = (inl (short, h), refl)
-stops_read is most (BadNumber n) input short h = (inl (short, h), refl)
-stops_read is most (NotDone n) input short h = absurd h
-stops_read is most WriteFailed input short h = absurd h
+pub stops_read : (is : List ℕ → Type 0) (limit most : ℕ) (e : ScriptRefusal) (input : List ℕ) → length input ≤ limit → Fails e (script_of input) → Halts is limit most (Fault (fault_of e)) input []
+stops_read is limit most OutOfMemory input short h = (inl tt, refl)
+stops_read is limit most (BadCommand n) input short h = (inl (short, h), refl)
+stops_read is limit most (BadNumber n) input short h = (inl (short, h), refl)
+stops_read is limit most (NotDone n) input short h = absurd h
+stops_read is limit most WriteFailed input short h = absurd h
 
-pub stops_run : (is : List ℕ → Type 0) (most : ℕ) (e : ScriptRefusal) (input : List ℕ) (size : Size) (capacity : ℕ) (openings : List Opening) (steps : List Step) → script_of input ≡ Ok (size, capacity, openings, steps)
-    → LeavesNone size capacity openings steps e → Halts is most (Fault (fault_of e)) input []
-stops_run is most OutOfMemory input size capacity openings steps reads h = (inl tt, refl)
-stops_run is most (BadCommand n) input size capacity openings steps reads h = (inr (size, capacity, openings, steps, reads, h), refl)
-stops_run is most (BadNumber n) input size capacity openings steps reads h = (inr (size, capacity, openings, steps, reads, h), refl)
-stops_run is most (NotDone n) input size capacity openings steps reads h = (inr (size, capacity, openings, steps, reads, h), refl)
-stops_run is most WriteFailed input size capacity openings steps reads h = absurd h
+pub stops_run : (is : List ℕ → Type 0) (limit most : ℕ) (e : ScriptRefusal) (input : List ℕ) (size : Size) (capacity : ℕ) (openings : List Opening) (steps : List Step) → script_of input ≡ Ok (size, capacity, openings, steps)
+    → LeavesNone size capacity openings steps e → Halts is limit most (Fault (fault_of e)) input []
+stops_run is limit most OutOfMemory input size capacity openings steps reads h = (inl tt, refl)
+stops_run is limit most (BadCommand n) input size capacity openings steps reads h = (inr (size, capacity, openings, steps, reads, h), refl)
+stops_run is limit most (BadNumber n) input size capacity openings steps reads h = (inr (size, capacity, openings, steps, reads, h), refl)
+stops_run is limit most (NotDone n) input size capacity openings steps reads h = (inr (size, capacity, openings, steps, reads, h), refl)
+stops_run is limit most WriteFailed input size capacity openings steps reads h = absurd h
 
-pub stops_search : (is : List ℕ → Type 0) (most : ℕ) (e : SearchRefusal) (input : List ℕ) (race : RaceState) → IsRaceIn input race → IsRefused (leads_in (length race.nodes)) race most e → Halts is most (race_fault_of e) input []
-stops_search is most search.OutOfMemory input race there h = (inl tt, refl)
-stops_search is most search.TooManyStates input race there h = (race, there, h, refl)
+pub stops_search : (is : List ℕ → Type 0) (limit most : ℕ) (e : SearchRefusal) (input : List ℕ) (race : RaceState) → IsRaceIn limit input race → IsRefused (leads_in (length race.nodes)) race most e → Halts is limit most (race_fault_of e) input []
+stops_search is limit most search.OutOfMemory input race there h = (inl tt, refl)
+stops_search is limit most search.TooManyStates input race there h = (race, there, h, refl)
 
-pub stops_input : (is : List ℕ → Type 0) (most : ℕ) (e : SimFault) (input : List ℕ) → IsReadFault e input → Halts is most (Fault e) input []
-stops_input is most e input h = of_read_fault (λ f. Halts is most (Fault f) input []) input refl (λ long. (long, refl)) (inl tt, refl) e h
+pub stops_input : (is : List ℕ → Type 0) (limit most : ℕ) (e : SimFault) (input : List ℕ) → IsReadFault limit e input → Halts is limit most (Fault e) input []
+stops_input is limit most e input h = of_read_fault limit (λ f. Halts is limit most (Fault f) input []) input refl (λ long. (long, refl)) (inl tt, refl) e h
 
 -- where nothing is left of the input, each fault is told in time
 pub told_at_end : (e : RaceFault) (left : Option (List ℕ)) → IsAtEnd left → IsRaceToldInTime e left

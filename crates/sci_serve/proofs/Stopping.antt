@@ -13,5 +13,5 @@ pub stops_reading_dump : (e : DumpRefusal) (input : List ℕ) → length input �
 stops_reading_dump NoMemory input short h = refl
 stops_reading_dump (DumpFault n) input short h = (short, h, refl)
 
-pub stops_checking_input : (e : SimFault) (input : List ℕ) → IsReadFault e input → StopsChecking e input []
-stops_checking_input e input h = of_read_fault (λ f. StopsChecking f input []) input refl (λ long. (long, refl)) refl e h
+pub stops_checking_input : (e : SimFault) (input : List ℕ) → IsReadFault 1048576 e input → StopsChecking e input []
+stops_checking_input e input h = of_read_fault 1048576 (λ f. StopsChecking f input []) input refl (λ long. (long, refl)) refl e h

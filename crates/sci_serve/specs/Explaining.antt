@@ -1,5 +1,5 @@
 -- Why a text of each format is refused, in words. This project's profile.
-use Rattle.std.specs.Prelude.{◌≡◌, ℕ, ◌≤◌, List, length, Option, Some, None, Result, option_map}
+use Rattle.std.specs.Prelude.{◌≡◌, ℕ, List, Option, Some, None, Result, option_map}
 use Rattle.sci_dump.specs.declared.refusals.DumpRefusal.{DumpRefusal}
 use Rattle.sci_dump.specs.Reading.{dump_of}
 use Rattle.sci_histories.specs.Reading.{history_of}
@@ -17,11 +17,6 @@ use Rattle.sci_serve.specs.declared.faults.SimFault.TheVariants.{NoDump, NoRun}
 use Rattle.sci_serve.specs.declared.settings.why.SettingsReason.{SettingsReason}
 use Rattle.sci_serve.specs.Explained.{IsExplained}
 use Rattle.sci_serve.specs.Settings.{IsWhySettings}
-
--- a script has at most 1,048,576 bytes
-abbrev pub CanBeExplained : Text → List ℕ → Type 0
-CanBeExplained texts.Script input = length input ≤ 1048576
-CanBeExplained text input = Unit {0}
 
 -- of settings: their reason, where they are refused 22
 abbrev pub OfSettings : SimFault → List ℕ → Option SettingsReason → Type 0

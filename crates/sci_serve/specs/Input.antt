@@ -6,23 +6,23 @@ use Rattle.sci_script.specs.declared.refusals.ScriptRefusal.TheVariants.{OutOfMe
 use Rattle.sci_serve.specs.declared.faults.SimFault.{SimFault}
 use Rattle.sci_serve.specs.declared.faults.SimFault.TheVariants.{CannotRead, CannotWrite, InputTooLong, Refused, NoDump, Unlawful, NoRun}
 
--- all of the bytes that were read, up to 1,048,576, and nothing past them
-abbrev pub IsKept : Option (Vec ℕ) → List ℕ → Type 0
-IsKept kept seen = MatchOption kept (1048576 < length seen) (λ v. (v.items ≡ seen) × (length seen ≤ 1048576))
+-- all of the bytes that were read, up to a limit, and nothing past it
+abbrev pub IsKept : ℕ → Option (Vec ℕ) → List ℕ → Type 0
+IsKept limit kept seen = MatchOption kept (limit < length seen) (λ v. (v.items ≡ seen) × (length seen ≤ limit))
 
 -- the faults of reading an input
-abbrev pub IsReadFault : SimFault → List ℕ → Type 0
-IsReadFault CannotRead input = Unit {0}
-IsReadFault CannotWrite input = ⊥
-IsReadFault InputTooLong input = 1048576 < length input
-IsReadFault (Refused OutOfMemory) input = Unit {0}
-IsReadFault (Refused (BadCommand n)) input = ⊥
-IsReadFault (Refused (BadNumber n)) input = ⊥
-IsReadFault (Refused (NotDone n)) input = ⊥
-IsReadFault (Refused WriteFailed) input = ⊥
-IsReadFault (NoDump n) input = ⊥
-IsReadFault Unlawful input = ⊥
-IsReadFault (NoRun e) input = ⊥
+abbrev pub IsReadFault : ℕ → SimFault → List ℕ → Type 0
+IsReadFault limit CannotRead input = Unit {0}
+IsReadFault limit CannotWrite input = ⊥
+IsReadFault limit InputTooLong input = limit < length input
+IsReadFault limit (Refused OutOfMemory) input = Unit {0}
+IsReadFault limit (Refused (BadCommand n)) input = ⊥
+IsReadFault limit (Refused (BadNumber n)) input = ⊥
+IsReadFault limit (Refused (NotDone n)) input = ⊥
+IsReadFault limit (Refused WriteFailed) input = ⊥
+IsReadFault limit (NoDump n) input = ⊥
+IsReadFault limit Unlawful input = ⊥
+IsReadFault limit (NoRun e) input = ⊥
 
 -- that an input is too long is told at its end, with no byte left
 abbrev pub IsToldInTime : SimFault → Option (List ℕ) → Type 0

@@ -25,10 +25,10 @@ abbrev pub race_fault_of : SearchRefusal → RaceFault
 race_fault_of search.OutOfMemory = Fault (Refused OutOfMemory)
 race_fault_of search.TooManyStates = TooManyStates
 
--- the input is a script, and this is the race of the calls that its run leaves open
-abbrev pub IsRaceIn : List ℕ → RaceState → Type 0
-IsRaceIn input race =
-    (length input ≤ 1048576) × (size : Size) × (capacity : ℕ) × (openings : List Opening) × (steps : List Step) × (script_of input ≡ Ok (size, capacity, openings, steps))
+-- the input is a script of at most so many bytes, and this is the race of the calls that its run leaves open
+abbrev pub IsRaceIn : ℕ → List ℕ → RaceState → Type 0
+IsRaceIn limit input race =
+    (length input ≤ limit) × (size : Size) × (capacity : ℕ) × (openings : List Opening) × (steps : List Step) × (script_of input ≡ Ok (size, capacity, openings, steps))
     × LeavesOpen size capacity openings steps race
 
 -- exactly the outcomes of a race, and how many states its turns lead to, which are few enough
@@ -40,8 +40,8 @@ pub record IsReport (most : ℕ) (race : RaceState) (states : ℕ) (outcomes : L
   pub few : states ≤ most
 
 -- this is the text of the outcomes of that race
-abbrev pub Races : ℕ → List ℕ → List ℕ → Type 0
-Races most input text = (race : RaceState) × IsRaceIn input race × (states : ℕ) × (outcomes : List Outcome) × IsReport most race states outcomes × (text ≡ report_text states outcomes)
+abbrev pub Races : ℕ → ℕ → List ℕ → List ℕ → Type 0
+Races limit most input text = (race : RaceState) × IsRaceIn limit input race × (states : ℕ) × (outcomes : List Outcome) × IsReport most race states outcomes × (text ≡ report_text states outcomes)
 
 -- the input is a script whose run is refused with this, or memory ran out
 abbrev pub IsUnrun : List ℕ → ScriptRefusal → Type 0
@@ -49,18 +49,18 @@ IsUnrun input e = (size : Size) × (capacity : ℕ) × (openings : List Opening)
 
 -- what is written where a command on races fails, which else writes a text that is so: a front of one where the writer failed, and else
 -- nothing
-abbrev pub Halts : (List ℕ → Type 0) → ℕ → RaceFault → List ℕ → List ℕ → Type 0
-Halts is most (Fault CannotRead) input written = written ≡ []
-Halts is most (Fault CannotWrite) input written = (text : List ℕ) × (n : ℕ) × is text × (n < length text) × (written ≡ take n text)
-Halts is most (Fault InputTooLong) input written = (1048576 < length input) × (written ≡ [])
-Halts is most (Fault (Refused e)) input written = (IsRefused e input ⊎ IsUnrun input e) × (written ≡ [])
-Halts is most (Fault (NoDump n)) input written = ⊥
-Halts is most (Fault Unlawful) input written = ⊥
-Halts is most (Fault (NoRun e)) input written = ⊥
-Halts is most TooManyStates input written = (race : RaceState) × IsRaceIn input race × AreMore (leads_in (length race.nodes)) race most × (written ≡ [])
+abbrev pub Halts : (List ℕ → Type 0) → ℕ → ℕ → RaceFault → List ℕ → List ℕ → Type 0
+Halts is limit most (Fault CannotRead) input written = written ≡ []
+Halts is limit most (Fault CannotWrite) input written = (text : List ℕ) × (n : ℕ) × is text × (n < length text) × (written ≡ take n text)
+Halts is limit most (Fault InputTooLong) input written = (limit < length input) × (written ≡ [])
+Halts is limit most (Fault (Refused e)) input written = (IsRefused limit e input ⊎ IsUnrun input e) × (written ≡ [])
+Halts is limit most (Fault (NoDump n)) input written = ⊥
+Halts is limit most (Fault Unlawful) input written = ⊥
+Halts is limit most (Fault (NoRun e)) input written = ⊥
+Halts is limit most TooManyStates input written = (race : RaceState) × IsRaceIn limit input race × AreMore (leads_in (length race.nodes)) race most × (written ≡ [])
 
-abbrev pub StopsRacing : ℕ → RaceFault → List ℕ → List ℕ → Type 0
-StopsRacing most e input written = Halts (Races most input) most e input written
+abbrev pub StopsRacing : ℕ → ℕ → RaceFault → List ℕ → List ℕ → Type 0
+StopsRacing limit most e input written = Halts (Races limit most input) limit most e input written
 
 -- that an input is too long is told at its end
 abbrev pub IsRaceToldInTime : RaceFault → Option (List ℕ) → Type 0

@@ -38,35 +38,35 @@ IsLeft Form.Log input size capacity openings steps e written = (s t : Shared) ×
 abbrev pub FailsWith : Form → List ℕ → Size → ℕ → List Opening → List Step → ScriptRefusal → List ℕ → Type 0
 FailsWith form input size capacity openings steps e written = ((e ≡ OutOfMemory) × (written ≡ [])) ⊎ IsLeft form input size capacity openings steps e written
 
--- the input is a script, and this is written of its run
-abbrev pub Serves : Form → List ℕ → List ℕ → Type 0
-Serves form input text =
-    (length input ≤ 1048576) × (size : Size) × (capacity : ℕ) × (openings : List Opening) × (steps : List Step) × (script_of input ≡ Ok (size, capacity, openings, steps))
+-- the input is a script of at most so many bytes, and this is written of its run
+abbrev pub Serves : ℕ → Form → List ℕ → List ℕ → Type 0
+Serves limit form input text =
+    (length input ≤ limit) × (size : Size) × (capacity : ℕ) × (openings : List Opening) × (steps : List Step) × (script_of input ≡ Ok (size, capacity, openings, steps))
     × IsWritten form input size capacity openings steps text
 
 -- the input is a script, whose run fails and leaves this
-abbrev pub StopsRunning : Form → ScriptRefusal → List ℕ → List ℕ → Type 0
-StopsRunning form e input written =
-    (length input ≤ 1048576) × (size : Size) × (capacity : ℕ) × (openings : List Opening) × (steps : List Step) × (script_of input ≡ Ok (size, capacity, openings, steps))
+abbrev pub StopsRunning : ℕ → Form → ScriptRefusal → List ℕ → List ℕ → Type 0
+StopsRunning limit form e input written =
+    (length input ≤ limit) × (size : Size) × (capacity : ℕ) × (openings : List Opening) × (steps : List Step) × (script_of input ≡ Ok (size, capacity, openings, steps))
     × IsLeft form input size capacity openings steps e written
 
 -- the reader of scripts refuses the input, or memory ran out before the run
-abbrev pub IsRefused : ScriptRefusal → List ℕ → Type 0
-IsRefused OutOfMemory input = Unit {0}
-IsRefused (BadCommand n) input = (length input ≤ 1048576) × (script_of input ≡ Err (BadCommand n))
-IsRefused (BadNumber n) input = (length input ≤ 1048576) × (script_of input ≡ Err (BadNumber n))
-IsRefused (NotDone n) input = ⊥
-IsRefused WriteFailed input = ⊥
+abbrev pub IsRefused : ℕ → ScriptRefusal → List ℕ → Type 0
+IsRefused limit OutOfMemory input = Unit {0}
+IsRefused limit (BadCommand n) input = (length input ≤ limit) × (script_of input ≡ Err (BadCommand n))
+IsRefused limit (BadNumber n) input = (length input ≤ limit) × (script_of input ≡ Err (BadNumber n))
+IsRefused limit (NotDone n) input = ⊥
+IsRefused limit WriteFailed input = ⊥
 
 -- what is written where the command fails; a fault of reading comes before any other
-abbrev pub Stops : Form → SimFault → List ℕ → List ℕ → Type 0
-Stops form CannotRead input written = written ≡ []
-Stops form CannotWrite input written = StopsRunning form WriteFailed input written
-Stops form InputTooLong input written = (1048576 < length input) × (written ≡ [])
-Stops form (Refused e) input written = (IsRefused e input × (written ≡ [])) ⊎ StopsRunning form e input written
-Stops form (NoDump n) input written = ⊥
-Stops form Unlawful input written = ⊥
-Stops form (NoRun e) input written = ⊥
+abbrev pub Stops : ℕ → Form → SimFault → List ℕ → List ℕ → Type 0
+Stops limit form CannotRead input written = written ≡ []
+Stops limit form CannotWrite input written = StopsRunning limit form WriteFailed input written
+Stops limit form InputTooLong input written = (limit < length input) × (written ≡ [])
+Stops limit form (Refused e) input written = (IsRefused limit e input × (written ≡ [])) ⊎ StopsRunning limit form e input written
+Stops limit form (NoDump n) input written = ⊥
+Stops limit form Unlawful input written = ⊥
+Stops limit form (NoRun e) input written = ⊥
 
 -- a writer that is known to hold no fewer bytes than at first
 abbrev pub LosesNothing : Option (List ℕ) → Option (List ℕ) → Type 0
@@ -75,11 +75,11 @@ LosesNothing (Some xs) None = ⊥
 LosesNothing (Some xs) (Some ys) = length xs ≤ length ys
 
 -- what the writer holds where the command fails through a buffer; nothing is said of a failed writer that loses what it held
-abbrev pub LeavesBehind : Form → SimFault → List ℕ → Option (List ℕ) → Option (List ℕ) → Type 0
-LeavesBehind form CannotRead input old new = (written : List ℕ) × Stops form CannotRead input written × Appends old new written
-LeavesBehind form CannotWrite input old new = LosesNothing old new → (written : List ℕ) × Stops form CannotWrite input written × Appends old new written
-LeavesBehind form InputTooLong input old new = (written : List ℕ) × Stops form InputTooLong input written × Appends old new written
-LeavesBehind form (Refused e) input old new = (written : List ℕ) × Stops form (Refused e) input written × Appends old new written
-LeavesBehind form (NoDump n) input old new = ⊥
-LeavesBehind form Unlawful input old new = ⊥
-LeavesBehind form (NoRun e) input old new = ⊥
+abbrev pub LeavesBehind : ℕ → Form → SimFault → List ℕ → Option (List ℕ) → Option (List ℕ) → Type 0
+LeavesBehind limit form CannotRead input old new = (written : List ℕ) × Stops limit form CannotRead input written × Appends old new written
+LeavesBehind limit form CannotWrite input old new = LosesNothing old new → (written : List ℕ) × Stops limit form CannotWrite input written × Appends old new written
+LeavesBehind limit form InputTooLong input old new = (written : List ℕ) × Stops limit form InputTooLong input written × Appends old new written
+LeavesBehind limit form (Refused e) input old new = (written : List ℕ) × Stops limit form (Refused e) input written × Appends old new written
+LeavesBehind limit form (NoDump n) input old new = ⊥
+LeavesBehind limit form Unlawful input old new = ⊥
+LeavesBehind limit form (NoRun e) input old new = ⊥

@@ -7,7 +7,7 @@ ghost use Rattle.sci_serve.specs.Input.{IsToldInTime};
 ghost use Rattle.sci_serve.specs.Verdicts.{Checks, StopsChecking};
 
 use crate::faults::SimFault;
-use crate::input::read_input;
+use crate::input::{INPUT_LIMIT, read_input};
 use crate::verdicts::verdict_text;
 use sci_dump::{Verdict, check, read_dump};
 use sci_script::put;
@@ -41,7 +41,7 @@ pub fn serve_check<R: Read, W: Write>(
     ensures end { OnOk result (IsAtEnd (R.remaining reader.new)) }
     ensures in_time { IfErr result (λ e. IsToldInTime e (R.remaining reader.new)) }
 {
-    let input = read_input(alloc, reader)?;
+    let input = read_input(alloc, INPUT_LIMIT, reader)?;
     let (verdict, text) = judge(alloc, &input)?;
     match put(writer, text.as_bytes()) {
         Err(_) => Err(SimFault::CannotWrite),

@@ -1,6 +1,6 @@
 //! Why a text is refused, in words.
 ghost use Rattle.std.specs.Prelude.{IfOk};
-ghost use Rattle.sci_serve.specs.Explaining.{CanBeExplained, IsToldOf, OfSettings, OfRows};
+ghost use Rattle.sci_serve.specs.Explaining.{IsToldOf, OfSettings, OfRows};
 ghost use Rattle.sci_dump.specs.Reading.{dump_of};
 ghost use Rattle.sci_histories.specs.Reading.{history_of};
 
@@ -16,7 +16,7 @@ use thiserror::Error;
 /// What a text is.
 #[derive(Clone, Copy, Debug, PartialEq, Eq, Drop)]
 pub enum Text {
-    /// A script, of at most 1,048,576 bytes.
+    /// A script.
     Script,
     /// Settings.
     Settings,
@@ -81,7 +81,6 @@ pub fn explained(
     fault: SimFault,
     input: &[u8],
 ) -> Result<Option<Explanation>, AllocError>
-    requires { CanBeExplained text input.now }
     ensures { IfOk result (IsToldOf text fault input.now) }
 {
     match text {

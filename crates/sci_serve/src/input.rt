@@ -8,20 +8,21 @@ use crate::faults::SimFault;
 use std::alloc::{AllocError, Global};
 use std::io::{ErrorKind, Read};
 
-/// How many bytes an input may have.
-const LIMIT: usize = 1_048_576;
-
-/// How many reads an input may take to its end, interrupted ones among them.
-const READS: u32 = 2_097_152;
+/// How many bytes an input may have, where no other limit is given.
+pub const INPUT_LIMIT: usize = 1_048_576;
 
 /// What is kept of the bytes so far and these: all of them, or nothing past the limit.
-fn keep(kept: Option<Vec<u8>>, bytes: &[u8]) -> Result<Option<Vec<u8>>, AllocError>
-    ensures { IfOk result (λ now. (seen : List ℕ) → IsKept kept seen → IsKept now (seen ++ bytes.now)) }
+fn keep(
+    limit: usize,
+    kept: Option<Vec<u8>>,
+    bytes: &[u8],
+) -> Result<Option<Vec<u8>>, AllocError>
+    ensures { IfOk result (λ now. (seen : List ℕ) → IsKept limit kept seen → IsKept limit now (seen ++ bytes.now)) }
 {
     let Some(mut input) = kept else {
         return Ok(None);
     };
-    if input.len() + bytes.len() > LIMIT {
+    if input.len() + bytes.len() > limit {
         return Ok(None);
     }
     input.extend_from_slice(bytes)?;
@@ -29,17 +30,17 @@ fn keep(kept: Option<Vec<u8>>, bytes: &[u8]) -> Result<Option<Vec<u8>>, AllocErr
 }
 
 /// Reads to the end. Bytes past the limit are dropped, and the input is then refused with 23, at its end. An input that
-/// hasn't ended after 2,097,152 reads can't be read.
-pub fn read_input<R: Read>(alloc: Global, reader: &mut R) -> Result<Vec<u8>, SimFault>
+/// hasn't ended after twice as many reads as it may have bytes can't be read.
+pub fn read_input<R: Read>(alloc: Global, limit: usize, reader: &mut R) -> Result<Vec<u8>, SimFault>
     ensures read { IfOk result (λ v. IfSome (R.remaining reader.old) (λ input. v.items ≡ input)) }
-    ensures short { IfOk result (λ v. length v.items ≤ 1048576) }
+    ensures short { IfOk result (λ v. length v.items ≤ limit) }
     ensures end { OnOk result (IsAtEnd (R.remaining reader.new)) }
-    ensures err { IfErr result (λ e. IfSome (R.remaining reader.old) (IsReadFault e)) }
+    ensures err { IfErr result (λ e. IfSome (R.remaining reader.old) (IsReadFault limit e)) }
     ensures in_time { IfErr result (λ e. IsToldInTime e (R.remaining reader.new)) }
 {
     let mut kept = Some(Vec::new(alloc));
     let mut buffer = [0u8; 4096];
-    for _ in 0..READS {
+    for _ in 0..limit.saturating_mul(2) {
         match reader.read(&mut buffer) {
             Ok(0) => {
                 return match kept {
@@ -47,7 +48,7 @@ pub fn read_input<R: Read>(alloc: Global, reader: &mut R) -> Result<Vec<u8>, Sim
                     None => Err(SimFault::InputTooLong),
                 };
             }
-            Ok(count) => kept = keep(kept, &buffer[..count])?,
+            Ok(count) => kept = keep(limit, kept, &buffer[..count])?,
             Err(error) if error.kind() == ErrorKind::Interrupted => {}
             Err(_) => return Err(SimFault::CannotRead),
         }

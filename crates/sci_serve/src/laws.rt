@@ -34,7 +34,7 @@ ghost use Rattle.sci_serve.specs.Talked.{Talks};
 /// What `serve_script` writes of a script that ends is what `serve_talk` writes without its lines `ok`, and the other way round where no
 /// line is refused. It computes nothing: its contract is the law, of every text that is a script and of all that may be written.
 pub fn script_is_talked()
-    ensures talked { (input text : List ℕ) → Serves forms.Script input text
+    ensures talked { (input text : List ℕ) → Serves 1048576 forms.Script input text
         → (talk : List ℕ) × (t : Standing) × Talks Silent (lines input) talk t × (refuses talk ≡ false) × (without_ok talk ≡ text) }
     ensures printed { (input talk : List ℕ) (script : Size × ℕ × List Opening × List Step) (t : Standing) → script_of input ≡ Ok script
         → Talks Silent (lines input) talk t → refuses talk ≡ false → IsTextOf script.0 script.1 script.2 script.3 (without_ok talk) }
@@ -63,6 +63,6 @@ pub fn turns_are_followed()
 /// The log of every script follows: what `trace --log` writes of a script that ends, or of one that is refused at one of its lines,
 /// is a run of the table from its opening, and `check` finds no fault in it, unless it can't be read or memory runs out.
 pub fn logs_follow()
-    ensures ended { (input text : List ℕ) → Serves forms.Log input text → IsSurelyFollowed text }
-    ensures refused { (input written : List ℕ) (refusal : ScriptRefusal) → IsOfLine refusal → StopsRunning forms.Log refusal input written → IsSurelyFollowed written }
+    ensures ended { (limit : ℕ) (input text : List ℕ) → Serves limit forms.Log input text → IsSurelyFollowed text }
+    ensures refused { (limit : ℕ) (input written : List ℕ) (refusal : ScriptRefusal) → IsOfLine refusal → StopsRunning limit forms.Log refusal input written → IsSurelyFollowed written }
 {}

@@ -34,7 +34,7 @@ pub use checking::serve_check;
 pub use explaining::{Explanation, Text, explained};
 pub use faults::SimFault;
 pub use following::serve_follow;
-pub use input::read_input;
+pub use input::{INPUT_LIMIT, read_input};
 pub use laws::{entries_are_read_back, logs_follow, script_is_talked, turns_are_followed};
 pub use legality::serve_legal;
 pub use playing::serve_play;

@@ -32,12 +32,13 @@ fn page_of(alloc: Global, input: &[u8], text: &[u8]) -> Result<Vec<u8>, AllocErr
 fn played<C: Watch>(
     alloc: Global,
     watch: &C,
+    limit: usize,
     input: &[u8],
     most: usize,
 ) -> Result<Vec<u8>, RaceFault>
-    requires { length input.now ≤ 1048576 }
-    ensures ok { IfOk result (λ page. Plays most input.now page.items) }
-    ensures err { IfErr result (λ e. StopsPlaying most e input.now []) }
+    requires { length input.now ≤ limit }
+    ensures ok { IfOk result (λ page. Plays limit most input.now page.items) }
+    ensures err { IfErr result (λ e. StopsPlaying limit most e input.now []) }
 {
     let script = read_script(alloc, input)?;
     let race = race_after(alloc, &script)?;
@@ -46,25 +47,26 @@ fn played<C: Watch>(
     Ok(page)
 }
 
-/// Reads a script to its end, runs it, and writes a page of HTML that shows all states which turns of the calls that it leaves open lead
+/// Reads a script of at most `limit` bytes to its end, runs it, and writes a page of HTML that shows all states which turns of the calls that it leaves open lead
 /// to, and on which the reader picks whose turn it is. Nothing is written where they are more than `most`. How many are visited is told
 /// meanwhile.
 pub fn serve_play<C: Watch, R: Read, W: Write>(
     alloc: Global,
     watch: &C,
+    limit: usize,
     most: usize,
     reader: &mut R,
     writer: &mut W,
 ) -> Result<(), RaceFault>
-    ensures ok { OnOk result (IfSome (R.remaining reader.old) (λ input. (page : List ℕ) × Plays most input page
+    ensures ok { OnOk result (IfSome (R.remaining reader.old) (λ input. (page : List ℕ) × Plays limit most input page
         × Appends (W.contents writer.old) (W.contents writer.new) page)) }
-    ensures err { IfErr result (λ e. IfSome (R.remaining reader.old) (λ input. (written : List ℕ) × StopsPlaying most e input written
+    ensures err { IfErr result (λ e. IfSome (R.remaining reader.old) (λ input. (written : List ℕ) × StopsPlaying limit most e input written
         × Appends (W.contents writer.old) (W.contents writer.new) written)) }
     ensures end { OnOk result (IsAtEnd (R.remaining reader.new)) }
     ensures in_time { IfErr result (λ e. IsRaceToldInTime e (R.remaining reader.new)) }
 {
-    let input = read_input(alloc, reader)?;
-    let page = played(alloc, watch, &input, most)?;
+    let input = read_input(alloc, limit, reader)?;
+    let page = played(alloc, watch, limit, &input, most)?;
     match put(writer, &page) {
         Ok(()) => Ok(()),
         Err(_) => Err(RaceFault::Fault(SimFault::CannotWrite)),

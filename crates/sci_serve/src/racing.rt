@@ -69,12 +69,13 @@ impl From<AllocError> for RaceFault {
 fn report<C: Watch>(
     alloc: Global,
     watch: &C,
+    limit: usize,
     input: &[u8],
     most: usize,
 ) -> Result<String, RaceFault>
-    requires { length input.now ≤ 1048576 }
-    ensures ok { IfOk result (λ text. Races most input.now (string_bytes text)) }
-    ensures err { IfErr result (λ e. StopsRacing most e input.now []) }
+    requires { length input.now ≤ limit }
+    ensures ok { IfOk result (λ text. Races limit most input.now (string_bytes text)) }
+    ensures err { IfErr result (λ e. StopsRacing limit most e input.now []) }
 {
     let script = read_script(alloc, input)?;
     let race = race_after(alloc, &script)?;
@@ -83,26 +84,27 @@ fn report<C: Watch>(
     Ok(text)
 }
 
-/// Reads a script to its end, runs it, and writes each outcome that the calls which it leaves open can come to, in whatever order they
+/// Reads a script of at most `limit` bytes to its end, runs it, and writes each outcome that the calls which it leaves open can come to, in whatever order they
 /// take their turns: `states N`, `outcomes N`, and behind an empty line what the calls' ends print, the list of each line, and a
 /// shortest order of turns that leads to it. Nothing is written where turns lead to more than `most` states. How many are visited is
 /// told meanwhile.
 pub fn serve_outcomes<C: Watch, R: Read, W: Write>(
     alloc: Global,
     watch: &C,
+    limit: usize,
     most: usize,
     reader: &mut R,
     writer: &mut W,
 ) -> Result<(), RaceFault>
-    ensures ok { OnOk result (IfSome (R.remaining reader.old) (λ input. (text : List ℕ) × Races most input text
+    ensures ok { OnOk result (IfSome (R.remaining reader.old) (λ input. (text : List ℕ) × Races limit most input text
         × Appends (W.contents writer.old) (W.contents writer.new) text)) }
-    ensures err { IfErr result (λ e. IfSome (R.remaining reader.old) (λ input. (written : List ℕ) × StopsRacing most e input written
+    ensures err { IfErr result (λ e. IfSome (R.remaining reader.old) (λ input. (written : List ℕ) × StopsRacing limit most e input written
         × Appends (W.contents writer.old) (W.contents writer.new) written)) }
     ensures end { OnOk result (IsAtEnd (R.remaining reader.new)) }
     ensures in_time { IfErr result (λ e. IsRaceToldInTime e (R.remaining reader.new)) }
 {
-    let input = read_input(alloc, reader)?;
-    let text = report(alloc, watch, &input, most)?;
+    let input = read_input(alloc, limit, reader)?;
+    let text = report(alloc, watch, limit, &input, most)?;
     match put(writer, text.as_bytes()) {
         Ok(()) => Ok(()),
         Err(_) => Err(RaceFault::Fault(SimFault::CannotWrite)),

@@ -1,5 +1,5 @@
 //! Why lines are refused, told beside what is written.
-ghost use Rattle.std.specs.Prelude.{◌≡◌, ◌≤◌, IsTrue, false, length, IfOk};
+ghost use Rattle.std.specs.Prelude.{◌≡◌, IsTrue, false, IfOk};
 ghost use Rattle.sci_serve.specs.Explained.{has_reason, is_of_line, IsExplained};
 
 use crate::faults::SimFault;
@@ -86,7 +86,6 @@ pub fn explanation(
     fault: SimFault,
     input: &[u8],
 ) -> Result<Option<Reason>, AllocError>
-    requires { length input.now ≤ 1048576 }
     ensures { IfOk result (IsExplained fault input.now) }
 {
     match fault {

@@ -9,7 +9,7 @@ ghost use Rattle.sci_serve.specs.declared.running.Shown.TheVariants as shows;
 
 use crate::faults::SimFault;
 use crate::histories::history_of;
-use crate::input::read_input;
+use crate::input::{INPUT_LIMIT, read_input};
 use crate::results::result_text;
 use crate::settings::{Settings, read_settings};
 use sci_script::put;
@@ -74,7 +74,7 @@ fn serve_shown<T: Threads + Wait + Sync, G: Gate, R: Read, W: Write>(
     ensures end { OnOk result (IsAtEnd (R.remaining reader.new)) }
     ensures in_time { IfErr result (λ e. IsToldInTime e (R.remaining reader.new)) }
 {
-    let input = read_input(alloc, reader)?;
+    let input = read_input(alloc, INPUT_LIMIT, reader)?;
     let text = run(rt, alloc, gate, shown, &input)?;
     match put(writer, text.as_bytes()) {
         Ok(()) => Ok(()),

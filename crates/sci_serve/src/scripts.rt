@@ -9,7 +9,7 @@ ghost use Rattle.sci_serve.specs.Input.{IsToldInTime};
 ghost use Rattle.sci_serve.specs.Serve.{IsWritten, FailsWith, Serves, Stops, LeavesBehind};
 
 use crate::faults::SimFault;
-use crate::input::read_input;
+use crate::input::{INPUT_LIMIT, read_input};
 use sci_script::{Script, ScriptRefusal, WholeDesk, put, read_script};
 use sci_trace::{LogDesk, TraceDesk, draw, log, trace};
 use std::alloc::Global;
@@ -101,35 +101,37 @@ fn run<W: Write>(
 /// Runs the script that an input is.
 fn serve_input<W: Write>(
     alloc: Global,
+    limit: usize,
     form: Form,
     input: &[u8],
     writer: &mut W,
 ) -> Result<(), ScriptRefusal>
-    requires { length input.now ≤ 1048576 }
-    ensures ok { OnOk result ((text : List ℕ) × Serves form input.now text × Appends (W.contents writer.old) (W.contents writer.new) text) }
-    ensures err { IfErr result (λ e. (written : List ℕ) × Stops form (fault_of e) input.now written
+    requires { length input.now ≤ limit }
+    ensures ok { OnOk result ((text : List ℕ) × Serves limit form input.now text × Appends (W.contents writer.old) (W.contents writer.new) text) }
+    ensures err { IfErr result (λ e. (written : List ℕ) × Stops limit form (fault_of e) input.now written
         × Appends (W.contents writer.old) (W.contents writer.new) written) }
 {
     let script = read_script(alloc, input)?;
     run(alloc, form, input, &script, writer)
 }
 
-/// Reads a script to its end, runs it, and writes its run in this form.
+/// Reads a script of at most so many bytes to its end, runs it, and writes its run in this form.
 pub fn serve<R: Read, W: Write>(
     alloc: Global,
+    limit: usize,
     form: Form,
     reader: &mut R,
     writer: &mut W,
 ) -> Result<(), SimFault>
-    ensures ok { OnOk result (IfSome (R.remaining reader.old) (λ input. (text : List ℕ) × Serves form input text
+    ensures ok { OnOk result (IfSome (R.remaining reader.old) (λ input. (text : List ℕ) × Serves limit form input text
         × Appends (W.contents writer.old) (W.contents writer.new) text)) }
-    ensures err { IfErr result (λ e. IfSome (R.remaining reader.old) (λ input. (written : List ℕ) × Stops form e input written
+    ensures err { IfErr result (λ e. IfSome (R.remaining reader.old) (λ input. (written : List ℕ) × Stops limit form e input written
         × Appends (W.contents writer.old) (W.contents writer.new) written)) }
     ensures end { OnOk result (IsAtEnd (R.remaining reader.new)) }
     ensures in_time { IfErr result (λ e. IsToldInTime e (R.remaining reader.new)) }
 {
-    let input = read_input(alloc, reader)?;
-    serve_input(alloc, form, &input, writer)?;
+    let input = read_input(alloc, limit, reader)?;
+    serve_input(alloc, limit, form, &input, writer)?;
     Ok(())
 }
 
@@ -139,14 +141,14 @@ pub fn serve_script<R: Read, W: Write>(
     reader: &mut R,
     writer: &mut W,
 ) -> Result<(), SimFault>
-    ensures ok { OnOk result (IfSome (R.remaining reader.old) (λ input. (text : List ℕ) × Serves forms.Script input text
+    ensures ok { OnOk result (IfSome (R.remaining reader.old) (λ input. (text : List ℕ) × Serves 1048576 forms.Script input text
         × Appends (W.contents writer.old) (W.contents writer.new) text)) }
-    ensures err { IfErr result (λ e. IfSome (R.remaining reader.old) (λ input. (written : List ℕ) × Stops forms.Script e input written
+    ensures err { IfErr result (λ e. IfSome (R.remaining reader.old) (λ input. (written : List ℕ) × Stops 1048576 forms.Script e input written
         × Appends (W.contents writer.old) (W.contents writer.new) written)) }
     ensures end { OnOk result (IsAtEnd (R.remaining reader.new)) }
     ensures in_time { IfErr result (λ e. IsToldInTime e (R.remaining reader.new)) }
 {
-    serve(alloc, Form::Script, reader, writer)
+    serve(alloc, INPUT_LIMIT, Form::Script, reader, writer)
 }
 
 /// Reads a script to its end, runs it, and writes its text with a line for each turn.
@@ -155,14 +157,14 @@ pub fn serve_trace<R: Read, W: Write>(
     reader: &mut R,
     writer: &mut W,
 ) -> Result<(), SimFault>
-    ensures ok { OnOk result (IfSome (R.remaining reader.old) (λ input. (traced : List ℕ) × Serves forms.Trace input traced
+    ensures ok { OnOk result (IfSome (R.remaining reader.old) (λ input. (traced : List ℕ) × Serves 1048576 forms.Trace input traced
         × Appends (W.contents writer.old) (W.contents writer.new) traced)) }
-    ensures err { IfErr result (λ e. IfSome (R.remaining reader.old) (λ input. (written : List ℕ) × Stops forms.Trace e input written
+    ensures err { IfErr result (λ e. IfSome (R.remaining reader.old) (λ input. (written : List ℕ) × Stops 1048576 forms.Trace e input written
         × Appends (W.contents writer.old) (W.contents writer.new) written)) }
     ensures end { OnOk result (IsAtEnd (R.remaining reader.new)) }
     ensures in_time { IfErr result (λ e. IsToldInTime e (R.remaining reader.new)) }
 {
-    serve(alloc, Form::Trace, reader, writer)
+    serve(alloc, INPUT_LIMIT, Form::Trace, reader, writer)
 }
 
 /// Reads a script to its end, runs it, and writes a page of HTML that shows it and its trace.
@@ -171,30 +173,31 @@ pub fn serve_draw<R: Read, W: Write>(
     reader: &mut R,
     writer: &mut W,
 ) -> Result<(), SimFault>
-    ensures ok { OnOk result (IfSome (R.remaining reader.old) (λ input. (page : List ℕ) × Serves forms.Draw input page
+    ensures ok { OnOk result (IfSome (R.remaining reader.old) (λ input. (page : List ℕ) × Serves 1048576 forms.Draw input page
         × Appends (W.contents writer.old) (W.contents writer.new) page)) }
-    ensures err { IfErr result (λ e. IfSome (R.remaining reader.old) (λ input. (written : List ℕ) × Stops forms.Draw e input written
+    ensures err { IfErr result (λ e. IfSome (R.remaining reader.old) (λ input. (written : List ℕ) × Stops 1048576 forms.Draw e input written
         × Appends (W.contents writer.old) (W.contents writer.new) written)) }
     ensures end { OnOk result (IsAtEnd (R.remaining reader.new)) }
     ensures in_time { IfErr result (λ e. IsToldInTime e (R.remaining reader.new)) }
 {
-    serve(alloc, Form::Draw, reader, writer)
+    serve(alloc, INPUT_LIMIT, Form::Draw, reader, writer)
 }
 
 /// The same through a buffer, which is written out before the writer comes back: what is written of a script that ends or is
 /// refused has gone out whole, and a write that fails comes before a refusal.
 pub fn serve_buffered<R: Read, W: Write + Drop>(
     alloc: Global,
+    limit: usize,
     form: Form,
     reader: &mut R,
     mut output: BufWriter<W>,
 ) -> (W, Result<(), SimFault>)
-    ensures ok { OnOk result.1 (IfSome (R.remaining reader.old) (λ input. (text : List ℕ) × Serves form input text
+    ensures ok { OnOk result.1 (IfSome (R.remaining reader.old) (λ input. (text : List ℕ) × Serves limit form input text
         × Appends (writer_contents W.contents output) (W.contents result.0) text)) }
     ensures err { IfErr result.1 (λ e. IfSome (R.remaining reader.old) (λ input.
-        LeavesBehind form e input (writer_contents W.contents output) (W.contents result.0))) }
+        LeavesBehind limit form e input (writer_contents W.contents output) (W.contents result.0))) }
 {
-    let served = serve(alloc, form, reader, &mut output);
+    let served = serve(alloc, limit, form, reader, &mut output);
     let (mut writer, rest) = output.into_parts();
     match put(&mut writer, &rest) {
         Ok(()) => (writer, served),

@@ -1,6 +1,6 @@
 //! The calls that serve a command, by their names.
 use sci_serve::{
-    Form, SimFault, serve, serve_buffered, serve_check, serve_draw, serve_history,
+    Form, INPUT_LIMIT, SimFault, serve, serve_buffered, serve_check, serve_draw, serve_history,
     serve_history_by, serve_legal, serve_run, serve_run_by, serve_script, serve_trace,
 };
 use sci_work::OpenGate;
@@ -38,7 +38,7 @@ pub(crate) fn served<T: Threads + Wait + Sync, R: Read, W: Write>(
         Call::Script => serve_script(alloc, reader, writer),
         Call::Trace => serve_trace(alloc, reader, writer),
         Call::Draw => serve_draw(alloc, reader, writer),
-        Call::Serve(form) => serve(alloc, form, reader, writer),
+        Call::Serve(form) => serve(alloc, INPUT_LIMIT, form, reader, writer),
         Call::Check => serve_check(alloc, reader, writer),
         Call::Legal => serve_legal(alloc, reader, writer),
         Call::Run => serve_run(rt, alloc, reader, writer),
@@ -58,6 +58,6 @@ pub(crate) fn buffered<W: Write + Drop>(
     writer: W,
 ) -> io::Result<(W, Option<SimFault>)> {
     let output = BufWriter::with_capacity(alloc, capacity, writer)?;
-    let (writer, end) = serve_buffered(alloc, form, &mut script.as_bytes(), output);
+    let (writer, end) = serve_buffered(alloc, INPUT_LIMIT, form, &mut script.as_bytes(), output);
     Ok((writer, end.err()))
 }

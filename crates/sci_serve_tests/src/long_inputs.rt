@@ -1,14 +1,13 @@
 //! Inputs at the limits of their length, and of reads.
-use crate::calls::{Call, served};
 use crate::checks::{same_at, same_bytes_at};
 use crate::slow::Slow;
 use sci_script::ScriptRefusal;
-use sci_serve::SimFault;
+use sci_serve::{Form, INPUT_LIMIT, SimFault, serve};
 use std::test::Fail;
 
-/// A comment of so many bytes; whether its reader is interrupted before each byte and its end, so that each takes two reads; whether its
+/// How many bytes an input may have; a comment of so many bytes; whether its reader is interrupted before each byte and its end, so that each takes two reads; whether its
 /// last byte comes again and again; how often its reader is interrupted at the end; the read that fails; and the fault.
-type Input = (usize, bool, bool, u32, usize, SimFault);
+type Input = (usize, usize, bool, bool, u32, usize, SimFault);
 
 const NEVER: usize = usize::MAX;
 
@@ -16,23 +15,29 @@ const LAST: SimFault = SimFault::Refused(ScriptRefusal::BadCommand(2));
 
 const EMPTY: SimFault = SimFault::Refused(ScriptRefusal::BadCommand(1));
 
-const INPUTS: [Input; 9] = [
-    (1_048_576, false, false, 0, NEVER, LAST),
-    (1_048_577, false, false, 0, NEVER, SimFault::InputTooLong),
+const INPUTS: [Input; 14] = [
+    (INPUT_LIMIT, 1_048_576, false, false, 0, NEVER, LAST),
+    (INPUT_LIMIT, 1_048_577, false, false, 0, NEVER, SimFault::InputTooLong),
     // a fault is told before a length
-    (1_048_577, false, false, 0, 1_048_577, SimFault::CannotRead),
+    (INPUT_LIMIT, 1_048_577, false, false, 0, 1_048_577, SimFault::CannotRead),
     // 2,097,152 reads
-    (1_048_575, true, false, 0, NEVER, LAST),
-    (1_048_576, true, false, 0, NEVER, SimFault::CannotRead),
-    (0, false, false, 2_097_151, NEVER, EMPTY),
-    (0, false, false, 2_097_152, NEVER, SimFault::CannotRead),
-    (0, false, false, u32::MAX, NEVER, SimFault::CannotRead),
-    (1, false, true, 0, NEVER, SimFault::CannotRead),
+    (INPUT_LIMIT, 1_048_575, true, false, 0, NEVER, LAST),
+    (INPUT_LIMIT, 1_048_576, true, false, 0, NEVER, SimFault::CannotRead),
+    (INPUT_LIMIT, 0, false, false, 2_097_151, NEVER, EMPTY),
+    (INPUT_LIMIT, 0, false, false, 2_097_152, NEVER, SimFault::CannotRead),
+    (INPUT_LIMIT, 0, false, false, u32::MAX, NEVER, SimFault::CannotRead),
+    (INPUT_LIMIT, 1, false, true, 0, NEVER, SimFault::CannotRead),
+    (4, 4, false, false, 0, NEVER, LAST),
+    (4, 5, false, false, 0, NEVER, SimFault::InputTooLong),
+    (4, 0, false, false, 7, NEVER, EMPTY),
+    (4, 0, false, false, 8, NEVER, SimFault::CannotRead),
+    // no limit but memory
+    (NEVER, 1_048_577, false, false, 0, NEVER, LAST),
 ];
 
 #[test]
 fn long_inputs(rt: HostRuntime) -> Result<(), Fail> {
-    for (length, is_shy, is_endless, interruptions, faulty, fault) in &INPUTS {
+    for (limit, length, is_shy, is_endless, interruptions, faulty, fault) in &INPUTS {
         let mut input = vec![in rt.alloc(); b' '; *length]?;
         if let Some(first) = input.first_mut() {
             *first = b'#';
@@ -42,9 +47,9 @@ fn long_inputs(rt: HostRuntime) -> Result<(), Fail> {
         reader.interruptions = *interruptions;
         reader.faulty = *faulty;
         let mut out = Vec::new(rt.alloc());
-        let end = served(&rt, rt.alloc(), Call::Script, &mut reader, &mut out);
-        let row = (length, is_shy, interruptions);
-        same_at(&rt, &row, &end, &Some(*fault));
+        let end = serve(rt.alloc(), *limit, Form::Script, &mut reader, &mut out);
+        let row = (limit, length, is_shy, interruptions);
+        same_at(&rt, &row, &end, &Err(*fault));
         same_bytes_at(&rt, &row, &out, b"");
     }
     Ok(())

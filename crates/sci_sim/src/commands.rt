@@ -61,20 +61,31 @@ fn reader_of<'a>(
     command(rt, name, about, help)?.arg(file)
 }
 
+/// A command that reads a script or a dump.
+fn limited<'a>(
+    rt: &impl AllocGlobal,
+    name: &'a str,
+    about: &'a str,
+    help: &'a str,
+) -> Result<Command<'a>, AllocError> {
+    let large = flag(rt, "large", "takes any length");
+    reader_of(rt, name, about, help)?.arg(large)
+}
+
 fn script<'a>(rt: &impl AllocGlobal) -> Result<Command<'a>, AllocError> {
-    reader_of(rt, "script", "Runs a script", help::SCRIPT)
+    limited(rt, "script", "Runs a script", help::SCRIPT)
 }
 
 fn trace<'a>(rt: &impl AllocGlobal) -> Result<Command<'a>, AllocError> {
     let about = "Says of each turn of a script what it did";
-    reader_of(rt, "trace", about, help::TRACE)?
+    limited(rt, "trace", about, help::TRACE)?
         .arg(page(rt))?
         .arg(log(rt)?)
 }
 
 fn outcomes<'a>(rt: &impl AllocGlobal) -> Result<Command<'a>, AllocError> {
     let about = "Lists every outcome of a script's open calls";
-    reader_of(rt, "outcomes", about, help::OUTCOMES)?
+    limited(rt, "outcomes", about, help::OUTCOMES)?
         .arg(page(rt))?
         .arg(most(rt))
 }
@@ -96,7 +107,7 @@ fn run<'a>(rt: &impl AllocGlobal) -> Result<Command<'a>, AllocError> {
 
 fn check<'a>(rt: &impl AllocGlobal) -> Result<Command<'a>, AllocError> {
     let about = "Judges a dump, a history or a log";
-    reader_of(rt, "check", about, help::CHECK)
+    limited(rt, "check", about, help::CHECK)
 }
 
 /// The program without its commands.

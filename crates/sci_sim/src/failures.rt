@@ -50,14 +50,7 @@ impl From<AllocError> for Failure {
 
 /// Why a text is refused with this fault, in words, where that is known: not of memory that ran out, also here.
 pub fn reason_of(alloc: Global, fault: SimFault, text: Text, input: &[u8]) -> Option<String> {
-    let explained = match text {
-        Text::Script if input.len() > 1_048_576 => return None,
-        Text::Script => explained(alloc, Text::Script, fault, input),
-        Text::Settings => explained(alloc, Text::Settings, fault, input),
-        Text::Dump => explained(alloc, Text::Dump, fault, input),
-        Text::History => explained(alloc, Text::History, fault, input),
-    };
-    match explained {
+    match explained(alloc, text, fault, input) {
         Ok(Some(reason)) => format!(in alloc; "{reason}").ok(),
         Ok(None) | Err(_) => None,
     }

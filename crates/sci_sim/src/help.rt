@@ -56,8 +56,8 @@ Refusals; what was printed before stays:
   16  a faulty command: an unknown word, a count of words, a byte, a place; a call begun while the node's last is open, or a turn
       without a call
   17  a faulty number: not 1 to 20 digits, or no such node, line, word or value
-  18  a command that didn't end: the call waits for another node, whose turns must come first
-  23  more than 1048576 bytes";
+  18  a command that didn't end: another node's turns come first
+  23  more than 1048576 bytes, without --large";
 
 /// What `scisim trace --help` says behind its options.
 pub const TRACE: &str = "\
@@ -67,11 +67,11 @@ Writes what `script` writes, with its refusals, and a line for each turn in fron
 
 OPERATION is load, store, add or evict; on a line other than the call's own it is the victim's evict. WHAT is one of
   EVENT Done          the turn's exchange, with its arguments: a link, words written, or the tag that was found
-  waits: WHY          memory is lent, or names another node, or a tag must change first
+  waits: WHY          memory is lent (in Queueing), or names another node, or a tag must change first
   waits K times: WHY  the same of a `done` that is refused 18
   only looked         the call, or the victim's exit, ended without an exchange
-STEP is the node's pending step after the turn, LIST the list, with ` lent` behind memory's state and ` held` behind an entry.
-`; for node N` says whom the turn waits for.
+STEP is the node's pending step after the turn, perhaps dirty, turned or told; LIST the list, with ` lent` behind memory's state and
+` held` behind an entry. `; for node N` says whom the turn waits for.
 
 --log: the script's log, which `scisim check` takes.
 
@@ -81,17 +81,15 @@ its picture, #all up to 200 pictures. A faulty script has no page.";
 
 /// What `scisim outcomes --help` says behind its options.
 pub const OUTCOMES: &str = "\
-Takes the calls that a script leaves open, those begun without `done`, through every order of their turns.
+Takes the calls that a script leaves open through every order of their turns.
 
-Prints `states N`, how many states there are, the first among them; `outcomes N`; and each outcome behind an empty line: what the calls'
+Prints `states N`, the first among them; `outcomes N`; and each outcome behind an empty line: what the calls'
 ends print, by node, the list of each line, and a shortest order of turns that leads there: put behind the script, they lead `script`
 to it. An order that never ends has no outcome.
 
 --page: every state, in one file of HTML. In a browser a click on a node, or its key, 0 to 9, takes its turn; Backspace or the left
 arrow takes it back, the right arrow takes it again, R starts again, H hides what a turn will do. #path=0,1,1,2 behind the page's
 address opens the state behind these turns.
-
-Each 20000 states more are told on standard error.
 
 Refusals; nothing is printed: those of `script`, and
   too many states  leave fewer calls open, or take a higher --most
@@ -101,8 +99,8 @@ Example:
 
 /// What `scisim talk --help` says behind its options.
 pub const TALK: &str = "\
-Answers each line before it reads on: what it prints, then `ok`, or `refused N` alone. A comment, or a line of blanks, is answered by
-`ok` too. `memory`, which begins anew, `capacity` and `open` come first; the next command opens the memory.
+Answers each line before it reads on: what it prints, then `ok`, or `refused N` alone. A comment or blank line is answered `ok` too.
+`memory`, which begins anew, `capacity` and `open` come first; the next command opens the memory.
 
 Refusals are those of `script`; 16 also a line of more than 1048576 bytes. Nothing was changed, but that on 18 the turns were taken, and
 on 7 what the command did before stays. With --why the reason of each stands on standard error.
@@ -189,4 +187,4 @@ Refusals; nothing is printed:
   16  a faulty line of a log
   17  no such node or line, in a log
   21  no dump, or no history, from this line on
-  23  a dump of more than 1048576 bytes";
+  23  a dump of more than 1048576 bytes, without --large";

@@ -2,15 +2,9 @@
 
 ghost use Rattle.std.specs.Prelude.{◌≤◌, length};
 
-use sci_serve::SimFault;
+use sci_serve::{INPUT_LIMIT, SimFault};
 use std::alloc::{AllocError, Global};
 use std::io::{ErrorKind, Read};
-
-/// How many reads the first word may take, interrupted ones among them.
-const READS: u32 = 2_097_152;
-
-/// How many bytes a dump may have.
-const LIMIT: u64 = 1_048_576;
 
 /// How many bytes tell the first word: the longest, `scihistory`, and what ends it.
 const WORD: usize = 11;
@@ -83,7 +77,7 @@ impl Beginning {
             front: Vec::new(alloc),
         };
         let mut buffer = [0u8; 4096];
-        for _ in 0..READS {
+        for _ in 0..2 * INPUT_LIMIT {
             beginning.reads = beginning.reads.saturating_add(1);
             match reader.read(&mut buffer) {
                 Ok(0) => return Ok(beginning),
@@ -121,7 +115,7 @@ impl Beginning {
             return self.front.extend_from_slice(bytes);
         }
         let passed = self.pass(bytes);
-        if self.passed > LIMIT {
+        if self.passed > INPUT_LIMIT as u64 {
             self.front.clear();
         } else {
             self.front.extend_from_slice(&bytes[..passed])?;
@@ -157,7 +151,7 @@ impl Beginning {
     /// How many line feeds stand for what isn't kept: of a log as many as it has lines, each of which counts and is as good as an empty
     /// one; of any other text, which is too long or faulty at its first line, as many as it has bytes.
     pub fn feeds(&self) -> u64 {
-        if self.passed <= LIMIT {
+        if self.passed <= INPUT_LIMIT as u64 {
             return 0;
         }
         match self.kind() {

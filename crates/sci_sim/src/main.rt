@@ -15,7 +15,7 @@ use arguments::Named;
 use clap::{ArgMatches, Error, error};
 use commands::commands;
 use failures::{Failure, stream_reason};
-use sci_serve::{Form, RaceFault, SimFault};
+use sci_serve::{Form, INPUT_LIMIT, RaceFault, SimFault};
 use std::alloc::AllocError;
 use std::io::{ErrorKind, IsTerminal};
 use std::process::ExitCode;
@@ -144,8 +144,17 @@ fn scisim<T: Threads + Wait + Eprint + Sync>(
             let Some((name, options)) = matches.subcommand() else {
                 return Ok(ExitCode::from(2));
             };
-            let why = is_shown || options.get_flag("why");
-            served(&Place { rt, threads, why }, name, options)?;
+            let place = Place {
+                rt,
+                threads,
+                limit: if options.get_flag("large") {
+                    usize::MAX
+                } else {
+                    INPUT_LIMIT
+                },
+                why: is_shown || options.get_flag("why"),
+            };
+            served(&place, name, options)?;
             Ok(ExitCode::SUCCESS)
         }
         Err(error) => told(rt, is_shown, &error),

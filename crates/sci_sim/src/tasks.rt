@@ -42,17 +42,19 @@ impl Task {
     }
 }
 
-/// Where a command is run: the handles, and whether the reason of a failure is wanted.
+/// Where a command is run: the handles, how many bytes a script or a dump may have, and whether the reason of a failure is wanted.
 #[derive(Drop)]
 pub struct Place<'r, T> {
     pub rt: &'r HostRuntime,
     /// It starts the nodes' threads.
     pub threads: &'r T,
+    pub limit: usize,
     pub why: bool,
 }
 
 fn script<R: Read>(
     rt: &HostRuntime,
+    limit: usize,
     form: Form,
     reader: &mut R,
     output: &mut Output,
@@ -60,12 +62,13 @@ fn script<R: Read>(
     let buffered = BufWriter::with_capacity(rt.alloc(), BUFFER, output).map_err(|_| SimFault::from(
         AllocError,
     ))?;
-    let (_, served) = serve_buffered(rt.alloc(), form, reader, buffered);
+    let (_, served) = serve_buffered(rt.alloc(), limit, form, reader, buffered);
     served
 }
 
 fn race<R: Read>(
     rt: &HostRuntime,
+    limit: usize,
     page: bool,
     most: usize,
     reader: &mut R,
@@ -73,9 +76,9 @@ fn race<R: Read>(
 ) -> Result<(), RaceFault> {
     let visits = Visits::new(rt, "outcomes");
     if page {
-        serve_play(rt.alloc(), &visits, most, reader, output)
+        serve_play(rt.alloc(), &visits, limit, most, reader, output)
     } else {
-        serve_outcomes(rt.alloc(), &visits, most, reader, output)
+        serve_outcomes(rt.alloc(), &visits, limit, most, reader, output)
     }
 }
 
@@ -139,8 +142,10 @@ fn perform<T: Threads + Wait + Eprint + Sync, R: Read>(
 ) -> Result<(), RaceFault> {
     let alloc = place.rt.alloc();
     let served = match task {
-        Task::Race { page, most } => return race(place.rt, page, most, reader, output),
-        Task::Script(form) => script(place.rt, form, reader, output),
+        Task::Race { page, most } => {
+            return race(place.rt, place.limit, page, most, reader, output);
+        }
+        Task::Script(form) => script(place.rt, place.limit, form, reader, output),
         Task::Run {
             history,
             progress: true,
@@ -155,9 +160,14 @@ fn perform<T: Threads + Wait + Eprint + Sync, R: Read>(
 }
 
 /// The whole of a text: a history may have any length.
-fn read_text<R: Read>(alloc: Global, text: Text, reader: &mut R) -> Result<Vec<u8>, SimFault> {
+fn read_text<R: Read>(
+    alloc: Global,
+    limit: usize,
+    text: Text,
+    reader: &mut R,
+) -> Result<Vec<u8>, SimFault> {
     if text != Text::History {
-        return read_input(alloc, reader);
+        return read_input(alloc, limit, reader);
     }
     let mut input = Vec::new(alloc);
     match reader.read_to_end(&mut input) {
@@ -187,7 +197,7 @@ fn perform_kept<T: Threads + Wait + Eprint + Sync, R: Read>(
     output: &mut Output,
 ) -> Result<(), Failure> {
     let alloc = place.rt.alloc();
-    let input = read_text(alloc, text, reader)?;
+    let input = read_text(alloc, place.limit, text, reader)?;
     match perform(place, task, &mut input.as_slice(), output) {
         Ok(()) => Ok(()),
         Err(fault) => Err(Failure {

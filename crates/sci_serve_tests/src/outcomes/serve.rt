@@ -5,7 +5,7 @@ mod plays;
 use super::races::LOADED;
 use sci_outcomes::Unwatched;
 use sci_script::ScriptRefusal;
-use sci_serve::{RaceFault, SimFault, serve_outcomes};
+use sci_serve::{INPUT_LIMIT, RaceFault, SimFault, serve_outcomes};
 use std::alloc::Global;
 use std::io;
 use std::io::Write;
@@ -96,7 +96,7 @@ fn served(
         held: Vec::new(alloc),
         room,
     };
-    let result = serve_outcomes(alloc, &Unwatched, most, &mut input, &mut output);
+    let result = serve_outcomes(alloc, &Unwatched, INPUT_LIMIT, most, &mut input, &mut output);
     (output.held, result)
 }
 

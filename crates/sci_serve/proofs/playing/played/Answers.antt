@@ -8,20 +8,20 @@ use Rattle.sci_serve.proofs.playing.played.Goals as goal
 pub returns-in_err-script-clause-err : goal.returns-in_err-script-clause-err
 returns-in_err-script-clause-err g c =
     let p = err_from_is_err_and c.from_residual.result c.from_residual.ensures.1 in
-    rw (p.1, p.2) (stops_read (Plays c.args.most c.args.input.now) c.args.most c.in_err-script.field-0.0 c.args.input.now c.requires c.in_err-script.ensures)
+    rw (p.1, p.2) (stops_read (Plays c.args.limit c.args.most c.args.input.now) c.args.limit c.args.most c.in_err-script.field-0.0 c.args.input.now c.requires c.in_err-script.ensures)
 
 pub returns-in_err-race-clause-err : goal.returns-in_err-race-clause-err
 returns-in_err-race-clause-err g c =
     let script = c.in_ok-script.script in
     let p = err_from_is_err_and c.from_residual-in_err-race.result c.from_residual-in_err-race.ensures.1 in
     rw (p.1, p.2)
-    (stops_run (Plays c.args.most c.args.input.now) c.args.most c.in_err-race.field-0.0 c.args.input.now script.size script.capacity script.openings.items script.steps.items c.in_ok-script.ensures c.in_err-race.ensures.refused)
+    (stops_run (Plays c.args.limit c.args.most c.args.input.now) c.args.limit c.args.most c.in_err-race.field-0.0 c.args.input.now script.size script.capacity script.openings.items script.steps.items c.in_ok-script.ensures c.in_err-race.ensures.refused)
 
 pub returns-in_err-text-clause-err : goal.returns-in_err-text-clause-err
 returns-in_err-text-clause-err g c =
     let script = c.in_ok-script.script in
     let p = err_from_is_err_and c.from_residual-in_err-text.result c.from_residual-in_err-text.ensures.1 in
-    rw (p.1, p.2) (stops_search (Plays c.args.most c.args.input.now) c.args.most c.in_err-text.field-0.0 c.args.input.now c.in_ok-race.race
+    rw (p.1, p.2) (stops_search (Plays c.args.limit c.args.most c.args.input.now) c.args.limit c.args.most c.in_err-text.field-0.0 c.args.input.now c.in_ok-race.race
     (c.requires, script.size, script.capacity, script.openings.items, script.steps.items, c.in_ok-script.ensures, c.in_ok-race.ensures.race) c.in_err-text.ensures.refused)
 
 pub returns-in_err-page-clause-err : goal.returns-in_err-page-clause-err

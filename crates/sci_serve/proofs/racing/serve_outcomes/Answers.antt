@@ -11,14 +11,14 @@ pub returns-in_err-input-clause-err : goal.returns-in_err-input-clause-err
 returns-in_err-input-clause-err g c =
     let p = err_from_is_err_and c.from_residual.result c.from_residual.ensures.1 in
     rw (p.1, p.2)
-    (IfSome_then (g.R.Read.remaining c.args.reader.now) c.in_err-input.ensures.err (λ input h. ([], stops_input (Races c.args.most input) c.args.most c.in_err-input.field-0.0 input h, Appends-nil _)))
+    (IfSome_then (g.R.Read.remaining c.args.reader.now) c.in_err-input.ensures.err (λ input h. ([], stops_input (Races c.args.limit c.args.most input) c.args.limit c.args.most c.in_err-input.field-0.0 input h, Appends-nil _)))
 
 pub returns-in_err-text-clause-err : goal.returns-in_err-text-clause-err
 returns-in_err-text-clause-err g c =
     let p = err_from_is_err_and c.from_residual-in_err-text.result c.from_residual-in_err-text.ensures.1 in
     rw (p.1, p.2)
     (IfSome_then (g.R.Read.remaining c.args.reader.now) c.in_ok-input.ensures.read
-    (λ input e. ([], subst (λ (i : List ℕ). StopsRacing c.args.most c.in_err-text.field-0.0 i []) (c.deref.ensures.value ∙ e) c.in_err-text.ensures.err, Appends-nil _)))
+    (λ input e. ([], subst (λ (i : List ℕ). StopsRacing c.args.limit c.args.most c.in_err-text.field-0.0 i []) (c.deref.ensures.value ∙ e) c.in_err-text.ensures.err, Appends-nil _)))
 
 pub returns-in_err-text-clause-in_time : goal.returns-in_err-text-clause-in_time
 returns-in_err-text-clause-in_time g c =
@@ -31,7 +31,7 @@ returns-in-Ok-clause-ok g c =
     let text = string_bytes c.in_ok-text.text in
     let appended = subst (λ (t : List ℕ). Appends (contents c.args.writer.now) (contents c.put.new.out) t) c.as_bytes.ensures.value c.in-Ok.ensures.ok in
     IfSome_then (g.R.Read.remaining c.args.reader.now) c.in_ok-input.ensures.read
-    (λ input e. (text, subst (λ (i : List ℕ). Races c.args.most i text) (c.deref.ensures.value ∙ e) c.in_ok-text.ensures.ok, appended))
+    (λ input e. (text, subst (λ (i : List ℕ). Races c.args.limit c.args.most i text) (c.deref.ensures.value ∙ e) c.in_ok-text.ensures.ok, appended))
 
 pub returns-clause-err : goal.returns-clause-err
 returns-clause-err g c =
@@ -40,4 +40,4 @@ returns-clause-err g c =
     let Front = λ (t : List ℕ). (n : ℕ) × (n < length t) × Appends (contents c.args.writer.now) (contents c.put.new.out) (take n t) in
     let (n, less, appended) = subst Front c.as_bytes.ensures.value c.in-Err.ensures.err in
     IfSome_then (g.R.Read.remaining c.args.reader.now) c.in_ok-input.ensures.read
-    (λ input e. (take n text, (text, n, subst (λ (i : List ℕ). Races c.args.most i text) (c.deref.ensures.value ∙ e) c.in_ok-text.ensures.ok, less, refl), appended))
+    (λ input e. (take n text, (text, n, subst (λ (i : List ℕ). Races c.args.limit c.args.most i text) (c.deref.ensures.value ∙ e) c.in_ok-text.ensures.ok, less, refl), appended))

@@ -11,7 +11,7 @@ pub returns-in_err-input-clause-err : goal.returns-in_err-input-clause-err
 returns-in_err-input-clause-err g c =
     let p = err_from_is_err_and c.from_residual.result c.from_residual.ensures.1 in
     rw (p.1, p.2)
-    (IfSome_then (g.R.Read.remaining c.args.reader.now) c.in_err-input.ensures.err (λ input h. ([], stops_input c.args.form c.in_err-input.field-0.0 input h, Appends-nil _)))
+    (IfSome_then (g.R.Read.remaining c.args.reader.now) c.in_err-input.ensures.err (λ input h. ([], stops_input c.args.limit c.args.form c.in_err-input.field-0.0 input h, Appends-nil _)))
 
 pub returns-in_err-serve_input-clause-err : goal.returns-in_err-serve_input-clause-err
 returns-in_err-serve_input-clause-err g c =
@@ -20,10 +20,10 @@ returns-in_err-serve_input-clause-err g c =
     let (written, stops, appended) = c.in_err-serve_input.ensures.err in
     rw (p.1, p.2)
     (IfSome_then (g.R.Read.remaining c.args.reader.now) c.in_ok-input.ensures.read
-    (λ input is. (written, subst (λ (i : List ℕ). Stops c.args.form (fault_of e) i written) (c.deref.ensures.value ∙ is) stops, appended)))
+    (λ input is. (written, subst (λ (i : List ℕ). Stops c.args.limit c.args.form (fault_of e) i written) (c.deref.ensures.value ∙ is) stops, appended)))
 
 pub returns-clause-ok : goal.returns-clause-ok
 returns-clause-ok g c =
     let (text, served, appended) = c.in_ok-serve_input.ensures.ok in
     IfSome_then (g.R.Read.remaining c.args.reader.now) c.in_ok-input.ensures.read
-    (λ input e. (text, subst (λ (i : List ℕ). Serves c.args.form i text) (c.deref.ensures.value ∙ e) served, appended))
+    (λ input e. (text, subst (λ (i : List ℕ). Serves c.args.limit c.args.form i text) (c.deref.ensures.value ∙ e) served, appended))

@@ -13,6 +13,6 @@ returns-clause-err g c =
     err_then c.run.result _ _ c.run.ensures.err
     (λ e (written, fails, appended). (
       written,
-      stops_failing c.args.form e c.args.input.now written script.size script.capacity script.openings.items script.steps.items c.requires c.in_ok-script.ensures fails,
+      stops_failing c.args.limit c.args.form e c.args.input.now written script.size script.capacity script.openings.items script.steps.items c.requires c.in_ok-script.ensures fails,
       appended,
     ))

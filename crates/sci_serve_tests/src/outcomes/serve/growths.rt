@@ -3,7 +3,7 @@
 use super::LOAD;
 use sci_outcomes::Unwatched;
 use sci_script::ScriptRefusal;
-use sci_serve::{RaceFault, SimFault, serve_outcomes, serve_play};
+use sci_serve::{INPUT_LIMIT, RaceFault, SimFault, serve_outcomes, serve_play};
 use std::alloc::Global;
 use std::io::sink;
 use std::process::Abort;
@@ -11,7 +11,7 @@ use std::test::Fail;
 
 fn serves(alloc: Global) -> Result<(), RaceFault> {
     let mut input = LOAD.as_bytes();
-    serve_outcomes(alloc, &Unwatched, 5, &mut input, &mut sink())
+    serve_outcomes(alloc, &Unwatched, INPUT_LIMIT, 5, &mut input, &mut sink())
 }
 
 fn refuses(rt: &impl Abort, alloc: Global) -> Result<(), Fail> {
@@ -32,7 +32,7 @@ fn refused_growths(rt: HostRuntime) -> Result<(), Fail> {
 
 fn plays(alloc: Global) -> Result<(), RaceFault> {
     let mut input = LOAD.as_bytes();
-    serve_play(alloc, &Unwatched, 5, &mut input, &mut sink())
+    serve_play(alloc, &Unwatched, INPUT_LIMIT, 5, &mut input, &mut sink())
 }
 
 fn refuses_pages(rt: &impl Abort, alloc: Global) -> Result<(), Fail> {

@@ -4,7 +4,7 @@ use sci_outcomes::{SearchRefusal, Unwatched};
 use sci_play::play_text;
 use sci_races::race_after;
 use sci_script::read_script;
-use sci_serve::{RaceFault, serve_play};
+use sci_serve::{INPUT_LIMIT, RaceFault, serve_play};
 use std::alloc::Global;
 use std::io::sink;
 use std::test::Fail;
@@ -53,7 +53,7 @@ fn a_load_has_five_states(rt: HostRuntime) -> Result<(), Fail> {
 #[test]
 fn a_page_of_too_many_states_is_refused(rt: HostRuntime) -> Result<(), Fail> {
     let mut input = LOAD.as_bytes();
-    let result = serve_play(rt.alloc(), &Unwatched, 4, &mut input, &mut sink());
+    let result = serve_play(rt.alloc(), &Unwatched, INPUT_LIMIT, 4, &mut input, &mut sink());
     assert_eq!(rt; result.err(), Some(RaceFault::TooManyStates));
     Ok(())
 }
