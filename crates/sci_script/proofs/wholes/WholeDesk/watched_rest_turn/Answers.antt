@@ -1,4 +1,4 @@
-use Rattle.std.proofs.Common.{false, get_or, ◌≡◌, ◌≢◌, ◌<◌, ◌∙◌, ℕ, Some, true, refl, sym, ap, subst, set, length, List, All}
+use Rattle.std.proofs.Common.{false, get_or, ◌≡◌, ◌≢◌, ◌<◌, ◌∙◌, ℕ, Some, true, sym, ap, subst, set, length, List, All}
 use Rattle.sci_core.specs.declared.keeps.AnyWords.{AnyWords}
 use Rattle.sci_core.specs.Progress.{IsAtRest, IsMover}
 use Rattle.sci_core.specs.Whole.{WholeLine, nodes_of, state_of}
@@ -53,7 +53,7 @@ invariant_of-self-2 c =
       count = desk.count;
       of = desk.of;
       rests = rest_stirs desk.calm desk.bank.wholes.items after c.args.line (subst (λ (l : List (WholeLine AnyWords)). (m : ℕ) → m ≢ c.args.line → whole_of after m ≡ whole_of l m) lines c.watched_load_on.ensures.others) desk.rests
-        (subst (λ (i : ℕ). get_or desk.calm i false ≡ false) c.from-place.ensures c.if-self-place.false);
+          (subst (λ (i : ℕ). get_or desk.calm i false ≡ false) c.from-place.ensures c.if-self-place.false);
     }
 
 pub returns-clause-turned : goal.returns-clause-turned
