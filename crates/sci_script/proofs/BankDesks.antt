@@ -43,6 +43,9 @@ still_node lines k n m is same = (same.id ∙ is.0, same.lines ∙ is.1, same.ke
 pub node_read : (lines : ℕ) (nodes : List NodeState) → AreNodesOf lines nodes → (i : ℕ) (n : NodeState) → i < length nodes → n ≡ get_or nodes i n → IsNodeOf lines i n
 node_read lines nodes h i n lt found = subst (λ (k : NodeState). IsNodeOf lines i k) (sym found) (h i n lt)
 
+pub still_nodes : (lines : ℕ) (nodes : List NodeState) (i : ℕ) (n m : NodeState) → AreNodesOf lines nodes → i < length nodes → n ≡ get_or nodes i n → IsSameNode n m → AreNodesOf lines (set nodes i m)
+still_nodes lines nodes i n m h lt found same = nodes_set lines nodes i m h lt (still_node lines i n m (node_read lines nodes h i n lt found) same)
+
 pub node_found : {B : Type 0} (way : B → BankWay) (nodes_on : B → ℕ → ℕ) (fits : B → ℕ → List ℕ → Type 0) (s : Banked B) → IsBanked way nodes_on fits s → (i : ℕ) (n : NodeState) → i < s.size.nodes → n ≡ get_or s.nodes i n → IsNodeOf s.size.lines i n
 node_found way nodes_on fits s h i n lt found = node_read s.size.lines s.nodes h.nodes_are i n (omega (arith, h.count, lt)) found
 

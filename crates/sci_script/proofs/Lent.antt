@@ -15,7 +15,7 @@ use Rattle.sci_ops.proofs.Ending.Counting.{not_updated}
 use Rattle.sci_cache.specs.declared.calls.OpenCall.{OpenCall}
 use Rattle.sci_cache.specs.Nodes.{NodeState, TurnsBy, node_after, line_by, op_by}
 use Rattle.sci_cache.proofs.Through.{chain_keeps}
-use Rattle.sci_script.specs.Nodes.{whole_of}
+use Rattle.sci_script.specs.Nodes.{TurnsOverOf, whole_of}
 use Rattle.sci_script.specs.Resting.{any, LentOverOf, TakesLent, TakesLentOf}
 use Rattle.sci_script.specs.Shared.{Shared, HasNode, TakesTurnOf}
 use Rattle.sci_script.specs.Turns.{TurnsOn}
@@ -83,7 +83,12 @@ module _ (width : ℕ) (wholes after : List (WholeLine AnyWords)) (nodes : List 
         after = λ i. read_set nodes node i m no_node inside ∙ ap (λ (k : NodeState). update (λ j. get_or nodes j no_node) node k i) later;
       }
 
--- it is a turn of the desk, and changes no other node
+-- it is a turn over these lines, and of the desk, and changes no other node
+pub lent_turns : (wholes : List (WholeLine AnyWords)) (n : NodeState) (call : Option OpenCall) (shown : Turn) (after : List (WholeLine AnyWords)) (m : NodeState) → LentOverOf wholes n call shown after m
+    → TurnsOverOf wholes n call shown after m
+lent_turns wholes n None shown after m h = h
+lent_turns wholes n (Some c) shown after m h = record { turn = h.turn; made = h.made; others = h.others; shows = h.shows; node = h.node }
+
 pub lent_does : (s : Shared) (node : ℕ) (call : Option OpenCall) (shown : Turn) (t : Shared) → TakesLentOf s node call shown t → TakesTurnOf s node call shown t
 lent_does s node None shown t h = h
 lent_does s node (Some c) shown t h = record { turn = h.turn; width = h.width; made = h.made; others = h.others; shows = h.shows; after = h.after }

@@ -35,3 +35,4 @@ pub mod Printing
 pub mod Awaiting
 pub mod Once
 pub mod Named
+pub mod Stirring

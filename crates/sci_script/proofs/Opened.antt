@@ -1,17 +1,19 @@
 -- Lines that nobody has used and nodes that have used none, one after the other.
 use Rattle.std.proofs.Common.{◌≡◌, ℕ, ◌+◌, ◌<◌, ◌≤◌, false, List, [], ◌∷◌, ◌++◌, length, get_or, All, None, arith, refl, ap, sym, subst, ◌∙◌, inl, inr}
 use Rattle.std.proofs.lemmas.Bool.{cases_lt}
-use Rattle.std.proofs.lemmas.List.{get_or_append_left, get_or_push, length-replicate}
+use Rattle.std.proofs.lemmas.List.{get_or_append_left, get_or_push, get_or_past, length-replicate}
 use Rattle.sci_core.specs.declared.keeps.AnyWords.{AnyWords}
 use Rattle.sci_core.specs.declared.lines.Line.{Line}
-use Rattle.sci_core.specs.State.{invalid}
-use Rattle.sci_core.specs.Whole.{WholeLine, nodes_of, opened_whole}
+use Rattle.sci_core.specs.Progress.{IsAtRest}
+use Rattle.sci_core.specs.State.{State, invalid}
+use Rattle.sci_core.specs.Whole.{WholeLine, nodes_of, opened_whole, state_of}
+use Rattle.sci_core.proofs.States.{opened_state}
 use Rattle.sci_port.specs.Banks.{AreLinesOf}
 use Rattle.sci_cache.specs.Nodes.{NodeState, node_state}
 use Rattle.sci_script.specs.declared.commands.Opening.{Opening}
 use Rattle.sci_script.specs.Openings.{zeros, content_of}
-use Rattle.sci_script.specs.Nodes.{AreNodesOf}
-use Rattle.sci_script.specs.Unused.{AreOpened, AreIdle}
+use Rattle.sci_script.specs.Nodes.{AreNodesOf, whole_of}
+use Rattle.sci_script.specs.Unused.{AreOpened, AreIdle, no_line}
 
 its_keep : (w : WholeLine AnyWords) (keep : AnyWords) (k nodes : ℕ) (line : Line) → w ≡ opened_whole keep k nodes line → w ≡ opened_whole w.keep k nodes line
 its_keep w keep k nodes line e = subst (λ (a : AnyWords). w ≡ opened_whole a k nodes line) (sym (ap (λ (x : WholeLine AnyWords). x.keep) e)) e
@@ -36,6 +38,13 @@ pub opened_widths : (nodes : ℕ) (openings : List Opening) (wholes : List (Whol
 opened_widths nodes openings wholes n count opened = λ k d lt.
     let lt-n : k < n = omega (arith, count) in
     ap (λ (w : WholeLine AnyWords). nodes_of w) (opened k d lt-n) ∙ length-replicate nodes invalid
+
+pub opened_rest : (nodes : ℕ) (openings : List Opening) (wholes : List (WholeLine AnyWords)) (n : ℕ) → length wholes ≡ n → AreOpened nodes openings n wholes → (line : ℕ) → IsAtRest (state_of (whole_of wholes line))
+opened_rest nodes openings wholes n count opened = λ line i.
+    elim (cases_lt line n) [
+      | inl less ↦ ap (λ (w : WholeLine AnyWords). (state_of w).steps i) (opened line no_line less) ∙ ap (λ (s : State). s.steps i) (opened_state (whole_of wholes line).keep line nodes (content_of line zeros openings))
+      | inr more ↦ ap (λ (w : WholeLine AnyWords). (state_of w).steps i) (get_or_past wholes line no_line (omega (arith, more, count)))
+    ]
 
 -- and nodes that have used none
 pub idle_push : (lines capacity : ℕ) (nodes : List NodeState) (n : ℕ) (node : NodeState) → length nodes ≡ n → AreIdle lines capacity n nodes → node ≡ node_state n lines capacity false [] None

@@ -51,6 +51,10 @@ pub record SharedRests (m : ℕ) (s : Shared) (turns : ℕ) (t : Shared) : Type 
 abbrev pub AreAtRest : Shared → Type 0
 AreAtRest s = (line : ℕ) → IsAtRest (s.lines line)
 
+-- each line that is said to be calm is at rest
+pub record AreCalm (calm : List Bool) (wholes : List (WholeLine AnyWords)) : Type 0 where
+  pub each : (line : ℕ) → slice_index_or calm line false ≡ true → IsAtRest (state_of (whole_of wholes line))
+
 -- a turn of the node's call, as one of the operation at work on the line at work, which is lent to the node for the turn
 pub record TakesLent (s : Shared) (node : ℕ) (call : OpenCall) (shown : Turn) (t : Shared) : Type 0 where
   pub turn : Turn

@@ -7,7 +7,7 @@ ghost use Rattle.sci_script.specs.Resting.{ComeToRest, LentOverOf};
 
 use crate::commands::Size;
 use crate::desk::Desk;
-use crate::wholes::WholeDesk;
+use crate::wholes::{LINES, WholeDesk, stir};
 use sci_cache::Node;
 use sci_core::{AnyWords, Whole};
 use sci_ops::{Answer, Steps, Turn, rest};
@@ -63,13 +63,23 @@ impl WholeDesk {
         ensures bound { steps.new ≤ steps.old + self.size.lines * (self.size.nodes * self.size.nodes + 9 * self.size.nodes) }
         ensures size { result.size ≡ self.size }
     {
-        let WholeDesk { size, bank, nodes } = self;
+        let WholeDesk {
+            size,
+            bank,
+            nodes,
+            ..
+        } = self;
         let node = bank.node();
         let parts = bank.into_parts();
         let mut wholes = parts.0;
         rest_all(&mut wholes, size, steps);
         let bank = SoloBank::new(wholes, parts.1, node);
-        WholeDesk { size, bank, nodes }
+        WholeDesk {
+            size,
+            bank,
+            nodes,
+            calm: [true; LINES],
+        }
     }
 
     // One turn of the node's open call.
@@ -79,8 +89,10 @@ impl WholeDesk {
         ensures lent { TakesLentOf (shared_of self.old) node ((shared_of self.old).nodes node).call result (shared_of self.new) }
         ensures size { self.new.size ≡ self.old.size }
     {
+        let place = usize::from(node.get());
         self.bank.seat(node);
-        lent_turn_on(&mut self.bank, &mut self.nodes[usize::from(node.get())])
+        stir(&mut self.calm, &self.nodes[place]);
+        lent_turn_on(&mut self.bank, &mut self.nodes[place])
     }
 
     // Takes the node's open call to its end.

@@ -13,7 +13,7 @@ ghost use Rattle.sci_script.specs.Resting.{any};
 ghost use Rattle.sci_script.specs.Turns.{TurnsOn};
 
 use crate::desk::Toward;
-use crate::wholes::WholeDesk;
+use crate::wholes::{WholeDesk, stir};
 use sci_cache::{Node, turn_at};
 use sci_core::{AnyWords, Event, Line, Outcome, Pending, Stage};
 use sci_ops::{Goal, Turn};
@@ -269,12 +269,10 @@ impl WholeDesk {
         ensures open { IsNoEnd result → shared_is_open (shared_of self.new) node ≡ true }
         ensures size { self.new.size ≡ self.old.size }
     {
+        let place = usize::from(node.get());
         self.bank.seat(node);
-        watched_turn_on(
-            &mut self.bank,
-            &mut self.nodes[usize::from(node.get())],
-            passed,
-        )
+        stir(&mut self.calm, &self.nodes[place]);
+        watched_turn_on(&mut self.bank, &mut self.nodes[place], passed)
     }
 
     /// One turn towards rest, as `rest_turn`, and what passed in it.
@@ -287,7 +285,12 @@ impl WholeDesk {
         ensures nearer { IsTurned result → shared_far (shared_of self.new) line < shared_far (shared_of self.old) line }
         ensures size { self.new.size ≡ self.old.size }
     {
+        let place = usize::from(line);
+        if self.calm[place] {
+            return Toward::Reached;
+        }
         let Some(node) = self.bank.whole(line).mover() else {
+            self.calm[place] = true;
             return Toward::Reached;
         };
         self.bank.seat(node);

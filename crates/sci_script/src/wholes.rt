@@ -1,8 +1,9 @@
 //! A desk of whole lines.
-ghost use Rattle.std.specs.Prelude.{◌≡◌, ◌<◌, ℕ, true, length, is_some, vec_len, All, IfOk, IfSome};
+ghost use Rattle.std.specs.Prelude.{◌≡◌, ◌<◌, ◌≤◌, ℕ, true, false, length, is_some, slice_set, vec_len, All, IfOk, IfSome};
 ghost use Rattle.sci_core.specs.Whole.{nodes_of};
 ghost use Rattle.sci_cache.specs.Nodes.{IsSameNode, line_by};
 ghost use Rattle.sci_script.specs.Nodes.{AreNodesOf, TurnsOverOf, whole_of};
+ghost use Rattle.sci_script.specs.Resting.{AreCalm};
 ghost use Rattle.sci_script.specs.Unused.{AreOpened};
 
 use crate::commands::{Script, Size};
@@ -16,16 +17,22 @@ use sci_port::{Bank, Receipts, SoloBank};
 use sci_words::{LineNo, Mem, NodeId, Tag};
 use std::alloc::{AllocError, Global};
 
+/// How many lines a memory has at the most.
+pub(crate) const LINES: usize = 1024;
+
 /// A `Whole` for each line, in a bank that each turn's node is seated at, and the nodes. A word of it is always to be had.
 #[derive(Drop)]
 pub struct WholeDesk {
     pub(crate) size: Size,
     pub(crate) bank: SoloBank<AnyWords>,
     pub(crate) nodes: Vec<Node>,
+    // Which lines were found at rest, and no turn has worked on since: bringing these to rest costs nothing.
+    pub(crate) calm: [bool; LINES],
     ghost lines: { length bank.wholes.items ≡ size.lines },
     ghost widths: { All (λ w. nodes_of w ≡ size.nodes) bank.wholes.items },
     ghost count: { vec_len nodes ≡ size.nodes },
     ghost of: { AreNodesOf size.lines nodes.items },
+    ghost rests: { AreCalm calm bank.wholes.items },
 }
 
 /// The lines of a script with what they open with, which nobody has used.
@@ -43,6 +50,17 @@ pub(crate) fn unused(alloc: Global, script: &Script) -> Result<Vec<Whole<AnyWord
         }
     }
     Ok(wholes)
+}
+
+/// The next turn of the node's call may stir the line that it works on.
+#[inline(always)]
+pub(crate) fn stir(calm: &mut [bool; LINES], node: &Node)
+    requires { node.now.lines ≤ 1024 }
+    ensures { IfSome node.now.call (λ c. calm.new ≡ slice_set calm.old (line_by c.victim c.line) false) }
+{
+    if let Some(call) = node.open_call() {
+        calm[usize::from(call.victim.unwrap_or(call.line))] = false;
+    }
 }
 
 /// One turn of the node's call, over the bank that it is seated at.
@@ -78,7 +96,12 @@ impl WholeDesk {
         let wholes = unused(alloc, script)?;
         let receipts = Receipts::of_lines(alloc, usize::from(size.lines))?;
         let bank = SoloBank::new(wholes, receipts, nodes[0].id());
-        Ok(WholeDesk { size, bank, nodes })
+        Ok(WholeDesk {
+            size,
+            bank,
+            nodes,
+            calm: [true; LINES],
+        })
     }
 
     /// How many nodes and lines there are.
@@ -134,8 +157,10 @@ impl Desk for WholeDesk {
 
     #[inline(always)]
     fn turn(&mut self, node: NodeId) -> Turn {
+        let place = usize::from(node.get());
         self.bank.seat(node);
-        turn_on(&mut self.bank, &mut self.nodes[usize::from(node.get())])
+        stir(&mut self.calm, &self.nodes[place]);
+        turn_on(&mut self.bank, &mut self.nodes[place])
     }
 
     fn waits_on(&self) -> bool {

@@ -1,9 +1,11 @@
 use Rattle.std.proofs.Common.{◌≡◌, ◌∙◌, All, length, arith, ap, refl, sym, subst}
-use Rattle.sci_core.specs.Whole.{nodes_of}
+use Rattle.sci_core.specs.Progress.{IsAtRest}
+use Rattle.sci_core.specs.Whole.{nodes_of, state_of}
 use Rattle.sci_cache.specs.Nodes.{NodeState}
+use Rattle.sci_script.specs.Nodes.{whole_of}
 use Rattle.sci_script.specs.Unused.{AreOpened}
 use Rattle.sci_script.proofs.Desks.{opens}
-use Rattle.sci_script.proofs.Opened.{are_lines, idle_nodes, opened_widths}
+use Rattle.sci_script.proofs.Opened.{are_lines, idle_nodes, opened_rest, opened_widths}
 use Rattle.sci_script.proofs.wholes.WholeDesk.open.Goals as goal
 
 pub new-bank-requires : goal.new-bank-requires
@@ -31,6 +33,10 @@ invariant_of-result c =
       widths = subst (λ v. All (λ w. nodes_of w ≡ size.nodes) v.items) same (opened_widths size.nodes script.openings.items wholes size.lines c.in_ok-wholes.ensures.count c.in_ok-wholes.ensures.opened);
       count = c.in_ok-nodes.nodes.ok.0 ∙ c.in_ok-nodes.ensures.count;
       of = idle_nodes size.lines script.capacity size.nodes c.in_ok-nodes.nodes.items c.in_ok-nodes.ensures.count c.in_ok-nodes.ensures.idle;
+      rests = record {
+        each = λ line on.
+            subst (λ v. IsAtRest (state_of (whole_of v.items line))) same (opened_rest size.nodes script.openings.items wholes size.lines c.in_ok-wholes.ensures.count c.in_ok-wholes.ensures.opened line);
+      };
     }
 
 pub returns-clause-size : goal.returns-clause-size

@@ -40,6 +40,11 @@ invariant_of-result g c =
       widths = subst (λ v. All (λ w. nodes_of w ≡ desk.size.nodes) v.items) same (widths_stay c.into_parts-parts.result.0.items c.rest_all.new.wholes.items (c.rest_all.ensures.lines ∙ sym lines) c.rest_all.ensures.same desk.size.nodes wide);
       count = desk.count;
       of = desk.of;
+      rests = record {
+        each = λ line on.
+            subst (λ v. IsAtRest (state_of (whole_of v.items line))) same
+            (all_at_rest desk.size.nodes desk.size.lines c.into_parts-parts.result.0.items c.rest_all.new.wholes.items c.rest_all.ensures.rested.0 c.rest_all.ensures.lines c.rest_all.ensures.rested.2 line);
+      };
     }
 
 pub returns-clause-rested : goal.returns-clause-rested

@@ -1,18 +1,19 @@
-use Rattle.std.proofs.Common.{◌≡◌, ◌≢◌, ◌<◌, ◌∙◌, ℕ, Some, refl, sym, ap, subst, length, List, All}
+use Rattle.std.proofs.Common.{false, get_or, ◌≡◌, ◌≢◌, ◌<◌, ◌∙◌, ℕ, Some, true, sym, ap, subst, set, length, List, All}
 use Rattle.sci_core.specs.declared.keeps.AnyWords.{AnyWords}
-use Rattle.sci_core.specs.Progress.{IsMover}
+use Rattle.sci_core.specs.Progress.{IsAtRest, IsMover}
 use Rattle.sci_core.specs.Whole.{WholeLine, nodes_of, state_of}
 use Rattle.sci_ops.specs.declared.goals.Goal.{Goal}
 use Rattle.sci_ops.specs.Alone.{TakesTurn}
 use Rattle.sci_ops.specs.Table.{begun}
 use Rattle.sci_script.specs.Nodes.{load_on, loader, whole_of}
 use Rattle.sci_script.specs.Passed.{PassesOn}
-use Rattle.sci_script.specs.Resting.{any}
+use Rattle.sci_script.specs.Resting.{AreCalm, any}
 use Rattle.sci_script.specs.Turns.{TurnsOn}
 use Rattle.sci_script.specs.Unused.{no_line}
 use Rattle.sci_script.proofs.Calming.{takes_rest, rest_falls}
 use Rattle.sci_script.proofs.PassedLines.{passed_line}
 use Rattle.sci_script.proofs.RestedLines.{stay_wide}
+use Rattle.sci_script.proofs.Stirring.{calms, rest_stirs}
 use Rattle.sci_script.proofs.wholes.WholeDesk.watched_rest_turn.Goals as goal
 
 pub seat-requires : goal.seat-requires
@@ -30,8 +31,17 @@ seat-requires c =
       each = λ l d lt. record { number = (desk.bank.of.each l d lt).number; fact = (desk.bank.of.each l d lt).fact; below = subst (λ (n : ℕ). me < n) (sym (desk.widths l d lt)) below };
     }
 
-pub invariant_of-self : goal.invariant_of-self
-invariant_of-self c =
+pub invariant_of-self-clause-rests : goal.invariant_of-self-clause-rests
+invariant_of-self-clause-rests c =
+    let desk = c.args.self.now in
+    let wholes = desk.bank.wholes.items in
+    let line = c.args.line in
+    let whole : c.whole.result.now ≡ whole_of wholes line = c.whole.ensures no_line in
+    let rest = subst (λ (x : WholeLine AnyWords). IsAtRest (state_of x)) whole c.in_default.ensures.mover in
+    subst (λ (i : ℕ). AreCalm (set desk.calm i true) wholes) (sym c.from-place.ensures) (calms desk.calm wholes line rest desk.rests)
+
+pub invariant_of-self-2 : goal.invariant_of-self-2
+invariant_of-self-2 c =
     let desk = c.args.self.now in
     let wholes = c.seat.new.self.wholes.items in
     let after = c.watched_load_on.new.bank.wholes.items in
@@ -42,6 +52,8 @@ invariant_of-self c =
       widths = stay_wide desk.size.nodes wholes after c.watched_load_on.ensures.same_lines c.watched_load_on.ensures.same_widths wide;
       count = desk.count;
       of = desk.of;
+      rests = rest_stirs desk.calm desk.bank.wholes.items after c.args.line (subst (λ (l : List (WholeLine AnyWords)). (m : ℕ) → m ≢ c.args.line → whole_of after m ≡ whole_of l m) lines c.watched_load_on.ensures.others) desk.rests
+          (subst (λ (i : ℕ). get_or desk.calm i false ≡ false) c.from-place.ensures c.if-self-place.false);
     }
 
 pub returns-clause-turned : goal.returns-clause-turned
