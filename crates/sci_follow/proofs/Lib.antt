@@ -3,3 +3,4 @@ pub mod Running
 pub mod Standing
 pub mod Names
 pub mod Cutting
+pub mod Lacking
