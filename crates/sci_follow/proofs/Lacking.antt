@@ -102,9 +102,13 @@ unread : {A B : Type 0} (read : Option A) (f : A → B) → (read >>= λ x. Some
 unread (Some x) f none = absurd (let no = none in cc)
 unread None f none = refl
 
+-- a value's, and those of so many behind it
+abbrev later_values : ℕ → ℕ × List ℕ → Option (List ℕ × List ℕ)
+later_values k value = values_at k value.1 >>= λ values. Some (value.0 ∷ values.0, values.1)
+
 -- where values stop there is none
 value_stops : (k : ℕ) → ((text : List ℕ) → values_at k text ≡ None → value_lack (values_end k text) ≡ None → ⊥) → (text : List ℕ) (read : Option (ℕ × List ℕ)) → value_at text ≡ read
-    → (read >>= λ value. values_at k value.1 >>= λ values. Some (value.0 ∷ values.0, values.1)) ≡ None → value_lack (past_value read (values_end k) text) ≡ None → ⊥
+    → (read >>= later_values k) ≡ None → value_lack (past_value read (values_end k) text) ≡ None → ⊥
 value_stops k before text (Some value) is none lack = before value.1 (unread (values_at k value.1) (λ values. (value.0 ∷ values.0, values.1)) none) lack
 value_stops k before text None is none lack =
     let (value, there) = value_there text lack in
@@ -262,10 +266,10 @@ from_other nodes text some h =
 
 from_own : (nodes : ℕ) (text : List ℕ) → other_asks_at text ≡ None → Passes (own_asks_at text) (λ x. tag_lack x.1) → IsTold nodes text
 unfolding told_at other_tag_at own_tag_at
-from_own nodes text no h =
+from_own nodes text gone h =
     let (asks, is, more) = h in
     let (found, reads) = tag_there asks.1 more in
-    ((Told.On asks.0 None found.0, found.1), rw no (rw is (rw reads refl)), refl)
+    ((Told.On asks.0 None found.0, found.1), rw gone (rw is (rw reads refl)), refl)
 
 from_whole : (nodes : ℕ) (text : List ℕ) → other_asks_at text ≡ None → own_asks_at text ≡ None → There (event_at text) → IsTold nodes text
 unfolding told_at other_tag_at own_tag_at whole_event_at
@@ -274,9 +278,9 @@ from_whole nodes text other own h =
     ((Told.Event event.0, event.1), rw other (rw own (rw is refl)), refl)
 
 no_other : (nodes : ℕ) (text : List ℕ) → other_asks_at text ≡ None → onward (own_asks_at text) (λ x. tag_lack x.1) (listed_lack text) ≡ None → IsTold nodes text
-no_other nodes text no none = elim (passed (own_asks_at text) (λ x. tag_lack x.1) (listed_lack text) none) [
-  | inl h ↦ from_own nodes text no h
-  | inr h ↦ from_whole nodes text no h.0 (listed_there text h.1)
+no_other nodes text gone none = elim (passed (own_asks_at text) (λ x. tag_lack x.1) (listed_lack text) none) [
+  | inl h ↦ from_own nodes text gone h
+  | inr h ↦ from_whole nodes text gone h.0 (listed_there text h.1)
 ]
 
 event_there : (nodes : ℕ) (text : List ℕ) → 1 ≤ nodes → event_lack nodes text ≡ None → IsTold nodes text
@@ -292,13 +296,13 @@ IsEnded nodes text = (told : Told × List ℕ) × (claim : Claim) × (told_at te
 
 told_ended : (nodes : ℕ) (text : List ℕ) (told : Told × List ℕ) → 1 ≤ nodes → told_at text ≡ Some told → (if is_told_in nodes told.0 then claim_lack told.0 told.1 else event_lack nodes text) ≡ None → IsEnded nodes text
 told_ended nodes text told some is none = elim (cases_Bool (is_told_in nodes told.0)) [
-  | inl yes ↦
-      let (claim, reads, enough) = claim_there told.0 told.1 (rw yes at none) in
-      (told, claim, is, yes, reads, enough)
-  | inr no ↦
-      let (other, reads, inside) = event_there nodes text some (rw no at none) in
+  | inl there ↦
+      let (claim, reads, enough) = claim_there told.0 told.1 (rw there at none) in
+      (told, claim, is, there, reads, enough)
+  | inr gone ↦
+      let (other, reads, inside) = event_there nodes text some (rw gone at none) in
       let same : told ≡ other = some_of told other (sym is ∙ reads) in
-      let both : false ≡ true = sym no ∙ ap (λ (t : Told × List ℕ). is_told_in nodes t.0) same ∙ inside in
+      let both : false ≡ true = sym gone ∙ ap (λ (t : Told × List ℕ). is_told_in nodes t.0) same ∙ inside in
       absurd (let no = both in cc)
 ]
 
@@ -437,8 +441,8 @@ fed_other false n text log e h none = read_other n text log e h none
 
 -- where something lacks, that is told
 lacking : (text : List ℕ) (lack : Lack) (why : Option LineReason) → why ≡ told_of text lack → (lack ≡ None → ⊥) → (l : Part × List ℕ) × (lack ≡ Some l) × (why ≡ Some (reason_at text l))
-lacking text (Some l) why is no = (l, refl, is)
-lacking text None why is no = absurd (no refl)
+lacking text (Some l) why is there = (l, refl, is)
+lacking text None why is there = absurd (there refl)
 
 tells : (due : Due) (text : List ℕ) (e : LogFault) (why : Option LineReason) → WouldTell e due text why → (line_lack due text ≡ None → IsOther e) → IsWhy e due text why
 tells due text (LogFault.BadLine k) why is other = lacking text (line_lack due text) why is other

@@ -4,3 +4,4 @@ pub mod Standing
 pub mod Names
 pub mod Cutting
 pub mod Lacking
+pub mod Values

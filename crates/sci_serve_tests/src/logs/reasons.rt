@@ -43,7 +43,7 @@ fn rows() -> [Row; 9] {
         (
             "memory 2 1\nnode 0 line 0 Look Done\r",
             bad(2),
-            at(24, Part::End),
+            at(24, Part::Value),
         ),
         (
             "memory 2 1\nnode 0 line 0 Settle Done\n",
