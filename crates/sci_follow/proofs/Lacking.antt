@@ -1,5 +1,5 @@
 -- Where no part of a line of a log lacks, it is a line of the log.
-use Rattle.std.proofs.Common.{◌≡◌, ◌⊎◌, ℕ, zero, suc, ◌+◌, ◌-◌, ◌<◌, ◌≤◌, Bool, true, false, not, ◌&&◌, List, [], ◌∷◌, length, Option, Some, None, Result, Ok, Err, refl, sym, ap, subst, ◌∙◌, arith, inl, inr, codes, leb-true, ltb-true, lt-ltb, le-leb, if◌then◌else◌}
+use Rattle.std.proofs.Common.{◌≡◌, ◌⊎◌, ℕ, zero, suc, ◌-◌, ◌<◌, ◌≤◌, Bool, true, false, ◌&&◌, List, [], ◌∷◌, Option, Some, None, Err, refl, sym, ap, subst, ◌∙◌, arith, inl, inr, codes, leb-true, lt-ltb, if◌then◌else◌}
 use Rattle.std.specs.Prelude.{nat_le, nat_lt}
 use Rattle.std.proofs.lemmas.Bool.{cases_Bool, and_parts, and_from}
 use Rattle.sci_core.specs.declared.events.Event.{Event}
@@ -24,7 +24,7 @@ use Rattle.sci_follow.specs.declared.why.Due.{Due}
 use Rattle.sci_follow.specs.LineText.{acting_at, answered_at, bare_event_at, busy_at, claim_at, closed_link_at, closed_tag_at, done_at, either, ended_at, event_at, first_of, found_at, is_ended, is_told_enough, line_at, link_at, memory_at, missed_at, node_at, noted_at, on_line_at, on_other_at, opening_at, other_asks_at, other_tag_at, own_asks_at, own_tag_at, placed_at, queue_at, requeue_at, spaced_node_at, told_at, whole_event_at, written_at, written_words_at}
 use Rattle.sci_follow.specs.Logs.{Begins, Continues, Ends, Feeds, FeedsBy, Notes, Opens, Reads}
 use Rattle.sci_follow.specs.Reasons.{IsWhy, Lack, WouldTell, bracket_lack, claim_lack, content_lack, due_of, end_lack, ended_lack, entry_lack, event_lack, line_lack, lines_lack, link_lack, listed_lack, memory_lack, missed_lack, onward, opening_lack, other_lack, outcome_lack, past_value, placed_lack, reason_at, tag_lack, told_of, value_lack, values_end, wants, wants_values, within_at, words_lack}
-use Rattle.sci_follow.specs.Told.{IsNotedIn, is_noted_in, is_told_in}
+use Rattle.sci_follow.specs.Told.{IsNotedIn, is_told_in}
 
 -- a reading gives a value
 abbrev There : {A : Type 0} → Option A → Type 0

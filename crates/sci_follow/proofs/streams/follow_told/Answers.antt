@@ -1,4 +1,4 @@
-use Rattle.std.proofs.Common.{rules, ◌≡◌, ◌<◌, ◌∙◌, ◌++◌, [], ℕ, List, IfSome, Ok, Err, length, arith, ap, subst}
+use Rattle.std.proofs.Common.{rules, ◌≡◌, ◌<◌, ◌∙◌, ◌++◌, ℕ, List, IfSome, Ok, Err, length, arith, ap, subst}
 use Rattle.std.specs.Io.BufRead.{take_through}
 use Rattle.std.specs.Io.KnownBytes.{IsAtEnd}
 use Rattle.sci_follow.specs.declared.why.Due.{Due}
