@@ -122,7 +122,6 @@ CASES = [
     *[([*run, "--why"], given, 1, "", refused("22") + why + "\n") for given, why in SETTINGS for run in (["run"], ["run", "--history"])],
     *[(["check", "--why"], given, 1, "", refused(f"21 at line {line}") + why + "\n") for given, line, why in ROWS],
     *[(["check", "--why"], given, 1, "", refused(rest) + why + "\n") for given, rest, why in LOGS],
-    (["check", "--why"], "memory 1 1\nnode 0 line 0 Unhold Done\n", 3, "line 2: not in turn\n", ""),
     (["script", "--why"], ROW, 0, TEXT, ""),
     (["script", "--why", "row"], "", 0, TEXT, ""),
     (["script", "bad", "--why"], "", 1, "", refused("17 at line 1") + "word 2: a number from 1 to 1024 wanted\n"),
