@@ -66,6 +66,37 @@ ROWS = [
     ("scihistory 2 1 1\n", 1, "word 2: 1 wanted"),
     ("scihistory 1 1 1\nclosed 0\n", 2, "line 0 wanted"),
 ]
+# A log, the number and line of its refusal, and the reason.
+LOGS = [
+    ("memory\n", "16 at line 1", "column 1: memory NODES LINES wanted"),
+    ("memory 0 3\n", "17 at line 1", "column 8: a number from 1 to 1024 wanted"),
+    ("memory 4 1025\n", "17 at line 1", "column 10: a number from 1 to 1024 wanted"),
+    ("memory 4\n", "16 at line 1", "column 9: a space wanted"),
+    ("memory 04 3\n", "16 at line 1", "column 8: a number from 1 to 1024 wanted"),
+    ("memory 4 3 5\n", "16 at line 1", "column 11: the end of the line wanted"),
+    ("memory 4 3\n# a comment\n\nlode\n", "16 at line 4", "column 1: open L or node N wanted"),
+    ("memory 4 3\nnode 0 line 0 Look Done\nopen 0 0 0 0 0 0 0 0 0 0\n", "16 at line 3", "column 1: node N wanted"),
+    ("memory 4 3\nopen 3 0 0 0 0 0 0 0 0 0\n", "17 at line 2", "column 6: a number from 0 to 2 wanted"),
+    ("memory 4 3\nopen 0 0 0 0 0 0 0 0 0\n", "16 at line 2", "column 23: a space and a number wanted"),
+    ("memory 4 3\nnode 4 line 0 Look Done\n", "17 at line 2", "column 6: a number from 0 to 3 wanted"),
+    ("memory 4 3\nnode 0 line 3 Look Done\n", "17 at line 2", "column 13: a number from 0 to 2 wanted"),
+    ("memory 4 3\nnode 0line 0 Look Done\n", "16 at line 2", "column 7: a space and line L wanted"),
+    ("memory 4 3\nnode 0 line 0\n", "16 at line 2", "column 14: a space wanted"),
+    ("memory 4 3\nnode 0 line 0 Loop Done\n", "16 at line 2", "column 15: an event wanted"),
+    ("memory 4 3\nnode 0 line 0 Löok Done\n", "16 at line 2", "column 15: an event wanted"),
+    ("memory 4 3\nnode 0 line 0 AttachFresh(4 ONLY_FRESH) Done\n", "17 at line 2", "column 27: a number from 0 to 3 wanted"),
+    ("memory 4 3\nnode 0 line 0 AttachFresh(1 FRESH) Done\n", "16 at line 2", "column 29: a tag wanted"),
+    ("memory 4 3\nnode 0 line 0 AttachFresh(1) Done\n", "16 at line 2", "column 28: a space wanted"),
+    ("memory 4 3\nnode 0 line 0 Hold(ONLY_FRESH Done\n", "16 at line 2", "column 30: ) and a space wanted"),
+    ("memory 4 3\nnode 0 line 0 Hold(ONLY_FRESH) Missed 0000000000000000\n", "16 at line 2", "column 32: Done or Busy, or a tag in 16 digits before it, wanted"),
+    ("memory 4 3\nnode 0 line 0 Queue(x) Done\n", "16 at line 2", "column 21: a node or none wanted"),
+    ("memory 4 3\nnode 0 line 0 Requeue(none Done\n", "16 at line 2", "column 27: ) and a space wanted"),
+    ("memory 4 3\nnode 0 line 0 Written(words 1 2 3) Done\n", "16 at line 2", "column 34: a space and a number wanted"),
+    ("memory 4 3\nnode 0 line 0 Look done\n", "16 at line 2", "column 20: Done, Missed WORD or Busy wanted"),
+    ("memory 4 3\nnode 0 line 0 Look Done 1 2 3 4 x 6 7 8 9\n", "16 at line 2", "column 33: a number from 0 to 18446744073709551615 wanted"),
+    ("memory 4 3\nnode 0 line 0 Look Missed 12\n", "16 at line 2", "column 27: 16 hexadecimal digits in lower case wanted"),
+    ("memory 4 3\nnode 0 line 0 Look Busy \n", "16 at line 2", "column 24: the end of the line wanted"),
+]
 
 ONE, ONE_TEXT = "memory 1 1\nload 0 0 0\nload 0 0 0\n", "16 at line 3"
 OPEN = refused(ONE_TEXT) + "node 0 has a call open\n"
@@ -90,8 +121,7 @@ CASES = [
     *[(["outcomes", "--page", "--why"], script, 1, "", refused(rest) + why + "\n") for script, rest, why, _ in REASONS],
     *[([*run, "--why"], given, 1, "", refused("22") + why + "\n") for given, why in SETTINGS for run in (["run"], ["run", "--history"])],
     *[(["check", "--why"], given, 1, "", refused(f"21 at line {line}") + why + "\n") for given, line, why in ROWS],
-    # A log streams, and gives no reason.
-    (["check", "--why"], "memory 1 1\nlode\n", 1, "", refused("16 at line 2")),
+    *[(["check", "--why"], given, 1, "", refused(rest) + why + "\n") for given, rest, why in LOGS],
     (["script", "--why"], ROW, 0, TEXT, ""),
     (["script", "--why", "row"], "", 0, TEXT, ""),
     (["script", "bad", "--why"], "", 1, "", refused("17 at line 1") + "word 2: a number from 1 to 1024 wanted\n"),

@@ -1,12 +1,16 @@
 -- A text's lines one after another, each fed to a log.
-use Rattle.std.proofs.Common.{◌≡◌, ◌∙◌, ℕ, ◌+◌, ◌<◌, List, [], ◌∷◌, ◌++◌, length, Option, Some, None, IfSome, Result, Ok, Err, OnOk, IfErr, refl, sym, ap, subst, arith, length-append, inl, inr}
+use Rattle.std.proofs.Common.{◌≡◌, ℕ, ◌+◌, ◌<◌, List, [], ◌∷◌, ◌++◌, length, Option, Some, None, IfSome, Result, Ok, Err, OnOk, IfErr, refl, sym, ap, subst, arith, length-append, inl, inr}
+use Rattle.std.proofs.lemmas.Option.{IfSome_then}
 use Rattle.std.specs.Io.BufRead.{take_through, drop_through, DropsThrough}
 use Rattle.std.specs.Io.KnownBytes.{IsAtEnd}
 use Rattle.std.proofs.BufReadLemmas.{take_through_nonempty}
 use Rattle.sci_follow.specs.declared.logs.Log.{Log}
 use Rattle.sci_follow.specs.declared.logs.LogFault.{LogFault}
+use Rattle.sci_follow.specs.declared.parts.LineReason.{LineReason}
 use Rattle.sci_follow.specs.Logs.{Feeds, Ends}
-use Rattle.sci_follow.specs.Streams.{Cuts, FeedsTo, Reaches, FollowsAll, FaultsWith, StopsWith, without_end}
+use Rattle.sci_follow.specs.Reasons.{EndsWhy, FaultsWhy, IsWhy, StopsWhy, WouldTell, due_of}
+use Rattle.sci_follow.specs.Streams.{Cuts, FeedsTo, Reaches, FollowsAll, StopsWith, without_end}
+use Rattle.sci_follow.proofs.Lacking.{fed_tells}
 
 cuts_more : (lines : List (List ℕ)) (text rest : List ℕ) → Cuts lines text rest → 0 < length rest → Cuts (lines ++ take_through 10 rest ∷ []) text (drop_through 10 rest)
 cuts_more [] text rest e some = (subst (λ (x : List ℕ). 0 < length x) e some, ap (λ (x : List ℕ). take_through 10 x) e, ap (λ (x : List ℕ). drop_through 10 x) e)
@@ -54,32 +58,45 @@ stands_next (Some input) b c log next n line h took drops some fed =
       omega (arith, count, length-append lines (take_through 10 rest ∷ [])),
     )
 
-of_fault : (e : LogFault) (input : List ℕ) → FaultsWith e input → StopsWith e input
-of_fault LogFault.OutOfMemory input h = tt
-of_fault (LogFault.BadLine n) input h = h
-of_fault (LogFault.BadNumber n) input h = h
-of_fault (LogFault.Departs n why) input h = h
-of_fault LogFault.CannotRead input h = tt
+of_fault : (e : LogFault) (why : Option LineReason) (input : List ℕ) → FaultsWhy e why input → StopsWhy e why input
+of_fault LogFault.OutOfMemory why input h = let (lines, log, rest, reached, here, told) = h in told
+of_fault (LogFault.BadLine n) why input h = h
+of_fault (LogFault.BadNumber n) why input h = h
+of_fault (LogFault.Departs n d) why input h = h
+of_fault LogFault.CannotRead why input h = let (lines, log, rest, reached, here, told) = h in told
 
-pub stops_here : (a b : Option (List ℕ)) (log : Log) (e : LogFault) (n : ℕ) (line : List ℕ) → Stands a b log n → IfSome b (λ xs. line ≡ take_through 10 xs) → 0 < length line
-    → Feeds n (without_end line) log (Err e) → IfSome a (λ input. StopsWith e input)
-stops_here None b log e n line h took some fed = tt
-stops_here (Some input) b log e n line h took some fed =
+untold : (e : LogFault) (why : Option LineReason) (input : List ℕ) → StopsWhy e why input → StopsWith e input
+untold LogFault.OutOfMemory why input h = tt
+untold (LogFault.BadLine n) why input h = let (lines, log, rest, reached, here, told) = h in (lines, log, rest, reached, here)
+untold (LogFault.BadNumber n) why input h = let (lines, log, rest, reached, here, told) = h in (lines, log, rest, reached, here)
+untold (LogFault.Departs n d) why input h = let (lines, log, rest, reached, here, told) = h in (lines, log, rest, reached, here)
+untold LogFault.CannotRead why input h = tt
+
+pub without_why : (a : Option (List ℕ)) (e : LogFault) (why : Option LineReason) → IfSome a (StopsWhy e why) → IfSome a (StopsWith e)
+without_why a e why h = IfSome_then a h (untold e why)
+
+pub stops_here : (a b : Option (List ℕ)) (log : Log) (e : LogFault) (why : Option LineReason) (n : ℕ) (line : List ℕ) → Stands a b log n → IfSome b (λ xs. line ≡ take_through 10 xs) → 0 < length line
+    → Feeds n (without_end line) log (Err e) → WouldTell e (due_of log) (without_end line) why → IfSome a (StopsWhy e why)
+stops_here None b log e why n line h took some fed told = tt
+stops_here (Some input) b log e why n line h took some fed told =
     let (lines, rest, is, reached, count) = h in
     let through : line ≡ take_through 10 rest = subst (λ (o : Option (List ℕ)). IfSome o (λ xs. line ≡ take_through 10 xs)) is took in
     let more : 0 < length (take_through 10 rest) = subst (λ (x : List ℕ). 0 < length x) through some in
     let here : Feeds (length lines + 1) (without_end (take_through 10 rest)) log (Err e) =
     subst (λ (x : List ℕ). Feeds (length lines + 1) (without_end x) log (Err e)) through (subst (λ (k : ℕ). Feeds k (without_end line) log (Err e)) count fed) in
-    of_fault e input (lines, log, rest, reached, inl (take_through_nonempty 10 rest more, here))
+    let reason : IsWhy e (due_of log) (without_end (take_through 10 rest)) why = subst (λ (x : List ℕ). IsWhy e (due_of log) (without_end x) why) through (fed_tells n (without_end line) log e why fed told) in
+    of_fault e why input (lines, log, rest, reached, inl (take_through_nonempty 10 rest more, here), reason)
 
 at_end : (b : Option (List ℕ)) (rest : List ℕ) → b ≡ Some rest → IsAtEnd b → rest ≡ []
 at_end b rest is h = subst (λ (o : Option (List ℕ)). IsAtEnd o) is h
 
-stops_at_end : (a b : Option (List ℕ)) (log : Log) (e : LogFault) (n : ℕ) → Stands a b log n → IsAtEnd b → Ends n log (Err e) → IfSome a (StopsWith e)
-stops_at_end None b log e n h ended fed = tt
-stops_at_end (Some input) b log e n h ended fed =
+stops_at_end : (a b : Option (List ℕ)) (log : Log) (e : LogFault) (why : Option LineReason) (n : ℕ) → Stands a b log n → IsAtEnd b → Ends n log (Err e) → IsWhy e (due_of log) [] why → IfSome a (StopsWhy e why)
+stops_at_end None b log e why n h ended fed told = tt
+stops_at_end (Some input) b log e why n h ended fed told =
     let (lines, rest, is, reached, count) = h in
-    of_fault e input (lines, log, rest, reached, inr (at_end b rest is ended, subst (λ (k : ℕ). Ends k log (Err e)) count fed))
+    let over = at_end b rest is ended in
+    let reason : IsWhy e (due_of log) (without_end (take_through 10 rest)) why = subst (λ (x : List ℕ). IsWhy e (due_of log) (without_end (take_through 10 x)) why) (sym over) told in
+    of_fault e why input (lines, log, rest, reached, inr (over, subst (λ (k : ℕ). Ends k log (Err e)) count fed), reason)
 
 follows_at_end : (a b : Option (List ℕ)) (log : Log) (n : ℕ) → Stands a b log n → IsAtEnd b → Ends n log (Ok tt) → IfSome a FollowsAll
 follows_at_end None b log n h ended fed = tt
@@ -87,10 +104,11 @@ follows_at_end (Some input) b log n h ended fed =
     let (lines, rest, is, reached, count) = h in
     (lines, log, subst (λ (x : List ℕ). Reaches input lines log x) (at_end b rest is ended) reached, subst (λ (k : ℕ). Ends k log (Ok tt)) count fed)
 
-pub ended_ok : (a b : Option (List ℕ)) (log : Log) (n : ℕ) (r : Result (Unit {0}) LogFault) → Stands a b log n → IsAtEnd b → Ends n log r → OnOk r (IfSome a FollowsAll)
+pub ended_ok : (a b : Option (List ℕ)) (log : Log) (n : ℕ) (r : Result (Unit {0}) (LogFault × Option LineReason)) → Stands a b log n → IsAtEnd b → EndsWhy n log r → OnOk r (IfSome a FollowsAll)
 ended_ok a b log n (Ok u) h ended fed = follows_at_end a b log n h ended fed
-ended_ok a b log n (Err e) h ended fed = tt
+ended_ok a b log n (Err x) h ended fed = tt
 
-pub ended_err : (a b : Option (List ℕ)) (log : Log) (n : ℕ) (r : Result (Unit {0}) LogFault) → Stands a b log n → IsAtEnd b → Ends n log r → IfErr r (λ e. IfSome a (StopsWith e))
+pub ended_err : (a b : Option (List ℕ)) (log : Log) (n : ℕ) (r : Result (Unit {0}) (LogFault × Option LineReason)) → Stands a b log n → IsAtEnd b → EndsWhy n log r
+    → IfErr r (λ x. IfSome a (StopsWhy x.0 x.1))
 ended_err a b log n (Ok u) h ended fed = tt
-ended_err a b log n (Err e) h ended fed = stops_at_end a b log e n h ended fed
+ended_err a b log n (Err x) h ended fed = stops_at_end a b log x.0 x.1 n h ended fed.0 fed.1

@@ -3,3 +3,5 @@ pub mod Running
 pub mod Standing
 pub mod Names
 pub mod Cutting
+pub mod Lacking
+pub mod Values

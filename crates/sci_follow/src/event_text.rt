@@ -41,7 +41,7 @@ fn some_node(text: &[u8]) -> Option<(Option<NodeId>, &[u8])>
 
 /// A link: a node, or `none`.
 #[tactic(auto, unfolding(crate::specs::LineText::link_at))]
-fn link(text: &[u8]) -> Option<(Option<NodeId>, &[u8])>
+pub(crate) fn link(text: &[u8]) -> Option<(Option<NodeId>, &[u8])>
     ensures { Reads (λ x. (x.0, x.1.now)) result (link_at text.now) }
 {
     if let Some(rest) = behind(b"none", text) {

@@ -68,7 +68,7 @@ fn busy(text: &[u8]) -> Option<Claim>
 
 /// How it ended.
 #[tactic(auto, unfolding(crate::specs::LineText::claim_at))]
-fn claim(text: &[u8]) -> Option<Claim>
+pub(crate) fn claim(text: &[u8]) -> Option<Claim>
     ensures { Reads (λ c. c) result (claim_at text.now) }
 {
     if let Some(claim) = done(text) {
@@ -81,7 +81,7 @@ fn claim(text: &[u8]) -> Option<Claim>
 }
 
 /// An exchange that asks for the tag that stands can't miss: a miss tells the tag that was asked for in digits.
-fn is_told_enough(told: &Told, claim: &Claim) -> bool
+pub(crate) fn is_told_enough(told: &Told, claim: &Claim) -> bool
     ensures { result ≡ is_told_enough told.now claim.now }
 {
     match (told, claim) {

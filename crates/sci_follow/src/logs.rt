@@ -95,7 +95,7 @@ fn open_line(
 }
 
 /// Whether the nodes of what is told are there.
-fn is_told_in(nodes: u16, told: &Told) -> bool
+pub(crate) fn is_told_in(nodes: u16, told: &Told) -> bool
     ensures { result ≡ is_told_in nodes told.now }
 {
     match told {

@@ -1,9 +1,11 @@
 -- What the command `check` writes of a log. This project's profile.
-use Rattle.std.specs.Prelude.{◌≡◌, ◌⊎◌, ℕ, ◌<◌, List, [], ◌++◌, length, take, codes}
+use Rattle.std.specs.Prelude.{◌≡◌, ◌⊎◌, ℕ, ◌<◌, List, [], ◌++◌, length, take, Option, None, codes}
 use Rattle.std.specs.Fmt.{decimal}
 use Rattle.sci_script.specs.declared.refusals.ScriptRefusal.TheVariants.{OutOfMemory, BadCommand, BadNumber, NotDone, WriteFailed}
 use Rattle.sci_follow.specs.declared.entries.Deviation.{Deviation}
 use Rattle.sci_follow.specs.declared.logs.LogFault.{LogFault}
+use Rattle.sci_follow.specs.declared.parts.LineReason.{LineReason}
+use Rattle.sci_follow.specs.Reasons.{FaultsWhy}
 use Rattle.sci_follow.specs.Streams.{FollowsAll, FaultsWith}
 use Rattle.sci_serve.specs.declared.faults.SimFault.{SimFault}
 use Rattle.sci_serve.specs.declared.faults.SimFault.TheVariants.{CannotRead, CannotWrite, InputTooLong, Refused, NoDump, Unlawful, NoRun}
@@ -37,3 +39,9 @@ StopsFollowing (Refused WriteFailed) input written = ⊥
 StopsFollowing (NoDump n) input written = ⊥
 StopsFollowing Unlawful input written = (number : ℕ) × (why : Deviation) × FaultsWith (LogFault.Departs number why) input × (written ≡ departure_line number why)
 StopsFollowing (NoRun e) input written = ⊥
+
+-- why a line of the log is refused, of a refusal of one alone
+abbrev pub IsWhyUnfollowed : SimFault → Option LineReason → List ℕ → Type 0
+IsWhyUnfollowed (Refused (BadCommand n)) why input = FaultsWhy (LogFault.BadLine n) why input
+IsWhyUnfollowed (Refused (BadNumber n)) why input = FaultsWhy (LogFault.BadNumber n) why input
+IsWhyUnfollowed fault why input = why ≡ None

@@ -33,7 +33,7 @@ mod works;
 pub use checking::serve_check;
 pub use explaining::{Explanation, Text, explained};
 pub use faults::SimFault;
-pub use following::serve_follow;
+pub use following::{serve_follow, serve_follow_told};
 pub use input::{INPUT_LIMIT, read_input};
 pub use laws::{entries_are_read_back, logs_follow, script_is_talked, turns_are_followed};
 pub use legality::serve_legal;

@@ -2,6 +2,7 @@
 
 mod follow;
 mod reads;
+mod reasons;
 mod runs;
 mod serving;
 mod texts;

@@ -19,7 +19,7 @@ Options:
   -V, --version  Print version
 
 A refusal is `scisim: refused R` on standard error, with ` at line N` where a line is at fault. With --why, and wherever standard error is
-a terminal, a second line says why, but of a log. `cannot read` and `cannot write` are faults of a file or stream.
+a terminal, a second line says why. `cannot read` and `cannot write` are faults of a file or stream.
 
 Statuses: 0 all went well; 1 a refusal or such a fault; 2 a fault of usage; 3 a check that says no.
 

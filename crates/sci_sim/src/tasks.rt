@@ -5,7 +5,7 @@ use crate::kinds::{Beginning, Kind};
 use crate::streams::{Input, Output};
 use sci_serve::{
     Form, Progress, RaceFault, SimFault, Text, Told, Visits, read_input, serve_buffered,
-    serve_check, serve_follow, serve_history, serve_history_by, serve_legal, serve_outcomes,
+    serve_check, serve_follow_told, serve_history, serve_history_by, serve_legal, serve_outcomes,
     serve_play, serve_run, serve_run_by, serve_talk, serve_talk_by,
 };
 use std::alloc::{AllocError, Global};
@@ -25,19 +25,20 @@ pub enum Task {
     Race { page: bool, most: usize },
     /// Runs a workload, and prints its result or its history.
     Run { history: bool, progress: bool },
-    /// Judges a text of this kind.
-    Check(Kind),
+    /// Judges a dump.
+    Dump,
+    /// Judges a history.
+    History,
 }
 
 impl Task {
-    /// What the text is that is read for it, where a fault of that can be told behind its end.
-    fn text(self) -> Option<Text> {
+    /// What the text is that is read for it.
+    fn text(self) -> Text {
         match self {
-            Task::Script(_) | Task::Race { .. } => Some(Text::Script),
-            Task::Run { .. } => Some(Text::Settings),
-            Task::Check(Kind::Dump) => Some(Text::Dump),
-            Task::Check(Kind::History) => Some(Text::History),
-            Task::Check(Kind::Log) => None,
+            Task::Script(_) | Task::Race { .. } => Text::Script,
+            Task::Run { .. } => Text::Settings,
+            Task::Dump => Text::Dump,
+            Task::History => Text::History,
         }
     }
 }
@@ -112,27 +113,6 @@ fn run<T: Threads + Wait + Sync, R: Read>(
     }
 }
 
-/// Follows a log, line by line.
-fn follow<R: Read>(alloc: Global, reader: &mut R, output: &mut Output) -> Result<(), SimFault> {
-    let mut buffered = BufReader::with_capacity(alloc, BUFFER, reader).map_err(|_| SimFault::from(
-        AllocError,
-    ))?;
-    serve_follow(alloc, &mut buffered, output)
-}
-
-fn judge<R: Read>(
-    alloc: Global,
-    kind: Kind,
-    reader: &mut R,
-    output: &mut Output,
-) -> Result<(), SimFault> {
-    match kind {
-        Kind::Dump => serve_check(alloc, reader, output),
-        Kind::History => serve_legal(alloc, reader, output),
-        Kind::Log => follow(alloc, reader, output),
-    }
-}
-
 /// Does a task.
 fn perform<T: Threads + Wait + Eprint + Sync, R: Read>(
     place: &Place<'_, T>,
@@ -154,7 +134,8 @@ fn perform<T: Threads + Wait + Eprint + Sync, R: Read>(
             history,
             progress: false,
         } => run(place.threads, alloc, history, reader, output),
-        Task::Check(kind) => judge(alloc, kind, reader, output),
+        Task::Dump => serve_check(alloc, reader, output),
+        Task::History => serve_legal(alloc, reader, output),
     };
     served.map_err(|fault| RaceFault::Fault(fault))
 }
@@ -192,11 +173,10 @@ fn reason(alloc: Global, task: Task, fault: RaceFault, text: Text, input: &[u8])
 fn perform_kept<T: Threads + Wait + Eprint + Sync, R: Read>(
     place: &Place<'_, T>,
     task: Task,
-    text: Text,
     reader: &mut R,
     output: &mut Output,
 ) -> Result<(), Failure> {
-    let alloc = place.rt.alloc();
+    let (alloc, text) = (place.rt.alloc(), task.text());
     let input = read_text(alloc, place.limit, text, reader)?;
     match perform(place, task, &mut input.as_slice(), output) {
         Ok(()) => Ok(()),
@@ -214,12 +194,32 @@ pub fn serve<T: Threads + Wait + Eprint + Sync, R: Read>(
     reader: &mut R,
     output: &mut Output,
 ) -> Result<(), Failure> {
-    match task.text() {
-        Some(text) if place.why => perform_kept(place, task, text, reader, output),
-        _ => perform(place, task, reader, output).map_err(|fault| Failure {
-            fault,
-            reason: None,
+    if place.why {
+        return perform_kept(place, task, reader, output);
+    }
+    perform(place, task, reader, output).map_err(|fault| Failure {
+        fault,
+        reason: None,
+    })
+}
+
+/// Follows a log, line by line, and says of a line that is refused why, where that is wanted.
+fn follow<T, R: Read>(
+    place: &Place<'_, T>,
+    reader: &mut R,
+    output: &mut Output,
+) -> Result<(), Failure> {
+    let alloc = place.rt.alloc();
+    let mut buffered = BufReader::with_capacity(alloc, BUFFER, reader).map_err(|_| SimFault::from(
+        AllocError,
+    ))?;
+    match serve_follow_told(alloc, &mut buffered, output) {
+        Ok(()) => Ok(()),
+        Err((fault, Some(reason))) if place.why => Err(Failure {
+            fault: RaceFault::Fault(fault),
+            reason: format!(in alloc; "{reason}").ok(),
         }),
+        Err((fault, _)) => Err(Failure::from(fault)),
     }
 }
 
@@ -237,7 +237,11 @@ pub fn check<T: Threads + Wait + Eprint + Sync>(
         Kind::History | Kind::Log => 0,
     };
     input.put_before(beginning.feeds(), beginning.front, reads);
-    serve(place, Task::Check(kind), input, output)
+    match kind {
+        Kind::Dump => serve(place, Task::Dump, input, output),
+        Kind::History => serve(place, Task::History, input, output),
+        Kind::Log => follow(place, input, output),
+    }
 }
 
 /// Answers the commands that standard input has.

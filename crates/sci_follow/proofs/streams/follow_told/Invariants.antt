@@ -1,5 +1,5 @@
 use Rattle.sci_follow.proofs.Cutting.{Stands}
-use Rattle.sci_follow.proofs.streams.follow_text.Given as goal
+use Rattle.sci_follow.proofs.streams.follow_told.Given as goal
 
 -- what the reader had is without fault up to what it has left
 abbrev pub invariant-loop-number : goal.invariant-loop-number
