@@ -17,3 +17,5 @@ pub mod WordsBack
 pub mod RowsBack
 pub mod DumpsBack
 pub mod Dumpable
+pub mod Lines
+pub mod Streaming

@@ -61,7 +61,7 @@ module _ (layout : Layout) where
   abbrev pub with_lines : List ClosedLine → Lines → Lines
   with_lines lines read = read >>> λ more. Ok (lines ++ more.0, more.1, more.2)
 
-  no_lines : (read : Lines) → with_lines [] read ≡ read
+  pub no_lines : (read : Lines) → with_lines [] read ≡ read
   no_lines (Ok more) = refl
   no_lines (Err e) = refl
 

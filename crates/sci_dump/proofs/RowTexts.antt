@@ -48,7 +48,7 @@ module _ (layout : Layout) where
       join_four (codes "line ") (decimal number) (codes " ") (content_text (mem_code_in layout m) line) text one two three rest
       (behind_text (codes "line ") text one h1) (numbered_read number one two h2) (behind_text (codes " ") two three h3) ends
 
-  node_read : (number node : ℕ) (text rest : List ℕ) → node_at number node text ≡ Some rest → text ≡ (codes "tag " ++ decimal number ++ codes " " ++ decimal node ++ codes " ") ++ rest
+  pub node_read : (number node : ℕ) (text rest : List ℕ) → node_at number node text ≡ Some rest → text ≡ (codes "tag " ++ decimal number ++ codes " " ++ decimal node ++ codes " ") ++ rest
   unfolding node_at
   node_read number node text rest h =
       let (one, h1, k1) = both_some (behind (codes "tag ") text) _ rest h in
@@ -58,7 +58,7 @@ module _ (layout : Layout) where
       join_five (codes "tag ") (decimal number) (codes " ") (decimal node) (codes " ") text one two three four rest
       (behind_text (codes "tag ") text one h1) (numbered_read number one two h2) (behind_text (codes " ") two three h3) (numbered_read node three four h4) (behind_text (codes " ") four rest k4)
 
-  tag_read : (text rest : List ℕ) (t : Tag) (line : Line) → tag_at layout text ≡ Some (t, line, rest) → (is_invalid t.kind ≡ false) × (text ≡ content_text (tag_code_in layout t) line ++ rest)
+  pub tag_read : (text rest : List ℕ) (t : Tag) (line : Line) → tag_at layout text ≡ Some (t, line, rest) → (is_invalid t.kind ≡ false) × (text ≡ content_text (tag_code_in layout t) line ++ rest)
   unfolding tag_at
   tag_read text rest t line h =
       let (word, h1, k1) = both_some (word_at text) _ (t, line, rest) h in
@@ -72,7 +72,7 @@ module _ (layout : Layout) where
         subst (λ (w : ℕ). text ≡ content_text w line ++ rest) (sym code ∙ ap (tag_code_in layout) same) (word_content text word.1 rest word.0 line h1 (h3 ∙ ap (λ (p : Line × List ℕ). Some p) over)),
       )
 
-  tag_on_some : (n : ℕ) (r : Option (Tag × Line × List ℕ)) (x : Tag × Line × ℕ × List ℕ) → tag_on n r ≡ Some x → (r ≡ Some (x.0, x.1, x.3)) × (x.2 ≡ n + 1)
+  pub tag_on_some : (n : ℕ) (r : Option (Tag × Line × List ℕ)) (x : Tag × Line × ℕ × List ℕ) → tag_on n r ≡ Some x → (r ≡ Some (x.0, x.1, x.3)) × (x.2 ≡ n + 1)
   tag_on_some n None x h = absurd (not_none x h)
   tag_on_some n (Some found) x h =
       let e = some_of (found.0, found.1, n + 1, found.2) x h in

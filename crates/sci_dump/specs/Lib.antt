@@ -4,3 +4,4 @@ pub mod Text
 pub mod Reading
 pub mod Rules
 pub mod ReadBack
+pub mod Streams

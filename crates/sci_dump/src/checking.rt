@@ -289,8 +289,8 @@ fn has_equal_lines(closed: &Closed) -> bool
     true
 }
 
-/// The first rule that a line breaks.
-fn first_broken(closed: &Closed) -> Option<Rule>
+/// The first rule that a line breaks, unless it is an exact sharing list.
+pub fn first_broken(closed: &Closed) -> Option<Rule>
     ensures { MatchOption result (IsExactClosed closed.now) (λ rule. BreaksFirst rule closed.now) }
 {
     if !is_settled(closed) {

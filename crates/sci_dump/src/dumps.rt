@@ -1,6 +1,10 @@
 //! What a dump says.
+
+ghost use Rattle.std.specs.Prelude.{◌≤◌, ◌+◌, ◌*◌};
+ghost use Rattle.sci_core.specs.declared.whole.TheConstants.{MOST_NODES};
+
 use sci_core::Closed;
-use sci_words::{Kind, Tag};
+use sci_words::{Kind, Layout, Tag};
 use std::marker::Model;
 
 /// The tag of a node that has none of its own in a dump.
@@ -28,4 +32,17 @@ impl Model for Dump {
     ghost view = { λ d. record { nodes = d.nodes; lines = d.lines.items } };
 
     ghost invariant = { λ d. IsDump record { nodes = d.nodes; lines = d.lines.items } };
+}
+
+/// A dump up to some closed line, and the line of text behind that.
+#[derive(Drop)]
+pub struct DumpStream {
+    pub(crate) layout: Layout,
+    pub(crate) nodes: u16,
+    pub(crate) count: u16,
+    pub(crate) closed: u16,
+    pub(crate) number: u64,
+    pub(crate) line: Vec<u8>,
+    ghost sizes: { (nodes ≤ MOST_NODES) × (count ≤ 1024) },
+    ghost near: { number ≤ 2 + 1025 * closed },
 }

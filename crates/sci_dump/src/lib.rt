@@ -8,10 +8,12 @@ mod ranges;
 mod reader;
 mod refusals;
 mod rows;
+mod streams;
 mod texts;
 
-pub use checking::{Rule, Verdict, check};
-pub use dumps::Dump;
+pub use checking::{Rule, Verdict, check, first_broken};
+pub use dumps::{Dump, DumpStream};
 pub use reader::read_dump;
 pub use refusals::DumpRefusal;
+pub use streams::StreamFault;
 pub use texts::dump;

@@ -20,7 +20,7 @@ use std::alloc::Global;
 /// A node's tag and line, and where the reading goes on: the number of the line of text, and the text from there on. Of a node
 /// that has no tag line they are those of an Invalid one.
 #[tactic(auto, unfolding(crate::specs::Reading::entry_at))]
-fn entry(
+pub fn entry(
     layout: Layout,
     line: u64,
     node: u64,

@@ -3,6 +3,7 @@ pub mod Serving
 pub mod Fronts
 pub mod Buffering
 pub mod Listing
+pub mod Telling
 pub mod Stopping
 pub mod Judging
 pub mod SettingsKeys

@@ -7,6 +7,7 @@ pub mod Shown
 pub mod Serve
 pub mod Settings
 pub mod Verdicts
+pub mod Large
 pub mod Followed
 pub mod Works
 pub mod Worked

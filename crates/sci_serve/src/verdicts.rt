@@ -57,7 +57,7 @@ fn entries(alloc: Global, closed: &Closed) -> Result<Vec<(NodeId, Tag)>, AllocEr
 }
 
 /// Adds a line's sharing list, as a script's `list` prints it.
-fn push_list(
+pub fn push_list(
     alloc: Global,
     text: &mut String,
     number: LineNo,
@@ -85,7 +85,7 @@ fn lawful_text(alloc: Global, lines: &[Closed]) -> Result<String, AllocError>
 }
 
 /// `line L breaks CN`.
-fn unlawful_text(alloc: Global, line: LineNo, rule: Rule) -> Result<String, AllocError>
+pub fn unlawful_text(alloc: Global, line: LineNo, rule: Rule) -> Result<String, AllocError>
     ensures { IfOk result (λ text. string_bytes text ≡ unlawful_line line rule) }
 {
     let number = rule.number();

@@ -11,6 +11,8 @@ mod fixed;
 #[cfg(test)]
 mod growths;
 #[cfg(test)]
+mod large;
+#[cfg(test)]
 mod logs;
 #[cfg(test)]
 mod long_inputs;

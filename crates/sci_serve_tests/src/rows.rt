@@ -40,7 +40,7 @@ pub(crate) const DUMP: &str = "scidump 1 3 1\n\
     end\n";
 
 /// The same, with node 2's tag held.
-const HELD: &str = "scidump 1 3 1\n\
+pub(crate) const HELD: &str = "scidump 1 3 1\n\
     line 0 0000000000000201 0 0 0 0 0 0 0 0 0\n\
     tag 0 0 000000000001ff07 0 0 0 0 0 0 0 0 0\n\
     tag 0 1 0000000000020007 0 0 0 0 0 0 0 0 0\n\

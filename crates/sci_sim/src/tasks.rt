@@ -4,9 +4,10 @@ use crate::failures::{Failure, reason_of};
 use crate::kinds::{Beginning, Kind};
 use crate::streams::{Input, Output};
 use sci_serve::{
-    Form, Progress, RaceFault, SimFault, Text, Told, Visits, read_input, serve_buffered,
-    serve_check, serve_follow_told, serve_history, serve_history_by, serve_legal, serve_outcomes,
-    serve_play, serve_run, serve_run_by, serve_talk, serve_talk_by,
+    Form, INPUT_LIMIT, Progress, RaceFault, SimFault, Text, Told, Visits, read_input,
+    serve_buffered, serve_check, serve_check_large, serve_follow_told, serve_history,
+    serve_history_by, serve_legal, serve_outcomes, serve_play, serve_run, serve_run_by, serve_talk,
+    serve_talk_by,
 };
 use std::alloc::{AllocError, Global};
 use std::io::{BufReader, BufWriter, ErrorKind, Read};
@@ -113,6 +114,22 @@ fn run<T: Threads + Wait + Sync, R: Read>(
     }
 }
 
+/// Judges a dump: line by line where it may have more bytes than other inputs.
+fn judge<R: Read>(
+    alloc: Global,
+    limit: usize,
+    reader: &mut R,
+    output: &mut Output,
+) -> Result<(), SimFault> {
+    if limit == INPUT_LIMIT {
+        return serve_check(alloc, reader, output);
+    }
+    let mut buffered = BufReader::with_capacity(alloc, BUFFER, reader).map_err(|_| SimFault::from(
+        AllocError,
+    ))?;
+    serve_check_large(alloc, &mut buffered, output)
+}
+
 /// Does a task.
 fn perform<T: Threads + Wait + Eprint + Sync, R: Read>(
     place: &Place<'_, T>,
@@ -134,7 +151,7 @@ fn perform<T: Threads + Wait + Eprint + Sync, R: Read>(
             history,
             progress: false,
         } => run(place.threads, alloc, history, reader, output),
-        Task::Dump => serve_check(alloc, reader, output),
+        Task::Dump => judge(alloc, place.limit, reader, output),
         Task::History => serve_legal(alloc, reader, output),
     };
     served.map_err(|fault| RaceFault::Fault(fault))

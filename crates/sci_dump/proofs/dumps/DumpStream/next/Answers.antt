@@ -1,0 +1,20 @@
+use Rattle.std.proofs.Common.{ℕ, List, ◌≡◌, ◌∙◌, refl, subst}
+use Rattle.std.proofs.lemmas.Result.{err_from_is_err_and}
+use Rattle.sci_dump.specs.Reading.{closed_at}
+use Rattle.sci_dump.specs.Streams.{StopsAt}
+use Rattle.sci_dump.proofs.Streaming.{read_on, stops_behind}
+use Rattle.sci_dump.proofs.dumps.DumpStream.next.Goals as goal
+
+pub returns-in_err-found-clause-err : goal.returns-in_err-found-clause-err
+returns-in_err-found-clause-err g c =
+    let p = err_from_is_err_and c.from_residual.result c.from_residual.ensures.1 in
+    let s = c.args.self in
+    rw (p.1, p.2)
+    (λ text lines r. stops_behind c.in_err-found.field-0.0 text lines s (g.R.Read.remaining c.args.reader.now) r c.requires
+    (λ rest h. subst (λ (n : ℕ). StopsAt c.in_err-found.field-0.0 (closed_at s.layout n s.nodes s.number rest)) c.from.ensures (c.in_err-found.ensures.exact rest h)))
+
+pub returns-clause-ok : goal.returns-clause-ok
+returns-clause-ok g c = λ text lines r.
+    let s = c.args.self in
+    read_on text lines c.in_ok-found.found.closed s _ (g.R.Read.remaining c.args.reader.now) (g.R.Read.remaining c.read_closed.new.reader) r c.requires
+    (λ rest h. rw c.from.ensures at (c.in_ok-found.ensures.exact rest h)) refl refl refl refl

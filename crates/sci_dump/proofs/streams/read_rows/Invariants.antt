@@ -1,0 +1,19 @@
+use Rattle.std.proofs.Common.{◌≡◌, ◌-◌, ◌+◌, ◌≤◌, ℕ, List, true, All, length}
+use Rattle.sci_words.specs.Tag.{tag_well_formed}
+use Rattle.sci_dump.specs.Reading.{entries_at}
+use Rattle.sci_dump.specs.Streams.{Holds}
+use Rattle.sci_dump.proofs.Looping.{with_nodes}
+use Rattle.sci_dump.proofs.streams.read_rows.Given as goal
+
+-- the nodes so far and those of what is left are those of all
+abbrev pub invariant-loop-node : goal.invariant-loop-node
+invariant-loop-node g l =
+    record {
+      left : (text : List ℕ) → Holds l.fn.line.items (g.R.Read.remaining l.fn.reader) text
+          → (rest : List ℕ) × Holds l.held.items (g.R.Read.remaining l.reader) rest
+          × (with_nodes l.layout l.tags.items l.lines.items (entries_at l.layout l.closed l.node (l.nodes - l.node) l.at rest) ≡ entries_at l.layout l.closed 0 l.nodes l.number text);
+      well_formed : All (λ t. tag_well_formed t ≡ true) l.tags.items;
+      tags : length l.tags.items ≡ l.node;
+      lines : length l.lines.items ≡ l.node;
+      near : l.at ≤ l.number + l.node;
+    }
