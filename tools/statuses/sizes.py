@@ -1,8 +1,8 @@
 """Scripts of many numbers of nodes, and one whose node names each line there may be; and scripts, dumps and settings of as many bytes as
 an input may have."""
 
-from dumps import ITS_LISTS, LARGE_DUMP
-from kinds import LIMIT, Page, Traced, refused
+from dumps import ITS_LISTS, LARGE_DUMP, large_dump
+from kinds import LIMIT, Begins, Little, Page, Traced, refused
 
 
 def visits(nodes):
@@ -39,7 +39,13 @@ LARGEST = [
 ]
 assert all(len(script) == LIMIT for script, *_ in LARGEST)
 
-# What is longer is taken where that is asked for.
+LARGER_DUMP, LARGER_LISTS = large_dump(2, 64, 1024)
+# the last line's first tag isn't there
+UNLAWFUL = LARGER_DUMP[: LARGER_DUMP.index("tag 1023 0 ")] + LARGER_DUMP[LARGER_DUMP.index("tag 1023 1 ") :]
+ITS_RULE = LARGER_LISTS[: LARGER_LISTS.index("line 1023 ")] + "line 1023 breaks C3\n"
+NO_END = LARGER_LISTS.removesuffix("lawful\n"), refused(f"21 at line {2 + 1024 * 65}")
+
+# What is longer is taken where that is asked for. Of a dump no more than a line is kept.
 LARGER = [
     (["script"], "memory 1 1\n" + "list 0\n" * 300_000, 0, "line 0 HOME\n" * 300_000, ""),
     (["script"], "memory 1 1\n" + "#" * 5_000_000 + "\nlist 0\n", 0, "line 0 HOME\n", ""),
@@ -47,6 +53,11 @@ LARGER = [
     (["script", "--why"], "memory 1 1\n" + "\n" * 2_000_000 + "list 1\n", 1, "", f"{refused('17 at line 2000002')}word 2: a number from 0 to 0 wanted\n"),
     (["trace"], "memory 1 1\n" + "#\n" * 1_000_000 + "load 0 0 0\ndone 0\n", 0, Traced("node 0 read 0 stamp 0\n"), ""),
     (["outcomes"], "memory 1 1\n" + "#\n" * 1_000_000, 0, "states 1\noutcomes 1\n\nline 0 HOME\n", ""),
+    (["check"], Little(LARGER_DUMP), 0, LARGER_LISTS, ""),
+    (["check"], UNLAWFUL, 3, ITS_RULE, ""),
+    (["check"], LARGER_DUMP.removesuffix("end\n"), 1, *NO_END),
+    (["check", "--why"], LARGER_DUMP.removesuffix("end\n"), 1, NO_END[0], Begins(NO_END[1])),
+    (["check"], "\n" * 2_000_000 + LARGE_DUMP, 1, "", refused("21 at line 1")),
 ]
 
 
