@@ -42,23 +42,27 @@ told_broken number c rule line breaks is = λ cs text count told. (
     before = λ i d lt. subst IsExactClosed (sym (get_or_append_left cs (c ∷ []) d i (omega (arith, lt, count)))) (told.0 i d (omega (arith, lt, count)));
     breaks = λ d. subst (λ (x : ClosedLine). BreaksFirst rule x) (sym (get_or-append_seam cs c [] d) ∙ ap (λ (i : ℕ). slice_index_or (cs ++ c ∷ []) i d) count) breaks;
   },
-  text,
-  subst (λ (ds : List ClosedLine). AreListsOf 0 ds text) (sym (take-append_seam cs (c ∷ [])) ∙ ap (λ (i : ℕ). take i (cs ++ c ∷ [])) count) told.1,
-  ap (λ (xs : List ℕ). text ++ xs) is,
+  (
+    text,
+    subst (λ (ds : List ClosedLine). AreListsOf 0 ds text) (sym (take-append_seam cs (c ∷ [])) ∙ ap (λ (i : ℕ). take i (cs ++ c ∷ [])) count) told.1,
+    ap (λ (xs : List ℕ). text ++ xs) is,
+  ),
 )
 
 -- any line behind that
 pub told_kept : (n : ℕ) (rule : Rule) (number : ℕ) (c : ClosedLine) → Tells (Unlawful n rule) number c (Unlawful n rule) []
 told_kept n rule number c = λ cs text count told.
-    let (first, lists, are, is) = told in (
+    let (first, (lists, are, is)) = told in (
       record {
         is_line = omega (arith, first.is_line, length-append cs (c ∷ []));
         before = λ i d lt. subst IsExactClosed (sym (get_or_append_left cs (c ∷ []) d i (omega (arith, lt, first.is_line)))) (first.before i d lt);
         breaks = λ d. subst (λ (x : ClosedLine). BreaksFirst rule x) (sym (get_or_append_left cs (c ∷ []) d n first.is_line)) (first.breaks d);
       },
-      lists,
-      subst (λ (ds : List ClosedLine). AreListsOf 0 ds lists) (sym (take-append-le n cs (c ∷ []) (omega (arith, first.is_line)))) are,
-      append-nil text ∙ is,
+      (
+        lists,
+        subst (λ (ds : List ClosedLine). AreListsOf 0 ds lists) (sym (take-append-le n cs (c ∷ []) (omega (arith, first.is_line)))) are,
+        append-nil text ∙ is,
+      ),
     )
 
 -- what is told where the command ends so
@@ -94,7 +98,7 @@ pub concluded : (input text : List ℕ) (dump : DumpLines) (verdict : Verdict) (
     → (verdict ≡ Lawful) × Appends mid new (codes "lawful\n") → (whole : List ℕ) × ChecksLarge input Lawful whole × Appends old new whole
 concluded input text dump verdict old mid new is told appended (lawful, last) =
     let (exact, lists) = subst (λ (v : Verdict). IsTold dump.lines v text) lawful told in
-    (text ++ codes "lawful\n", (dump, is, exact, text, lists, refl), Appends-trans old mid new text (codes "lawful\n") appended last)
+    (text ++ codes "lawful\n", (dump, is, exact, (text, lists, refl)), Appends-trans old mid new text (codes "lawful\n") appended last)
 
 pub not_concluded : (e : SimFault) (input text : List ℕ) (dump : DumpLines) (verdict : Verdict) (old mid new : Option (List ℕ)) → dump_of input ≡ Ok dump → IsTold dump.lines verdict text → Appends old mid text
     → FailsConcluding e verdict mid new → Ends e input old new
@@ -102,14 +106,14 @@ not_concluded e input text dump verdict old mid new is told appended (inl (says,
     let (first, lists) = subst (λ (v : Verdict). IsTold dump.lines v text) unlawful told in
     subst (λ (f : SimFault). Ends f input old new) (sym says) (
       text,
-      (number, rule, dump, is, first, lists),
+      (number, rule, (dump, is, first, lists)),
       subst (λ (xs : List ℕ). Appends old new xs) (append-nil text) (Appends-trans old mid new text [] appended last),
     )
 not_concluded e input text dump verdict old mid new is told appended (inr (cannot, lawful, n, less, front)) =
     let (exact, lists) = subst (λ (v : Verdict). IsTold dump.lines v text) lawful told in
     subst (λ (f : SimFault). Ends f input old new) (sym cannot) (
       text ++ take n (codes "lawful\n"),
-      (text ++ codes "lawful\n", length text + n, inr (dump, is, exact, text, lists, refl), omega (arith, less, length-append text (codes "lawful\n")), sym (take-append-add text (codes "lawful\n") n)),
+      (text ++ codes "lawful\n", length text + n, inr (dump, is, exact, (text, lists, refl)), omega (arith, less, length-append text (codes "lawful\n")), sym (take-append-add text (codes "lawful\n") n)),
       Appends-trans old mid new text (take n (codes "lawful\n")) appended front,
     )
 

@@ -1,8 +1,11 @@
 //! Dumps that are judged line by line: what is written, and how that ends.
-use crate::checks::{same_at, same_bytes_at};
+use crate::checks::{same, same_at, same_bytes_at};
 use crate::rows::{DUMP, HELD, LAWFUL};
 use crate::slow::Slow;
 use sci_serve::{SimFault, serve_check, serve_check_large};
+use std::alloc::Global;
+use std::io::sink;
+use std::process::Abort;
 use std::test::Fail;
 
 const TWO: &str = "scidump 1 3 2\n\
@@ -89,4 +92,23 @@ fn judged_line_by_line(rt: HostRuntime) -> Result<(), Fail> {
         same_at(&rt, input, &fault, &end);
     }
     Ok(())
+}
+
+fn serves(alloc: Global) -> Result<(), SimFault> {
+    let mut input = DUMP.as_bytes();
+    serve_check_large(alloc, &mut input, &mut sink())
+}
+
+fn refuses(rt: &impl Abort, alloc: Global) -> Result<(), Fail> {
+    if serves(alloc).is_err() {
+        same(rt, &serves(alloc), &Ok(()));
+        return Err(Fail::new("serve_check_large answered 7"));
+    }
+    Ok(())
+}
+
+/// Growths: 9 of serve_check_large.
+#[test]
+fn refused_growths(rt: HostRuntime) -> Result<(), Fail> {
+    refuses(&rt, rt.alloc())
 }

@@ -20,22 +20,22 @@ returns-in-Err-end-clause-err g c =
     rw c.fault_of-in-Err-end.ensures
     (IfSome_then (g.R.Read.remaining c.args.reader.now) c.in-Ok.ensures.ok
     (λ input r.
-        let (cs, text, read, told, appended) = c.in-Ok-check_lines.ensures.ok input r in
-        stream_stops c.in-Err-end.fault input text cs c.in-Ok-check_lines.verdict (g.W.Write.contents c.args.writer.now) (g.W.Write.contents c.check_lines.new.writer)
-        (sound_front input cs c.in-Ok-check_lines.last (g.R.Read.remaining c.check_lines.new.reader) read) (c.in-Err-end.ensures.err input cs read) told appended))
+    let (cs, text, read, told, appended) = c.in-Ok-check_lines.ensures.ok input r in
+    stream_stops c.in-Err-end.fault input text cs c.in-Ok-check_lines.verdict (g.W.Write.contents c.args.writer.now) (g.W.Write.contents c.check_lines.new.writer)
+    (sound_front input cs c.in-Ok-check_lines.last (g.R.Read.remaining c.check_lines.new.reader) read) (c.in-Err-end.ensures.err input cs read) told appended))
 
 pub returns-in-Ok-end-clause-ok : goal.returns-in-Ok-end-clause-ok
 returns-in-Ok-end-clause-ok g c =
     on_ok c.conclude.result c.conclude.ensures.ok
     (λ h. IfSome_then (g.R.Read.remaining c.args.reader.now) c.in-Ok.ensures.ok
     (λ input r.
-        let (cs, text, read, told, appended) = c.in-Ok-check_lines.ensures.ok input r in
-        concluded input text _ c.in-Ok-check_lines.verdict (g.W.Write.contents c.args.writer.now) (g.W.Write.contents c.check_lines.new.writer) (g.W.Write.contents c.conclude.new.writer) (c.in-Ok-end.ensures.ok input cs read) told appended h))
+    let (cs, text, read, told, appended) = c.in-Ok-check_lines.ensures.ok input r in
+    concluded input text _ c.in-Ok-check_lines.verdict (g.W.Write.contents c.args.writer.now) (g.W.Write.contents c.check_lines.new.writer) (g.W.Write.contents c.conclude.new.writer) (c.in-Ok-end.ensures.ok input cs read) told appended h))
 
 pub returns-in-Ok-end-clause-err : goal.returns-in-Ok-end-clause-err
 returns-in-Ok-end-clause-err g c =
     on_err c.conclude.result c.conclude.ensures.err
     (λ e h. IfSome_then (g.R.Read.remaining c.args.reader.now) c.in-Ok.ensures.ok
     (λ input r.
-        let (cs, text, read, told, appended) = c.in-Ok-check_lines.ensures.ok input r in
-        not_concluded e input text _ c.in-Ok-check_lines.verdict (g.W.Write.contents c.args.writer.now) (g.W.Write.contents c.check_lines.new.writer) (g.W.Write.contents c.conclude.new.writer) (c.in-Ok-end.ensures.ok input cs read) told appended h))
+    let (cs, text, read, told, appended) = c.in-Ok-check_lines.ensures.ok input r in
+    not_concluded e input text _ c.in-Ok-check_lines.verdict (g.W.Write.contents c.args.writer.now) (g.W.Write.contents c.check_lines.new.writer) (g.W.Write.contents c.conclude.new.writer) (c.in-Ok-end.ensures.ok input cs read) told appended h))
