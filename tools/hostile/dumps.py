@@ -58,13 +58,19 @@ def row_of(layout, text):
     return (row[1], numbers, word, content) if is_right else None
 
 
+def is_of_last(row, nodes, found):
+    """Whether a line of text at fault is of a node of the last line, which is then not read to its end."""
+    named = found and re.match(rf"tag {len(found) - 1} {NUMBER} ", row)
+    return bool(named) and max(found[-1].tags, default=-1) < int(row.split(" ")[2]) < nodes
+
+
 def read(text):
-    """How many nodes there are, and the lines; or the number of the line of text at fault."""
+    """The number of the line of text at fault, or None; how many nodes there are, and the lines in front of the fault."""
     rows = text.split("\n")
     head = HEAD.fullmatch(rows[0])
     layout, nodes, lines = (int(it) for it in head.groups()) if head and len(rows) > 1 else (1, 0, 0)
     if not (1 <= nodes <= NODES[layout] and 1 <= lines <= 1024):
-        return 1
+        return 1, 0, []
     found = []
     # a line of text is one behind which a line feed stands
     for at, row in enumerate(rows[1:-1], 2):
@@ -76,12 +82,12 @@ def read(text):
         elif label == "tag" and len(numbers) == 2 and numbers[0] == len(found) - 1 and max(found[-1].tags, default=-1) < numbers[1] < nodes:
             found[-1].tags[numbers[1]] = word, content
         else:
-            return at
+            return at, nodes, found[: len(found) - is_of_last(row, nodes, found)]
     else:
-        return len(rows)
+        return len(rows), nodes, found[: len(found) - is_of_last(rows[-1], nodes, found)]
     if len(found) < lines:
-        return at
-    return (nodes, found) if rows[at:] == [""] else at + 1
+        return at, nodes, found
+    return None if rows[at:] == [""] else at + 1, nodes, found
 
 
 def chain_of(nodes, line):
@@ -120,17 +126,31 @@ def listed(nodes, number, line):
     return f"line {number} {STATES[line.memory.kind]}" + (f" {line.memory.forw}: {', '.join(entries)}" if entries else "") + "\n"
 
 
-def verdict(text):
-    """What `scisim check` is to print, or the number of the line of text at fault."""
-    said = read(text)
-    if isinstance(said, int):
-        return said
-    nodes, lines = said
+def told(nodes, lines):
+    """What is told of lines, up to the first that breaks a rule, and whether one does."""
+    found = ""
     for number, line in enumerate(lines):
         rule = broken(nodes, line)
         if rule:
-            return f"line {number} breaks C{rule}\n"
-    return "".join(listed(nodes, *it) for it in enumerate(lines)) + "lawful\n"
+            return f"{found}line {number} breaks C{rule}\n", True
+        found += listed(nodes, number, line)
+    return found, False
+
+
+def answers(text):
+    """How `check` is to answer, and how `check --large`, which tells each line once it is judged."""
+    fault, nodes, lines = read(text.decode("latin-1"))
+    found, is_broken = told(nodes, lines)
+    if fault:
+        status, _, said = refused(f"21 at line {fault}")
+        large = status, found.encode(), said
+        short = status, b"", said
+    elif is_broken:
+        large = 3, found.encode(), b""
+        short = 3, f"{found.splitlines()[-1]}\n".encode(), b""
+    else:
+        large = short = 0, f"{found}lawful\n".encode(), b""
+    return refused("23") if len(text) > LIMIT else short, large
 
 
 def words_by(by, nodes):
@@ -169,12 +189,8 @@ def text(by):
 
 def wrong(run, text):
     """What is wrong with what `check` says of a text, or nothing."""
-    said = verdict(text.decode("latin-1"))
-    if len(text) > LIMIT:
-        wanted = refused("23")
-    elif isinstance(said, int):
-        wanted = refused(f"21 at line {said}")
-    else:
-        wanted = 3 * ("breaks" in said), said.encode(), b""
-    told = run("check")
-    return "" if told == wanted else f"{told}, and not {wanted}"
+    for words, wanted in zip((["check"], ["check", "--large"]), answers(text)):
+        said = run(*words)
+        if said != wanted:
+            return f"{words}: {said}, and not {wanted}"
+    return ""
