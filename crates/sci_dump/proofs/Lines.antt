@@ -1,15 +1,13 @@
 -- What the first line of a text is read as, the text is read as.
-use Rattle.std.proofs.Common.{if◌then◌else◌, ◌≡◌, ◌⊎◌, ℕ, zero, suc, ◌+◌, ◌<◌, ◌≤◌, ◌&&◌, ◌||◌, Bool, true, false, not, leb, ◌==◌, List, [], ◌∷◌, ◌++◌, length, take, drop, Option, Some, None, refl, sym, ap, subst, ◌∙◌, arith, codes, append_assoc, append-nil, length-append, inl, inr, ne_eqb, le-leb, eqb-true}
+use Rattle.std.proofs.Common.{if◌then◌else◌, ◌≡◌, ℕ, zero, suc, ◌<◌, ◌≤◌, ◌&&◌, Bool, true, false, not, leb, ◌==◌, List, [], ◌∷◌, ◌++◌, length, take, drop, Option, Some, None, refl, sym, ap, arith, codes, append_assoc, length-append, inl, inr, le-leb, eqb-true}
 use Rattle.std.specs.Char.{is_ascii_digit}
 use Rattle.std.specs.List.{list_all}
 use Rattle.std.specs.Str.Parse.{digits_value}
-use Rattle.std.specs.Io.BufRead.{take_through, drop_through}
 use Rattle.std.proofs.lemmas.Bool.{cases_lt, cases_Bool, lt-leb}
 use Rattle.std.proofs.lemmas.List.{take-append-le, drop-append-le}
 use Rattle.std.proofs.lemmas.List.Sums.{prefix_len-le-length}
 use Rattle.sci_words.specs.declared.layouts.Layout.{Layout}
 use Rattle.sci_words.specs.declared.layouts.Layout.TheVariants.{One, Two}
-use Rattle.sci_words.specs.declared.memory.Mem.{Mem}
 use Rattle.sci_words.specs.declared.tags.Tag.{Tag}
 use Rattle.sci_core.specs.declared.lines.Line.{Line}
 use Rattle.sci_core.specs.State.{invalid, blank}
@@ -58,10 +56,13 @@ NoFeed bytes = list_all (λ b. not (b == 10)) bytes ≡ true
 first_no_feed : (b : ℕ) (bs : List ℕ) → NoFeed (b ∷ bs) → ((10 == b) ≡ false) × NoFeed bs
 first_no_feed b bs none = elim (cases_Bool (b == 10)) [
   | inl y ↦ absurd (let f : list_all (λ b. not (b == 10)) (b ∷ bs) ≡ false = rw y refl in cc)
-  | inr n ↦ (elim (cases_Bool (10 == b)) [
+  | inr n ↦ (
+    elim (cases_Bool (10 == b)) [
       | inl same ↦ absurd (let e : 10 ≡ b = eqb-true 10 b same in let f : (b == 10) ≡ true = rw (sym e) refl in cc)
       | inr other ↦ other
-    ], rw n at none)
+    ],
+    rw n at none,
+  )
 ]
 
 -- parts in front of a line feed: they don't see what stands from there on

@@ -1,5 +1,5 @@
 -- A dump is read line of text by line of text as the whole of its text.
-use Rattle.std.proofs.Common.{◌≡◌, ◌⊎◌, ℕ, zero, suc, ◌+◌, ◌-◌, ◌<◌, ◌≤◌, true, false, ◌==◌, List, [], ◌∷◌, ◌++◌, length, Option, Some, None, IfSome, Result, Ok, Err, refl, sym, ap, subst, ◌∙◌, arith, codes, append_assoc, append-nil, length-append, take, drop, slice_index, slice_index_or, inl, inr, eqb-true, decimal}
+use Rattle.std.proofs.Common.{◌≡◌, ◌⊎◌, ℕ, suc, ◌+◌, ◌-◌, ◌<◌, ◌==◌, List, [], ◌∷◌, ◌++◌, length, Option, Some, None, IfSome, Result, Ok, Err, refl, sym, ap, subst, ◌∙◌, arith, codes, append_assoc, append-nil, length-append, take, drop, slice_index, slice_index_or, inl, inr, eqb-true, decimal}
 use Rattle.std.specs.Io.BufRead.{take_through, drop_through}
 use Rattle.std.proofs.BufReadLemmas.{take_through-nil, take_through_nonempty}
 use Rattle.std.proofs.lemmas.Bool.{cases_Bool}
@@ -16,10 +16,10 @@ use Rattle.sci_dump.specs.declared.streams.StreamFault.{StreamFault}
 use Rattle.sci_dump.specs.declared.streams.StreamFault.TheVariants.{OutOfMemory, CannotRead, DumpFault}
 use Rattle.sci_dump.specs.declared.dumps.DumpStream.{DumpStream}
 use Rattle.sci_dump.specs.Dumps.{DumpLines}
-use Rattle.sci_dump.specs.Reading.{◌>>=◌, ◌>>>◌, behind, on_line, memory_at, node_at, tag_at, tag_on, found_on, entry_at, entries_at, head_at, closed_at, lines_at, ended, end_at, dump_of}
+use Rattle.sci_dump.specs.Reading.{◌>>>◌, behind, memory_at, node_at, tag_at, found_on, entry_at, entries_at, head_at, closed_at, lines_at, ended, end_at, dump_of}
 use Rattle.sci_dump.specs.Text.{hexadecimal, values_text, content_text, memory_text, head_text, layout_label}
 use Rattle.sci_dump.specs.Streams.{Holds, IsOutside, StopsAt, sound_from, sound_lines, HasRead, StopsBehind}
-use Rattle.sci_dump.proofs.Inverting.{both_some, both_ok, some_of, ok_of, not_none, not_err, behind_text}
+use Rattle.sci_dump.proofs.Inverting.{both_ok, some_of, ok_of, behind_text}
 use Rattle.sci_dump.proofs.RowTexts.{memory_read, node_read, tag_read, tag_on_some, head_read}
 use Rattle.sci_dump.proofs.FieldsBack.{whole_front}
 use Rattle.sci_dump.proofs.Looping.{Lines, with_lines, no_lines}
@@ -31,9 +31,9 @@ split [] = inr (refl, refl)
 split (x ∷ xs) = elim (cases_Bool (x == 10)) [
   | inl y ↦ let e : x ≡ 10 = eqb-true x 10 y in rw y (inl ([], ap (λ (z : ℕ). z ∷ []) e, ap (λ (z : ℕ). z ∷ xs) e))
   | inr n ↦ rw n (elim (split xs) [
-      | inl s ↦ inl (x ∷ s.0, ap (λ (zs : List ℕ). x ∷ zs) s.1, ap (λ (zs : List ℕ). x ∷ zs) s.2)
-      | inr s ↦ inr (ap (λ (zs : List ℕ). x ∷ zs) s.0, s.1)
-    ])
+    | inl s ↦ inl (x ∷ s.0, ap (λ (zs : List ℕ). x ∷ zs) s.1, ap (λ (zs : List ℕ). x ∷ zs) s.2)
+    | inr s ↦ inr (ap (λ (zs : List ℕ). x ∷ zs) s.0, s.1)
+  ])
 ]
 
 -- nothing stands behind its line feed

@@ -1,5 +1,5 @@
 -- A dump that is read from a reader, line of text by line of text. This project's profile.
-use Rattle.std.specs.Prelude.{◌≡◌, ℕ, zero, suc, ◌+◌, ◌≤◌, List, [], ◌∷◌, length, Option, Some, None, Result, Ok, Err}
+use Rattle.std.specs.Prelude.{◌≡◌, ℕ, zero, suc, ◌+◌, ◌≤◌, List, [], ◌∷◌, length, Option, Some, Result, Ok, Err}
 use Rattle.std.specs.Io.BufRead.{take_through, drop_through}
 use Rattle.sci_words.specs.declared.layouts.Layout.{Layout}
 use Rattle.sci_core.specs.Closed.{ClosedLine}

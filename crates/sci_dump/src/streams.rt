@@ -200,7 +200,15 @@ impl DumpStream {
         let nodes = self.nodes;
         let count = self.count;
         let closed = self.closed;
-        let found = read_closed(alloc, layout, u64::from(closed), nodes, self.number, self.line, reader)?;
+        let found = read_closed(
+            alloc,
+            layout,
+            u64::from(closed),
+            nodes,
+            self.number,
+            self.line,
+            reader,
+        )?;
         let next = DumpStream {
             layout,
             nodes,

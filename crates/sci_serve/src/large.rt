@@ -1,6 +1,6 @@
 //! The command `check --large`, from the bytes of a dump of any length to the verdict, line by line.
 
-ghost use Rattle.std.specs.Prelude.{◌≡◌, ◌≢◌, ◌<◌, ◌⊎◌, ◌+◌, ◌++◌, ◌∷◌, [], ℕ, List, length, take, codes, string_bytes, IfOk, OnOk, IfErr, IfSome};
+ghost use Rattle.std.specs.Prelude.{◌≡◌, [], ℕ, List, codes, string_bytes, IfOk, OnOk, IfErr, IfSome};
 ghost use Rattle.std.specs.Io.KnownBytes.{Appends};
 ghost use Rattle.sci_core.specs.Closed.{ClosedLine};
 ghost use Rattle.sci_dump.specs.declared.checking.Verdict.TheVariants.{Lawful};

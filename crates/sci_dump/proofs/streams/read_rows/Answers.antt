@@ -31,15 +31,15 @@ loop-node-preserved g c =
           let after : (x : List ℕ) × Holds c.if-is_read.held.items (g.R.Read.remaining c.if-is_read.reader) x × (entry_at c.args.layout c.args.closed c.loop-node.node c.loop-node.at rest ≡ Some (c.in-Some.tag, c.in-Some.content, c.in-Some.next, x)) =
           elim c.if-is_read.branch [
             | then-is_read+in_ok-held w ↦ (
-                drop_through 10 rest,
-                rw (w.held-is, w.reader-is) (next_holds (g.R.Read.remaining c.loop-node.reader) (g.R.Read.remaining w.advance.new.reader) c.loop-node.held.items w.in_ok-held.held.items rest holds w.in_ok-held.ensures.ok),
-                entry_line c.args.layout c.args.closed c.loop-node.node c.loop-node.at rest c.deref.result.now entry (c.deref.ensures.value ∙ holds.0) c.in-Some.ensures.exact (eqb-true (length c.in-Some.rest.now) 0 (sym c.is_empty-is_read.ensures ∙ w.if-is_read.true)),
-              )
+              drop_through 10 rest,
+              rw (w.held-is, w.reader-is) (next_holds (g.R.Read.remaining c.loop-node.reader) (g.R.Read.remaining w.advance.new.reader) c.loop-node.held.items w.in_ok-held.held.items rest holds w.in_ok-held.ensures.ok),
+              entry_line c.args.layout c.args.closed c.loop-node.node c.loop-node.at rest c.deref.result.now entry (c.deref.ensures.value ∙ holds.0) c.in-Some.ensures.exact (eqb-true (length c.in-Some.rest.now) 0 (sym c.is_empty-is_read.ensures ∙ w.if-is_read.true)),
+            )
             | else-is_read w ↦ (
-                rest,
-                rw (w.held-is, w.reader-is) holds,
-                entry_kept c.args.layout c.args.closed c.loop-node.node c.loop-node.at rest c.deref.result.now entry (c.deref.ensures.value ∙ holds.0) c.in-Some.ensures.exact (some_left (length c.in-Some.rest.now) (sym c.is_empty-is_read.ensures ∙ w.if-is_read.false)),
-              )
+              rest,
+              rw (w.held-is, w.reader-is) holds,
+              entry_kept c.args.layout c.args.closed c.loop-node.node c.loop-node.at rest c.deref.result.now entry (c.deref.ensures.value ∙ holds.0) c.in-Some.ensures.exact (some_left (length c.in-Some.rest.now) (sym c.is_empty-is_read.ensures ∙ w.if-is_read.false)),
+            )
           ] in (
             after.0,
             after.1,

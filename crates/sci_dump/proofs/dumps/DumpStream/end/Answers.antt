@@ -1,4 +1,4 @@
-use Rattle.std.proofs.Common.{◌∙◌, List, ℕ, zero, suc, ◌==◌, ◌<◌, ◌≡◌, true, false, refl, sym, ap, arith, eqb-true, vec_len}
+use Rattle.std.proofs.Common.{◌∙◌, ℕ, zero, suc, ◌==◌, ◌<◌, ◌≡◌, true, false, refl, sym, ap, arith, eqb-true, vec_len}
 use Rattle.std.specs.Prelude.{codes}
 use Rattle.sci_dump.specs.Reading.{behind}
 use Rattle.sci_dump.proofs.Streaming.{end_missing, ended_all, more_behind}

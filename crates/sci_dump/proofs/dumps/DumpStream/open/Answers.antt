@@ -1,4 +1,4 @@
-use Rattle.std.proofs.Common.{◌∙◌, List, ℕ, refl, subst, sym, ◌≡◌, Some, None, ap}
+use Rattle.std.proofs.Common.{◌∙◌, refl, sym, ap}
 use Rattle.sci_dump.specs.Reading.{head_at}
 use Rattle.sci_dump.proofs.Streaming.{head_stops, opened}
 use Rattle.sci_dump.proofs.dumps.DumpStream.open.Goals as goal
