@@ -12,11 +12,7 @@ use std::io::{ErrorKind, Read};
 pub const INPUT_LIMIT: usize = 1_048_576;
 
 /// What is kept of the bytes so far and these: all of them, or nothing past the limit.
-fn keep(
-    limit: usize,
-    kept: Option<Vec<u8>>,
-    bytes: &[u8],
-) -> Result<Option<Vec<u8>>, AllocError>
+fn keep(limit: usize, kept: Option<Vec<u8>>, bytes: &[u8]) -> Result<Option<Vec<u8>>, AllocError>
     ensures { IfOk result (λ now. (seen : List ℕ) → IsKept limit kept seen → IsKept limit now (seen ++ bytes.now)) }
 {
     let Some(mut input) = kept else {

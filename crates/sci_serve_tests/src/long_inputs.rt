@@ -15,22 +15,26 @@ const LAST: SimFault = SimFault::Refused(ScriptRefusal::BadCommand(2));
 
 const EMPTY: SimFault = SimFault::Refused(ScriptRefusal::BadCommand(1));
 
+const LONG: SimFault = SimFault::InputTooLong;
+
+const UNREAD: SimFault = SimFault::CannotRead;
+
 const INPUTS: [Input; 14] = [
     (INPUT_LIMIT, 1_048_576, false, false, 0, NEVER, LAST),
-    (INPUT_LIMIT, 1_048_577, false, false, 0, NEVER, SimFault::InputTooLong),
+    (INPUT_LIMIT, 1_048_577, false, false, 0, NEVER, LONG),
     // a fault is told before a length
-    (INPUT_LIMIT, 1_048_577, false, false, 0, 1_048_577, SimFault::CannotRead),
+    (INPUT_LIMIT, 1_048_577, false, false, 0, 1_048_577, UNREAD),
     // 2,097,152 reads
     (INPUT_LIMIT, 1_048_575, true, false, 0, NEVER, LAST),
-    (INPUT_LIMIT, 1_048_576, true, false, 0, NEVER, SimFault::CannotRead),
+    (INPUT_LIMIT, 1_048_576, true, false, 0, NEVER, UNREAD),
     (INPUT_LIMIT, 0, false, false, 2_097_151, NEVER, EMPTY),
-    (INPUT_LIMIT, 0, false, false, 2_097_152, NEVER, SimFault::CannotRead),
-    (INPUT_LIMIT, 0, false, false, u32::MAX, NEVER, SimFault::CannotRead),
-    (INPUT_LIMIT, 1, false, true, 0, NEVER, SimFault::CannotRead),
+    (INPUT_LIMIT, 0, false, false, 2_097_152, NEVER, UNREAD),
+    (INPUT_LIMIT, 0, false, false, u32::MAX, NEVER, UNREAD),
+    (INPUT_LIMIT, 1, false, true, 0, NEVER, UNREAD),
     (4, 4, false, false, 0, NEVER, LAST),
-    (4, 5, false, false, 0, NEVER, SimFault::InputTooLong),
+    (4, 5, false, false, 0, NEVER, LONG),
     (4, 0, false, false, 7, NEVER, EMPTY),
-    (4, 0, false, false, 8, NEVER, SimFault::CannotRead),
+    (4, 0, false, false, 8, NEVER, UNREAD),
     // no limit but memory
     (NEVER, 1_048_577, false, false, 0, NEVER, LAST),
 ];

@@ -96,7 +96,14 @@ fn served(
         held: Vec::new(alloc),
         room,
     };
-    let result = serve_outcomes(alloc, &Unwatched, INPUT_LIMIT, most, &mut input, &mut output);
+    let result = serve_outcomes(
+        alloc,
+        &Unwatched,
+        INPUT_LIMIT,
+        most,
+        &mut input,
+        &mut output,
+    );
     (output.held, result)
 }
 

@@ -53,7 +53,14 @@ fn a_load_has_five_states(rt: HostRuntime) -> Result<(), Fail> {
 #[test]
 fn a_page_of_too_many_states_is_refused(rt: HostRuntime) -> Result<(), Fail> {
     let mut input = LOAD.as_bytes();
-    let result = serve_play(rt.alloc(), &Unwatched, INPUT_LIMIT, 4, &mut input, &mut sink());
+    let result = serve_play(
+        rt.alloc(),
+        &Unwatched,
+        INPUT_LIMIT,
+        4,
+        &mut input,
+        &mut sink(),
+    );
     assert_eq!(rt; result.err(), Some(RaceFault::TooManyStates));
     Ok(())
 }
