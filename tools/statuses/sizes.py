@@ -95,6 +95,8 @@ CASES = [
     *((["script"], script, 0, text, "") for script, text in map(visits, NODES)),
     *((["script"], *it) for it in LARGEST),
     *(([command, "--large", *options], *it) for (command, *options), *it in LARGER),
+    # `rest` costs what it changes: a look at each node of each line would take minutes
+    (["script"], "memory 1024 1024\n" + "rest\n" * 150_000, 0, "", ""),
     (["script"], NAMED, 0, ITS_NAMES, ""),
     (["trace"], NAMED, 0, Traced(ITS_NAMES), ""),
     (["trace", "--page"], NAMED, 0, Page(ITS_NAMES), ""),
