@@ -57,7 +57,7 @@ impl fmt::Display for Part {
             Part::Number { low, high } => write!(f, "a number from {low} to {high}"),
             Part::Space => f.write_str("a space"),
             Part::Value => f.write_str("a space and a number"),
-            Part::Event => f.write_str("an event"),
+            Part::Event => f.write_str("an event and a space"),
             Part::Tag => f.write_str("a tag"),
             Part::Link => f.write_str("a node or none"),
             Part::Bracket => f.write_str(") and a space"),

@@ -83,7 +83,7 @@ its picture, #all up to 200 pictures. A faulty script has no page.";
 pub const OUTCOMES: &str = "\
 Takes the calls that a script leaves open through every order of their turns.
 
-Prints `states N`, the first among them; `outcomes N`; and each outcome behind an empty line: what the calls'
+Prints `states N`, how many there are; `outcomes N`; and each outcome behind an empty line: what the calls'
 ends print, by node, the list of each line, and a shortest order of turns that leads there: put behind the script, they lead `script`
 to it. An order that never ends has no outcome.
 
@@ -182,7 +182,7 @@ A log, of a run's events in their order:
 Prints `follows`, or `line K: WHY`, where no lawful line answers so: not in turn; another word stood there; another line is answered; it
 can't end so.
 
-Refusals; nothing is printed:
+Refusals; nothing is printed, with --large the lists before:
    7  memory ran out
   16  a faulty line of a log
   17  no such node or line, in a log

@@ -144,15 +144,13 @@ fn scisim<T: Threads + Wait + Eprint + Sync>(
             let Some((name, options)) = matches.subcommand() else {
                 return Ok(ExitCode::from(2));
             };
+            let is_large = options.get_flag("large");
             let place = Place {
                 rt,
                 threads,
-                limit: if options.get_flag("large") {
-                    usize::MAX
-                } else {
-                    INPUT_LIMIT
-                },
-                why: is_shown || options.get_flag("why"),
+                limit: if is_large { usize::MAX } else { INPUT_LIMIT },
+                // a reason keeps the text: of a large one only where it is asked for
+                why: options.get_flag("why") || (is_shown && !is_large),
             };
             served(&place, name, options)?;
             Ok(ExitCode::SUCCESS)
