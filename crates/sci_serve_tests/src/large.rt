@@ -107,7 +107,7 @@ fn refuses(rt: &impl Abort, alloc: Global) -> Result<(), Fail> {
     Ok(())
 }
 
-/// With ample memory it passes.
+/// Growths: 11 of serve_check_large.
 #[test]
 fn refused_growths(rt: HostRuntime) -> Result<(), Fail> {
     refuses(&rt, rt.alloc())
