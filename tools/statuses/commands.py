@@ -102,5 +102,7 @@ WORDS = 1900
 AT_TERMINAL = [
     (["script"], refused("16 at line 1") + "memory wanted first\n"),
     (["outcomes", "bad"], refused("17 at line 1") + "word 2: a number from 1 to 1024 wanted\n"),
+    # of a large one only where it is asked for
+    (["script", "--large"], refused("16 at line 1")),
     (["check", "missing"], READ + "missing: no such file\n"),
 ]

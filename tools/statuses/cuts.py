@@ -1,14 +1,16 @@
 """Inputs that can't be read on behind each byte, or that don't end; outputs that fill at each byte; and each front of a script."""
 
-from dumps import DUMP, LAWFUL
+from dumps import DUMP, LAWFUL, large_dump
 from histories import counted
 from kinds import READ, WRITE
-from kinds import Broken, Filled, refused
+from kinds import Broken, Filled, Little, refused
 from runs import ALONE, ALONE_COUNTED
 from scripts import ROW, TEXT
 
 # A command that reads, its input, and its text.
 SERVED = [("script", ROW, TEXT), ("run", ALONE, ALONE_COUNTED), ("run --history", ALONE, counted(3)), ("check", DUMP, LAWFUL)]
+# A dump of two lines, whose lists are told once the line of text behind each is read.
+LINES, THEIR_LISTS = large_dump(2, 2, 2)
 READER = "memory 1 1\nload 0 0 0\ndone 0\n"
 TRACED = (
     "# node 0 line 0 load: Queue(none) Done; Queueing(none); HOME\n"
@@ -32,6 +34,12 @@ def fills(command, given, text):
     ]
 
 
+def told(end):
+    """What is told of the first bytes of the dump of two lines."""
+    rows = LINES[:end].count("\n")
+    return "".join(THEIR_LISTS.splitlines(keepends=True)[: (rows >= 5) + (rows >= 8)])
+
+
 def front(end):
     """What is said of a script's first bytes: its commands are whole, or the last is cut and nothing is printed."""
     *whole, last = ROW[:end].split("\n")
@@ -44,7 +52,9 @@ def front(end):
 
 CASES = [
     *(it for command, given, _ in SERVED for it in breaks(command, given)),
-    *(it for command, given, text in [*SERVED, ("trace", READER, TRACED)] for it in fills(command, given, text)),
+    *(it for command, given, text in [*SERVED, ("trace", READER, TRACED), ("check --large", LINES, THEIR_LISTS)] for it in fills(command, given, text)),
+    *((["check", "--large"], Broken(LINES[:end]), 1, told(end), READ) for end in range(len(LINES) + 1)),
+    (["check", "--large"], Little("x" * 30_000_000), 1, "", refused("7")),
     *((command.split(), Broken(ROW), 1, "", READ) for command in ("trace", "trace --page")),
     *((["script"], ROW[:end], *front(end)) for end in range(len(ROW))),
     # what isn't read to its end is told before what it is

@@ -95,8 +95,9 @@ CASES = [
     *((["script"], script, 0, text, "") for script, text in map(visits, NODES)),
     *((["script"], *it) for it in LARGEST),
     *(([command, "--large", *options], *it) for (command, *options), *it in LARGER),
-    # `rest` costs what it changes: a look at each node of each line would take minutes
+    # `rest` costs what it changes: a look at each node of each line would take minutes, also where each line was used
     (["script"], "memory 1024 1024\n" + "rest\n" * 150_000, 0, "", ""),
+    (["script"], NAMED.removesuffix("residents 1023\n") + "rest\n" * 100_000, 0, 1024 * "node 1023 read 0 stamp 0\n", ""),
     (["script"], NAMED, 0, ITS_NAMES, ""),
     (["trace"], NAMED, 0, Traced(ITS_NAMES), ""),
     (["trace", "--page"], NAMED, 0, Page(ITS_NAMES), ""),
