@@ -193,4 +193,5 @@ def wrong(run, text):
         said = run(*words)
         if said != wanted:
             return f"{words}: {said}, and not {wanted}"
-    return ""
+    whole, large = (run("check", "--why", *words)[2] for words in ([], ["--large"]))
+    return "" if whole == large or len(text) > LIMIT else f"the reason with --large is {large}, and not {whole}"

@@ -140,7 +140,7 @@ async function alone() {
   expect(getComputedStyle(one("#picture")).display === "none", "the grid isn't alone");
   for (let i = 0; i < turn; i += 1) await press("PageDown");
   expect(location.hash === "#grid=" + turn && (one("#grid tr.on") || { dataset: {} }).dataset.at === String(turn), `alone it marks ${location.hash}`);
-  await press("g");
+  await press("G"); // as under caps lock
   look(turn);
 }
 

@@ -87,7 +87,16 @@ CASES = [
     (["check", "--why"], BROKEN["H5"], 3, "line 0 breaks H5\n", ""),
     (["check", "--why"], DEPARTS, 3, "line 3: not in turn\n", ""),
     (["check", "--why"], UNREAD_LOG, 1, "", Begins(refused("17 at line 3"))),
-    (["check", "--why"], "", 1, "", Begins(refused("21 at line 1"))),
+    *((["check", "--why", *large], "", 1, "", refused("21 at line 1") + "an early end: scidump 1 or 2 wanted\n") for large in ([], ["--large"])),
+    *(
+        (["check", "--why", *large], text, 1, "", refused("21 at line 1") + why + "\n")
+        for text, why in [
+            ("x" * 1024, "scidump 1 or 2 wanted"),
+            ("scidump 2 3 1" + " " * 1010, "4 words wanted, 1014 found"),
+            ("scidump 2 3 1" + " " * 1011, "fewer than 1024 bytes wanted"),
+        ]
+        for large in ([], ["--large"])
+    ),
     (["check", "--why"], AT_LIMIT + "x", 1, "", refused("23")),
     (["check", "--why"], HISTORY[:-1], 1, "", Begins(refused("21 at line 7"))),
     (["check", "--why"], Little(HISTORY.replace("end\n", "read 1 1 7 0 0 0 0 0 0 0\n" * 500_000 + "end\n")), 1, "", refused("7")),
@@ -102,7 +111,8 @@ WORDS = 1900
 AT_TERMINAL = [
     (["script"], refused("16 at line 1") + "memory wanted first\n"),
     (["outcomes", "bad"], refused("17 at line 1") + "word 2: a number from 1 to 1024 wanted\n"),
-    # of a large one only where it is asked for
+    # of a large script only where it is asked for
     (["script", "--large"], refused("16 at line 1")),
+    (["check", "--large"], refused("21 at line 1") + "an early end: scidump 1 or 2 wanted\n"),
     (["check", "missing"], READ + "missing: no such file\n"),
 ]

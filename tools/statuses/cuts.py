@@ -54,7 +54,8 @@ CASES = [
     *(it for command, given, _ in SERVED for it in breaks(command, given)),
     *(it for command, given, text in [*SERVED, ("trace", READER, TRACED), ("check --large", LINES, THEIR_LISTS)] for it in fills(command, given, text)),
     *((["check", "--large"], Broken(LINES[:end]), 1, told(end), READ) for end in range(len(LINES) + 1)),
-    (["check", "--large"], Little("x" * 30_000_000), 1, "", refused("7")),
+    # of a line that is longer than any row no more is kept
+    (["check", "--large"], Little("x" * 30_000_000), 1, "", refused("21 at line 1")),
     *((command.split(), Broken(ROW), 1, "", READ) for command in ("trace", "trace --page")),
     *((["script"], ROW[:end], *front(end)) for end in range(len(ROW))),
     # what isn't read to its end is told before what it is

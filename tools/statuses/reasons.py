@@ -96,6 +96,12 @@ LOGS = [
     ("memory 4 3\nnode 0 line 0 Look Done 1 2 3 4 x 6 7 8 9\n", "16 at line 2", "column 33: a number from 0 to 18446744073709551615 wanted"),
     ("memory 4 3\nnode 0 line 0 Look Missed 12\n", "16 at line 2", "column 27: 16 hexadecimal digits in lower case wanted"),
     ("memory 4 3\nnode 0 line 0 Look Busy \n", "16 at line 2", "column 24: the end of the line wanted"),
+    # of a faulty line what lacks is told, whatever its numbers are
+    ("memory 1025 x\n", "16 at line 1", "column 13: a number from 1 to 1024 wanted"),
+    ("memory 4 3\nopen 3 0 0 0 0 0 0 0 0\n", "16 at line 2", "column 23: a space and a number wanted"),
+    ("memory 4 3\nnode 4 line 3 Loop Done\n", "16 at line 2", "column 15: an event and a space wanted"),
+    ("memory 4 3\nnode 4 line 3 AttachFresh(4 FRESH) Done\n", "16 at line 2", "column 29: a tag wanted"),
+    ("memory 4 3\nnode 4 line 3 AttachFresh(4 INVALID) Done\n", "17 at line 2", "column 6: a number from 0 to 3 wanted"),
 ]
 
 ONE, ONE_TEXT = "memory 1 1\nload 0 0 0\nload 0 0 0\n", "16 at line 3"

@@ -19,3 +19,5 @@ pub mod DumpsBack
 pub mod Dumpable
 pub mod Lines
 pub mod Streaming
+pub mod TextLines
+pub mod Widths

@@ -52,7 +52,7 @@ module _ (layout : Layout) where
       (then_read (mem_of layout (mem_code_in layout m)) _ m found (mem_own layout m formed links) (then_read (content_at four) _ (line, rest) found (content_own line rest is) refl))))))
 
   -- what stands behind `tag L N `
-  node_own : (number node : ℕ) (rest : List ℕ) → number < 2 ^ 64 → node < 2 ^ 64 → node_at number node (codes "tag " ++ (decimal number ++ (codes " " ++ (decimal node ++ (codes " " ++ rest))))) ≡ Some rest
+  pub node_own : (number node : ℕ) (rest : List ℕ) → number < 2 ^ 64 → node < 2 ^ 64 → node_at number node (codes "tag " ++ (decimal number ++ (codes " " ++ (decimal node ++ (codes " " ++ rest))))) ≡ Some rest
   unfolding node_at
   node_own number node rest small few =
       let four : List ℕ = codes " " ++ rest in

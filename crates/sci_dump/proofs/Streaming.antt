@@ -1,8 +1,11 @@
 -- A dump is read line of text by line of text as the whole of its text.
-use Rattle.std.proofs.Common.{◌≡◌, ◌⊎◌, ℕ, suc, ◌+◌, ◌-◌, ◌<◌, ◌==◌, List, [], ◌∷◌, ◌++◌, length, Option, Some, None, IfSome, Result, Ok, Err, refl, sym, ap, subst, ◌∙◌, arith, codes, append_assoc, append-nil, length-append, take, drop, slice_index, slice_index_or, inl, inr, eqb-true, decimal}
-use Rattle.std.specs.Io.BufRead.{take_through, drop_through}
+use Rattle.std.proofs.Common.{◌≡◌, ◌⊎◌, ℕ, zero, suc, ◌+◌, ◌-◌, ◌<◌, ◌≤◌, ◌==◌, true, false, List, [], ◌∷◌, ◌++◌, length, Option, Some, None, IfSome, Result, Ok, Err, refl, sym, ap, subst, ◌∙◌, arith, codes, append_assoc, append-nil, length-append, take, drop, slice_index, slice_index_or, inl, inr, eqb-true, eq-eqb, decimal, length-take, take-take, take-append-drop}
+use Rattle.std.specs.Io.BufRead.{take_through}
+use Rattle.std.specs.Io.KnownBytes.{IsAtEnd}
 use Rattle.std.proofs.BufReadLemmas.{take_through-nil, take_through_nonempty}
 use Rattle.std.proofs.lemmas.Bool.{cases_Bool}
+use Rattle.std.proofs.lemmas.List.{length-take-le}
+use Rattle.std.proofs.Math.Seq.{take-append-add, drop-append_seam, drop-length}
 use Rattle.sci_words.specs.declared.layouts.Layout.{Layout}
 use Rattle.sci_words.specs.declared.memory.Mem.{Mem}
 use Rattle.sci_words.specs.declared.tags.Tag.{Tag}
@@ -15,24 +18,42 @@ use Rattle.sci_dump.specs.declared.refusals.DumpRefusal.TheVariants as refusals
 use Rattle.sci_dump.specs.declared.streams.StreamFault.{StreamFault}
 use Rattle.sci_dump.specs.declared.streams.StreamFault.TheVariants.{OutOfMemory, CannotRead, DumpFault}
 use Rattle.sci_dump.specs.declared.dumps.DumpStream.{DumpStream}
+use Rattle.sci_dump.specs.declared.places.DumpRow.{DumpRow}
 use Rattle.sci_dump.specs.Dumps.{DumpLines}
 use Rattle.sci_dump.specs.Reading.{◌>>>◌, behind, memory_at, node_at, tag_at, found_on, entry_at, entries_at, head_at, closed_at, lines_at, ended, end_at, dump_of}
 use Rattle.sci_dump.specs.Text.{hexadecimal, values_text, content_text, memory_text, head_text, layout_label}
-use Rattle.sci_dump.specs.Streams.{Holds, IsOutside, StopsAt, sound_from, sound_lines, HasRead, StopsBehind}
-use Rattle.sci_dump.proofs.Inverting.{both_ok, some_of, ok_of, behind_text}
+use Rattle.sci_dump.specs.Streams.{Holds, IsOutside, StopsAt, lines_before_fault_from, lines_before_fault, HasRead, StopsBehind}
+use Rattle.sci_dump.proofs.Inverting.{both_ok, some_of, not_none, ok_of, behind_text}
+use Rattle.sci_dump.proofs.RowsBack.{node_own}
+use Rattle.sci_dump.proofs.TextLines.{through_front, through_few}
+use Rattle.sci_dump.proofs.Widths.{memory_width, tag_width, node_width, head_width}
 use Rattle.sci_dump.proofs.RowTexts.{memory_read, node_read, tag_read, tag_on_some, head_read}
 use Rattle.sci_dump.proofs.FieldsBack.{whole_front}
 use Rattle.sci_dump.proofs.Looping.{Lines, with_lines, no_lines}
 use Rattle.sci_dump.proofs.Lines.{with_more, more_text, more_two, more_three, memory_ends, entry_ends, head_ends, end_ends}
 
--- a text's first line ends with its first line feed, or is all of it
-split : (text : List ℕ) → ((s : List ℕ) × (take_through 10 text ≡ s ++ 10 ∷ []) × (text ≡ s ++ 10 ∷ drop_through 10 text)) ⊎ ((take_through 10 text ≡ text) × (drop_through 10 text ≡ []))
-split [] = inr (refl, refl)
-split (x ∷ xs) = elim (cases_Bool (x == 10)) [
-  | inl y ↦ let e : x ≡ 10 = eqb-true x 10 y in rw y (inl ([], ap (λ (z : ℕ). z ∷ []) e, ap (λ (z : ℕ). z ∷ xs) e))
-  | inr n ↦ rw n (elim (split xs) [
-    | inl s ↦ inl (x ∷ s.0, ap (λ (zs : List ℕ). x ∷ zs) s.1, ap (λ (zs : List ℕ). x ∷ zs) s.2)
-    | inr s ↦ inr (ap (λ (zs : List ℕ). x ∷ zs) s.0, s.1)
+-- no line feed stands in so many bytes
+abbrev NoFeedWithin : ℕ → List ℕ → Type 0
+NoFeedWithin k text = (u rest : List ℕ) → text ≡ u ++ 10 ∷ rest → k ≤ length u
+
+no_feed : (k x : ℕ) (xs : List ℕ) → (x == 10) ≡ false → NoFeedWithin k xs → NoFeedWithin (suc k) (x ∷ xs)
+no_feed k x xs other none [] rest e = absurd (let f : (x == 10) ≡ true = eq-eqb x 10 (ap (λ (zs : List ℕ). slice_index zs 0) e) in cc)
+no_feed k x xs other none (z ∷ u) rest e = omega (arith, none u rest (ap (drop 1) e))
+
+-- of a text's first bytes its first line ends with its first line feed, or is all of the text, or all of those
+split : (k : ℕ) (text : List ℕ) → ((s : List ℕ) × (rest : List ℕ) × (take_through 10 (take k text) ≡ s ++ 10 ∷ []) × (text ≡ s ++ 10 ∷ rest))
+    ⊎ ((take_through 10 (take k text) ≡ text) ⊎ ((take_through 10 (take k text) ≡ take k text) × (k ≤ length text) × NoFeedWithin k text))
+split zero [] = inr (inl refl)
+split zero (x ∷ xs) = inr (inr (refl, omega arith, λ u rest e. omega arith))
+split (suc k) [] = inr (inl refl)
+split (suc k) (x ∷ xs) = elim (cases_Bool (x == 10)) [
+  | inl y ↦ let e : x ≡ 10 = eqb-true x 10 y in rw y (inl ([], xs, ap (λ (z : ℕ). z ∷ []) e, ap (λ (z : ℕ). z ∷ xs) e))
+  | inr n ↦ rw n (elim (split k xs) [
+    | inl s ↦ inl (x ∷ s.0, s.1, ap (λ (zs : List ℕ). x ∷ zs) s.2, ap (λ (zs : List ℕ). x ∷ zs) s.3)
+    | inr t ↦ inr (elim t [
+      | inl all ↦ inl (ap (λ (zs : List ℕ). x ∷ zs) all)
+      | inr cut ↦ inr (ap (λ (zs : List ℕ). x ∷ zs) cut.0, omega (arith, cut.1), no_feed k x xs n cut.2)
+    ])
   ])
 ]
 
@@ -54,117 +75,195 @@ with_nothing g None same = refl
 
 -- what a part reads of the first line it reads of the text
 line_reads : {X : Type 0} (add : List ℕ → X → X) (P : List ℕ → Option X) → ((m s : List ℕ) → P (s ++ 10 ∷ m) ≡ with_more (add m) (P (s ++ 10 ∷ []))) → ((x : X) → add [] x ≡ x)
-    → (text line : List ℕ) (r : Option X) → line ≡ take_through 10 text → P line ≡ r → P text ≡ with_more (add (drop_through 10 text)) r
-line_reads {X} add P ends none text line r held is =
-    let here : P (take_through 10 text) ≡ r = ap P (sym held) ∙ is in
-    elim (split text) [
-      | inl s ↦ ap P s.2 ∙ ends (drop_through 10 text) s.0 ∙ ap (λ (xs : List ℕ). with_more (add (drop_through 10 text)) (P xs)) (sym s.1) ∙ ap (with_more (add (drop_through 10 text))) here
-      | inr s ↦ ap P (sym s.0) ∙ here ∙ sym (with_nothing (add []) r none) ∙ ap (λ (xs : List ℕ). with_more (add xs) r) (sym s.1)
+    → ((text : List ℕ) → 1024 ≤ length text → NoFeedWithin 1024 text → P text ≡ with_more (add (drop 1024 text)) (P (take 1024 text)))
+    → (text line : List ℕ) (r : Option X) → line ≡ take_through 10 (take 1024 text) → P line ≡ r → P text ≡ with_more (add (drop (length line) text)) r
+line_reads {X} add P ends none cuts text line r held is =
+    let here : P (take_through 10 (take 1024 text)) ≡ r = ap P (sym held) ∙ is in
+    elim (split 1024 text) [
+      | inl (s, rest, front, whole) ↦
+          let left : drop (length line) text ≡ rest =
+          ap (λ (xs : List ℕ). drop (length xs) text) (held ∙ front) ∙ ap (drop (length (s ++ 10 ∷ []))) (whole ∙ sym (append_assoc s (10 ∷ []) rest)) ∙ drop-append_seam (s ++ 10 ∷ []) rest in
+          ap P whole ∙ ends rest s ∙ ap (λ (xs : List ℕ). with_more (add rest) (P xs)) (sym front) ∙ ap (with_more (add rest)) here ∙ ap (λ (xs : List ℕ). with_more (add xs) r) (sym left)
+      | inr t ↦ elim t [
+        | inl all ↦
+            let left : drop (length line) text ≡ [] = ap (λ (xs : List ℕ). drop (length xs) text) (held ∙ all) ∙ drop-length text in
+            ap P (sym all) ∙ here ∙ sym (with_nothing (add []) r none) ∙ ap (λ (xs : List ℕ). with_more (add xs) r) (sym left)
+        | inr (front, long, feedless) ↦
+            let left : drop (length line) text ≡ drop 1024 text = ap (λ (xs : List ℕ). drop (length xs) text) (held ∙ front) ∙ ap (λ (k : ℕ). drop k text) (length-take-le 1024 text long) in
+            cuts text long feedless ∙ ap (λ (xs : List ℕ). with_more (add (drop 1024 text)) (P xs)) (sym front) ∙ ap (with_more (add (drop 1024 text))) here ∙ ap (λ (xs : List ℕ). with_more (add xs) r) (sym left)
+      ]
     ]
 
-content_last : (front text rest : List ℕ) (word : ℕ) (line : Line) → take_through 10 text ≡ front ++ (content_text word line ++ rest) → rest ≡ []
-content_last front text rest word line e =
+is_none : {X : Type 0} (o : Option X) → ((x : X) → o ≡ Some x → ⊥) → o ≡ None
+is_none (Some x) never = absurd (never x refl)
+is_none None never = refl
+
+-- in what is cut there is no line feed either
+no_feed_cut : (text : List ℕ) → NoFeedWithin 1024 text → NoFeedWithin 1024 (take 1024 text)
+no_feed_cut text feedless u rest e = feedless u (rest ++ drop 1024 text) (sym (take-append-drop 1024 text) ∙ ap (λ (xs : List ℕ). xs ++ drop 1024 text) e ∙ append_assoc u (10 ∷ rest) (drop 1024 text))
+
+-- a row with a line feed in its first bytes isn't read where there is none
+none_cut : {X : Type 0} (add : List ℕ → X → X) (P : List ℕ → Option X) (rest : X → List ℕ) → ((text : List ℕ) (x : X) → P text ≡ Some x → (u : List ℕ) × (text ≡ u ++ 10 ∷ rest x) × (length u < 1024))
+    → (text : List ℕ) → 1024 ≤ length text → NoFeedWithin 1024 text → P text ≡ with_more (add (drop 1024 text)) (P (take 1024 text))
+none_cut {X} add P rest within text long feedless =
+    let whole : P text ≡ None = is_none (P text) (λ x h. let (u, e, few) = within text x h in omega (arith, few, feedless u (rest x) e)) in
+    let cut : P (take 1024 text) ≡ None = is_none (P (take 1024 text)) (λ x h. let (u, e, few) = within (take 1024 text) x h in omega (arith, few, no_feed_cut text feedless u (rest x) e)) in
+    whole ∙ ap (with_more (add (drop 1024 text))) (sym cut)
+
+content_ended : (front text rest : List ℕ) (word : ℕ) (line : Line) → text ≡ front ++ (content_text word line ++ rest) → (u : List ℕ) × (text ≡ u ++ 10 ∷ rest)
+content_ended front text rest word line e =
     let whole : front ++ (content_text word line ++ rest) ≡ (front ++ hexadecimal 16 word ++ values_text (line.stamp ∷ line.words)) ++ 10 ∷ rest = simp append_assoc in
-    through_last (front ++ hexadecimal 16 word ++ values_text (line.stamp ∷ line.words)) rest text (e ∙ whole)
+    (front ++ hexadecimal 16 word ++ values_text (line.stamp ∷ line.words), e ∙ whole)
 
 apart : (a b c d rest : List ℕ) → (a ++ b ++ c ++ d) ++ rest ≡ (a ++ b ++ c) ++ (d ++ rest)
 apart a b c d rest = simp append_assoc
 
-joined : (text : List ℕ) → take_through 10 text ++ drop_through 10 text ≡ text
-joined [] = refl
-joined (x ∷ xs) = elim (cases_Bool (x == 10)) [ inl y ↦ rw y refl | inr n ↦ rw n (ap (λ (zs : List ℕ). x ∷ zs) (joined xs)) ]
+joined : (text line : List ℕ) → line ≡ take_through 10 (take 1024 text) → line ++ drop (length line) text ≡ text
+joined text line held =
+    let front : line ≡ take (length line) (take 1024 text) = held ∙ through_front (take 1024 text) ∙ ap (λ (xs : List ℕ). take (length xs) (take 1024 text)) (sym held) in
+    let few : length line ≤ 1024 = omega (arith, ap length held, through_few (take 1024 text), length-take 1024 text) in
+    ap (λ (xs : List ℕ). xs ++ drop (length line) text) (front ∙ take-take (length line) 1024 text few) ∙ take-append-drop (length line) text
 
 -- the next line of text is held
-pub next_holds : (had left : Option (List ℕ)) (line next text : List ℕ) → Holds line had text → IfSome had (Holds next left) → Holds next left (drop_through 10 text)
+pub next_holds : (had left : Option (List ℕ)) (line next text : List ℕ) → Holds line had text → IfSome had (Holds next left) → Holds next left (drop (length line) text)
 next_holds had left line next text h took = subst (λ (o : Option (List ℕ)). IfSome o (Holds next left)) h.1 took
 
 pub outside : {Y : Type 0} (e : StreamFault) (read : Result Y DumpRefusal) → IsOutside e → StopsAt e read
 outside OutOfMemory read h = tt
 outside CannotRead read h = tt
-outside (DumpFault n) read h = absurd h
+outside (DumpFault row) read h = absurd h
 
 -- a fault of a part is that of the whole
 through : {A B : Type 0} (e : StreamFault) (read : Result A DumpRefusal) (total : Result B DumpRefusal) → StopsAt e read → ((n : ℕ) → read ≡ Err (refusals.DumpFault n) → total ≡ Err (refusals.DumpFault n)) → StopsAt e total
 through OutOfMemory read total h f = tt
 through CannotRead read total h f = tt
-through (DumpFault n) read total h f = f n h
+through (DumpFault row) read total h f = f row.number h
 
 module _ (l : Layout) where
   more_two_none : {A B : Type 0} (x : A × B × List ℕ) → more_two [] x ≡ x
   more_two_none x = ap (λ (xs : List ℕ). (x.0, x.1, xs)) (append-nil x.2)
 
-  memory_last : (number : ℕ) (text line rest : List ℕ) (m : Mem) (home : Line) → line ≡ take_through 10 text → memory_at l number line ≡ Some (m, home, rest) → rest ≡ []
+  memory_ended : (number : ℕ) (text : List ℕ) (x : Mem × Line × List ℕ) → memory_at l number text ≡ Some x → (u : List ℕ) × (text ≡ u ++ 10 ∷ x.2) × (length u < 1024)
   unfolding memory_text
-  memory_last number text line rest m home held is =
-      content_last (codes "line " ++ decimal number ++ codes " ") text rest (mem_code_in l m) home
-      (sym held ∙ memory_read l number line rest m home is ∙ apart (codes "line ") (decimal number) (codes " ") (content_text (mem_code_in l m) home) rest)
+  memory_ended number text x is =
+      let (u, e) = content_ended (codes "line " ++ decimal number ++ codes " ") text x.2 (mem_code_in l x.0) x.1
+      (memory_read l number text x.2 x.0 x.1 is ∙ apart (codes "line ") (decimal number) (codes " ") (content_text (mem_code_in l x.0) x.1) x.2) in
+      (u, e, omega (arith, memory_width l number text x is, ap length e, length-append u (10 ∷ x.2)))
 
-  pub memory_line : (number : ℕ) (text line rest : List ℕ) (m : Mem) (home : Line) → line ≡ take_through 10 text → memory_at l number line ≡ Some (m, home, rest) → memory_at l number text ≡ Some (m, home, drop_through 10 text)
+  memory_reads : (number : ℕ) (text line : List ℕ) (r : Option (Mem × Line × List ℕ)) → line ≡ take_through 10 (take 1024 text) → memory_at l number line ≡ r → memory_at l number text ≡ with_more (more_two (drop (length line) text)) r
+  memory_reads number text line r held is =
+      line_reads more_two (memory_at l number) (λ m s. memory_ends m l number s) more_two_none (none_cut more_two (memory_at l number) (λ x. x.2) (memory_ended number)) text line r held is
+
+  pub memory_line : (number : ℕ) (text line rest : List ℕ) (m : Mem) (home : Line) → line ≡ take_through 10 (take 1024 text) → memory_at l number line ≡ Some (m, home, rest) → memory_at l number text ≡ Some (m, home, drop (length line) text)
   memory_line number text line rest m home held is =
-      line_reads more_two (memory_at l number) (λ m s. memory_ends m l number s) more_two_none text line (Some (m, home, rest)) held is
-      ∙ ap (λ (xs : List ℕ). Some (m, home, xs ++ drop_through 10 text)) (memory_last number text line rest m home held is)
+      let (u, e, _) = memory_ended number line (m, home, rest) is in
+      memory_reads number text line (Some (m, home, rest)) held is
+      ∙ ap (λ (xs : List ℕ). Some (m, home, xs ++ drop (length line) text)) (through_last u rest (take 1024 text) (sym held ∙ e))
 
   -- a closed line that has no first line
-  pub no_closed_line : (number nodes n : ℕ) (text line : List ℕ) → line ≡ take_through 10 text → memory_at l number line ≡ None → closed_at l number nodes n text ≡ Err (refusals.DumpFault n)
+  pub no_closed_line : (number nodes n : ℕ) (text line : List ℕ) → line ≡ take_through 10 (take 1024 text) → memory_at l number line ≡ None → closed_at l number nodes n text ≡ Err (refusals.DumpFault n)
   unfolding closed_at
   no_closed_line number nodes n text line held is =
-      let none : memory_at l number text ≡ None = line_reads more_two (memory_at l number) (λ m s. memory_ends m l number s) more_two_none text line None held is in
+      let none : memory_at l number text ≡ None = memory_reads number text line None held is in
       rw none refl
 
   -- one whose nodes are at fault
-  pub closed_stops : (e : StreamFault) (number nodes n : ℕ) (text line rest : List ℕ) (m : Mem) (home : Line) → line ≡ take_through 10 text → memory_at l number line ≡ Some (m, home, rest)
-      → StopsAt e (entries_at l number 0 nodes (n + 1) (drop_through 10 text)) → StopsAt e (closed_at l number nodes n text)
+  pub closed_stops : (e : StreamFault) (number nodes n : ℕ) (text line rest : List ℕ) (m : Mem) (home : Line) → line ≡ take_through 10 (take 1024 text) → memory_at l number line ≡ Some (m, home, rest)
+      → StopsAt e (entries_at l number 0 nodes (n + 1) (drop (length line) text)) → StopsAt e (closed_at l number nodes n text)
   unfolding closed_at
   closed_stops e number nodes n text line rest m home held is stops =
-      through e (entries_at l number 0 nodes (n + 1) (drop_through 10 text)) (closed_at l number nodes n text) stops (λ k at. rw (memory_line number text line rest m home held is) (rw at refl))
+      through e (entries_at l number 0 nodes (n + 1) (drop (length line) text)) (closed_at l number nodes n text) stops (λ k at. rw (memory_line number text line rest m home held is) (rw at refl))
 
-  pub closed_all : (number nodes n k : ℕ) (text line rest left : List ℕ) (m : Mem) (home : Line) (tags : List Tag) (lines : List Line) → line ≡ take_through 10 text → memory_at l number line ≡ Some (m, home, rest)
-      → entries_at l number 0 nodes (n + 1) (drop_through 10 text) ≡ Ok (tags, lines, k, left)
+  pub closed_all : (number nodes n k : ℕ) (text line rest left : List ℕ) (m : Mem) (home : Line) (tags : List Tag) (lines : List Line) → line ≡ take_through 10 (take 1024 text) → memory_at l number line ≡ Some (m, home, rest)
+      → entries_at l number 0 nodes (n + 1) (drop (length line) text) ≡ Ok (tags, lines, k, left)
       → closed_at l number nodes n text ≡ Ok (record { mem = m; memory = home; tags = tags; lines = lines }, k, left)
   unfolding closed_at
   closed_all number nodes n k text line rest left m home tags lines held is all = rw (memory_line number text line rest m home held is) (rw all refl)
 
   -- a node's row is all of the first line, or none of it
-  found_rest : (number node n : ℕ) (text line : List ℕ) (r : Option (List ℕ)) (x : Tag × Line × ℕ × List ℕ) → line ≡ take_through 10 text → node_at number node line ≡ r → found_on l n line r ≡ Some x → (x.3 ≡ []) ⊎ (x.3 ≡ line)
+  found_rest : (number node n : ℕ) (text line : List ℕ) (r : Option (List ℕ)) (x : Tag × Line × ℕ × List ℕ) → line ≡ take_through 10 (take 1024 text) → node_at number node line ≡ r → found_on l n line r ≡ Some x → (x.3 ≡ []) ⊎ (x.3 ≡ line)
   found_rest number node n text line None x held is h = inr (ap (λ (p : Tag × Line × ℕ × List ℕ). p.3) (sym (some_of (invalid, blank, n, line) x h)))
   found_rest number node n text line (Some row) x held is h =
       let front : List ℕ = codes "tag " ++ decimal number ++ codes " " ++ decimal node ++ codes " " in
       let read = tag_read l row x.3 x.0 x.1 (tag_on_some l n (tag_at l row) x h).0 in
-      inl (content_last front text x.3 (tag_code_in l x.0) x.1 (sym held ∙ node_read l number node line row is ∙ ap (λ (xs : List ℕ). front ++ xs) read.1))
+      let (u, e) = content_ended front line x.3 (tag_code_in l x.0) x.1 (node_read l number node line row is ∙ ap (λ (xs : List ℕ). front ++ xs) read.1) in
+      inl (through_last u x.3 (take 1024 text) (sym held ∙ e))
 
-  entry_rest : (number node n : ℕ) (text line : List ℕ) (x : Tag × Line × ℕ × List ℕ) → line ≡ take_through 10 text → entry_at l number node n line ≡ Some x → (x.3 ≡ []) ⊎ (x.3 ≡ line)
+  entry_rest : (number node n : ℕ) (text line : List ℕ) (x : Tag × Line × ℕ × List ℕ) → line ≡ take_through 10 (take 1024 text) → entry_at l number node n line ≡ Some x → (x.3 ≡ []) ⊎ (x.3 ≡ line)
   unfolding entry_at
   entry_rest number node n text line x held is = found_rest number node n text line (node_at number node line) x held refl is
 
   more_three_none : {A B C : Type 0} (x : A × B × C × List ℕ) → more_three [] x ≡ x
   more_three_none x = ap (λ (xs : List ℕ). (x.0, x.1, x.2, xs)) (append-nil x.3)
 
-  entry_reads : (number node n : ℕ) (text line : List ℕ) (r : Option (Tag × Line × ℕ × List ℕ)) → line ≡ take_through 10 text → entry_at l number node n line ≡ r → entry_at l number node n text ≡ with_more (more_three (drop_through 10 text)) r
-  entry_reads number node n text line r held is = line_reads more_three (entry_at l number node n) (λ m s. entry_ends m l number node n s) more_three_none text line r held is
+  -- the row of a node that isn't read where there is no line feed
+  no_tag : (number node : ℕ) (text row : List ℕ) → NoFeedWithin 1024 text → node_at number node text ≡ Some row → tag_at l row ≡ None
+  no_tag number node text row feedless is = is_none (tag_at l row) (λ x h.
+      let front : List ℕ = codes "tag " ++ decimal number ++ codes " " ++ decimal node ++ codes " " in
+      let read = tag_read l row x.2 x.0 x.1 h in
+      let (u, e) = content_ended front text x.2 (tag_code_in l x.0) x.1 (node_read l number node text row is ∙ ap (λ (xs : List ℕ). front ++ xs) read.1) in
+      omega (arith, feedless u x.2 e, ap length e, length-append u (10 ∷ x.2), (node_width number node text row is).0, tag_width l row x h))
 
-  pub no_entry_line : (number node n : ℕ) (text line : List ℕ) → line ≡ take_through 10 text → entry_at l number node n line ≡ None → entry_at l number node n text ≡ None
+  five_parts : (a b c d e rest : List ℕ) → (a ++ b ++ c ++ d ++ e) ++ rest ≡ a ++ (b ++ (c ++ (d ++ (e ++ rest))))
+  five_parts a b c d e rest = simp append_assoc
+
+  -- what stands in front of a node's row is read with any row behind it
+  node_again : (number node : ℕ) (text row other : List ℕ) → node_at number node text ≡ Some row → node_at number node ((codes "tag " ++ decimal number ++ codes " " ++ decimal node ++ codes " ") ++ other) ≡ Some other
+  node_again number node text row other is =
+      let (_, small, low) = node_width number node text row is in
+      ap (node_at number node) (five_parts (codes "tag ") (decimal number) (codes " ") (decimal node) (codes " ") other) ∙ node_own l number node other small low
+
+  found_cut : (number node n : ℕ) (text : List ℕ) (r o : Option (List ℕ)) → 1024 ≤ length text → NoFeedWithin 1024 text → node_at number node (take 1024 text) ≡ r → node_at number node text ≡ o
+      → found_on l n text o ≡ with_more (more_three (drop 1024 text)) (found_on l n (take 1024 text) r)
+  found_cut number node n text (Some row) o long feedless is whole =
+      let front : List ℕ = codes "tag " ++ decimal number ++ codes " " ++ decimal node ++ codes " " in
+      let other : List ℕ = row ++ drop 1024 text in
+      let e : text ≡ front ++ other = sym (take-append-drop 1024 text) ∙ ap (λ (xs : List ℕ). xs ++ drop 1024 text) (node_read l number node (take 1024 text) row is) ∙ append_assoc front row (drop 1024 text) in
+      let there : node_at number node text ≡ Some other = ap (node_at number node) e ∙ node_again number node (take 1024 text) row other is in
+      let none : tag_at l row ≡ None = no_tag number node (take 1024 text) row (no_feed_cut text feedless) is in
+      let neither : tag_at l other ≡ None = no_tag number node text other feedless there in
+      rw (sym whole ∙ there, none, neither) refl
+  found_cut number node n text None None long feedless is whole = ap (λ (xs : List ℕ). Some (invalid, blank, n, xs)) (sym (take-append-drop 1024 text))
+  found_cut number node n text None (Some row) long feedless is whole = absurd (
+      let front : List ℕ = codes "tag " ++ decimal number ++ codes " " ++ decimal node ++ codes " " in
+      let e : text ≡ front ++ row = node_read l number node text row whole in
+      let few : length front ≤ 46 = omega (arith, ap length e, length-append front row, (node_width number node text row whole).0) in
+      let most : 1024 ≡ length front + (1024 - length front) = omega (arith, few) in
+      let cut : take 1024 text ≡ front ++ take (1024 - length front) row = ap (take 1024) e ∙ ap (λ (k : ℕ). take k (front ++ row)) most ∙ take-append-add front row (1024 - length front) in
+      let some : node_at number node (take 1024 text) ≡ Some (take (1024 - length front) row) = ap (node_at number node) cut ∙ node_again number node text row (take (1024 - length front) row) whole in
+      not_none (take (1024 - length front) row) (sym is ∙ some))
+
+  entry_cut : (number node n : ℕ) (text : List ℕ) → 1024 ≤ length text → NoFeedWithin 1024 text → entry_at l number node n text ≡ with_more (more_three (drop 1024 text)) (entry_at l number node n (take 1024 text))
+  unfolding entry_at
+  entry_cut number node n text long feedless = found_cut number node n text (node_at number node (take 1024 text)) (node_at number node text) long feedless refl refl
+
+  entry_reads : (number node n : ℕ) (text line : List ℕ) (r : Option (Tag × Line × ℕ × List ℕ)) → line ≡ take_through 10 (take 1024 text) → entry_at l number node n line ≡ r → entry_at l number node n text ≡ with_more (more_three (drop (length line) text)) r
+  entry_reads number node n text line r held is =
+      line_reads more_three (entry_at l number node n) (λ m s. entry_ends m l number node n s) more_three_none (entry_cut number node n) text line r held is
+
+  pub no_entry_line : (number node n : ℕ) (text line : List ℕ) → line ≡ take_through 10 (take 1024 text) → entry_at l number node n line ≡ None → entry_at l number node n text ≡ None
   no_entry_line number node n text line held is = entry_reads number node n text line None held is
 
-  pub entry_line : (number node n : ℕ) (text line : List ℕ) (x : Tag × Line × ℕ × List ℕ) → line ≡ take_through 10 text → entry_at l number node n line ≡ Some x → length x.3 ≡ 0 → entry_at l number node n text ≡ Some (x.0, x.1, x.2, drop_through 10 text)
+  pub entry_line : (number node n : ℕ) (text line : List ℕ) (x : Tag × Line × ℕ × List ℕ) → line ≡ take_through 10 (take 1024 text) → entry_at l number node n line ≡ Some x → length x.3 ≡ 0 → entry_at l number node n text ≡ Some (x.0, x.1, x.2, drop (length line) text)
   entry_line number node n text line x held is none =
       let nil : x.3 ≡ [] = empty x.3 none in
-      entry_reads number node n text line (Some x) held is ∙ ap (λ (xs : List ℕ). Some (x.0, x.1, x.2, xs ++ drop_through 10 text)) nil
+      entry_reads number node n text line (Some x) held is ∙ ap (λ (xs : List ℕ). Some (x.0, x.1, x.2, xs ++ drop (length line) text)) nil
     where
       empty : (xs : List ℕ) → length xs ≡ 0 → xs ≡ []
       empty [] e = refl
       empty (y ∷ ys) e = absurd (omega (arith, e))
 
-  pub entry_kept : (number node n : ℕ) (text line : List ℕ) (x : Tag × Line × ℕ × List ℕ) → line ≡ take_through 10 text → entry_at l number node n line ≡ Some x → 0 < length x.3 → entry_at l number node n text ≡ Some (x.0, x.1, x.2, text)
+  pub entry_kept : (number node n : ℕ) (text line : List ℕ) (x : Tag × Line × ℕ × List ℕ) → line ≡ take_through 10 (take 1024 text) → entry_at l number node n line ≡ Some x → 0 < length x.3 → entry_at l number node n text ≡ Some (x.0, x.1, x.2, text)
   entry_kept number node n text line x held is some =
       elim (entry_rest number node n text line x held is) [
         | inl nil ↦ absurd (omega (arith, some, ap length nil))
-        | inr same ↦ entry_reads number node n text line (Some x) held is ∙ ap (λ (xs : List ℕ). Some (x.0, x.1, x.2, xs ++ drop_through 10 text)) (same ∙ held) ∙ ap (λ (xs : List ℕ). Some (x.0, x.1, x.2, xs)) (joined text)
+        | inr same ↦ entry_reads number node n text line (Some x) held is ∙ ap (λ (xs : List ℕ). Some (x.0, x.1, x.2, xs ++ drop (length line) text)) same ∙ ap (λ (xs : List ℕ). Some (x.0, x.1, x.2, xs)) (joined text line held)
       ]
 
   -- behind these lines: what is read of the rest, and what of it is sound
   front : (cs : List ClosedLine) (number j k nodes n m : ℕ) (text rest : List ℕ) → j ≡ length cs + k → lines_at l number (length cs) nodes n text ≡ Ok (cs, m, rest)
-      → (lines_at l number j nodes n text ≡ with_lines l cs (lines_at l (number + length cs) k nodes m rest)) × (sound_from l number j nodes n text ≡ cs ++ sound_from l (number + length cs) k nodes m rest)
-  unfolding lines_at sound_from
+      → (lines_at l number j nodes n text ≡ with_lines l cs (lines_at l (number + length cs) k nodes m rest)) × (lines_before_fault_from l number j nodes n text ≡ cs ++ lines_before_fault_from l (number + length cs) k nodes m rest)
+  unfolding lines_at lines_before_fault_from
   front [] number j k nodes n m text rest count is =
       let e = ok_of ([], n, text) ([], m, rest) is in
       let all : j ≡ k = omega (arith, count) in
@@ -172,7 +271,7 @@ module _ (l : Layout) where
       let numbers : n ≡ m = ap (λ (p : List ClosedLine × ℕ × List ℕ). p.1) e in
       let texts : text ≡ rest = ap (λ (p : List ClosedLine × ℕ × List ℕ). p.2) e in (
         rw (all, numbers, texts) (ap (λ (i : ℕ). lines_at l i k nodes m rest) at ∙ sym (no_lines l (lines_at l (number + 0) k nodes m rest))),
-        rw (all, numbers, texts) (ap (λ (i : ℕ). sound_from l i k nodes m rest) at),
+        rw (all, numbers, texts) (ap (λ (i : ℕ). lines_before_fault_from l i k nodes m rest) at),
       )
   front (c ∷ cs) number j k nodes n m text rest count is =
       let (line, here, next) = both_ok (closed_at l number nodes n text) (λ line. lines_at l (number + 1) (length cs) nodes line.1 line.2 >>> λ more. Ok (line.0 ∷ more.0, more.1, more.2)) (c ∷ cs, m, rest) is in
@@ -185,62 +284,68 @@ module _ (l : Layout) where
       let at : number + 1 + length cs ≡ number + length (c ∷ cs) = omega arith in
       let moved = ap (λ (i : ℕ). lines_at l i k nodes m rest) at in (
         rw one (rw here (rw all (push cs line.0 c (lines_at l (number + 1 + length cs) k nodes m rest) first ∙ ap (with_lines l (c ∷ cs)) moved))),
-        rw one (rw here (rw (sound, first) (ap (λ (i : ℕ). c ∷ (cs ++ sound_from l i k nodes m rest)) at))),
+        rw one (rw here (rw (sound, first) (ap (λ (i : ℕ). c ∷ (cs ++ lines_before_fault_from l i k nodes m rest)) at))),
       )
     where
       push : (ds : List ClosedLine) (a b : ClosedLine) (read : Lines l) → a ≡ b → (with_lines l ds read >>> λ more. Ok (a ∷ more.0, more.1, more.2)) ≡ with_lines l (b ∷ ds) read
       push ds a b (Ok more) e = rw e refl
       push ds a b (Err f) e = refl
 
-  pub head_line : (text line rest : List ℕ) (nodes count : ℕ) → line ≡ take_through 10 text → head_at line ≡ Some (l, nodes, count, rest) → head_at text ≡ Some (l, nodes, count, drop_through 10 text)
-  unfolding head_text
-  head_line text line rest nodes count held is =
-      let whole : head_text l nodes count ++ rest ≡ (layout_label l ++ decimal nodes ++ codes " " ++ decimal count) ++ 10 ∷ rest = apart_label (layout_label l) (decimal nodes) (codes " ") (decimal count) rest in
-      let last : rest ≡ [] = through_last (layout_label l ++ decimal nodes ++ codes " " ++ decimal count) rest text (sym held ∙ head_read line rest l nodes count is ∙ whole) in
-      line_reads more_three head_at (λ m s. head_ends m s) more_three_none text line (Some (l, nodes, count, rest)) held is ∙ ap (λ (xs : List ℕ). Some (l, nodes, count, xs ++ drop_through 10 text)) last
-    where
-      apart_label : (a b c d rest : List ℕ) → (a ++ b ++ c ++ d ++ codes "\n") ++ rest ≡ (a ++ b ++ c ++ d) ++ 10 ∷ rest
-      apart_label a b c d rest = simp append_assoc
+apart_label : (a b c d rest : List ℕ) → (a ++ b ++ c ++ d ++ codes "\n") ++ rest ≡ (a ++ b ++ c ++ d) ++ 10 ∷ rest
+apart_label a b c d rest = simp append_assoc
 
-no_head : (text line : List ℕ) → line ≡ take_through 10 text → head_at line ≡ None → head_at text ≡ None
-no_head text line held is = line_reads more_three head_at (λ m s. head_ends m s) (λ x. ap (λ (xs : List ℕ). (x.0, x.1, x.2, xs)) (append-nil x.3)) text line None held is
+head_ended : (text : List ℕ) (x : Layout × ℕ × ℕ × List ℕ) → head_at text ≡ Some x → (u : List ℕ) × (text ≡ u ++ 10 ∷ x.3) × (length u < 1024)
+unfolding head_text
+head_ended text x is =
+    let u : List ℕ = layout_label x.0 ++ decimal x.1 ++ codes " " ++ decimal x.2 in
+    let e : text ≡ u ++ 10 ∷ x.3 = head_read text x.3 x.0 x.1 x.2 is ∙ apart_label (layout_label x.0) (decimal x.1) (codes " ") (decimal x.2) x.3 in
+    (u, e, omega (arith, head_width text x is, ap length e, length-append u (10 ∷ x.3)))
 
-pub head_stops : (had left : Option (List ℕ)) (line : List ℕ) → IfSome had (Holds line left) → head_at line ≡ None → IfSome had (λ text. StopsBehind (DumpFault 1) text [])
-unfolding dump_of sound_lines
-head_stops None left line held is = tt
-head_stops (Some text) left line held is = let none = no_head text line held.0 is in (rw none refl, rw none refl)
+head_reads : (text line : List ℕ) (r : Option (Layout × ℕ × ℕ × List ℕ)) → line ≡ take_through 10 (take 1024 text) → head_at line ≡ r → head_at text ≡ with_more (more_three (drop (length line) text)) r
+head_reads text line r held is =
+    line_reads more_three head_at (λ m s. head_ends m s) (λ x. ap (λ (xs : List ℕ). (x.0, x.1, x.2, xs)) (append-nil x.3)) (none_cut more_three head_at (λ x. x.3) head_ended) text line r held is
+
+head_line : (l : Layout) (text line rest : List ℕ) (nodes count : ℕ) → line ≡ take_through 10 (take 1024 text) → head_at line ≡ Some (l, nodes, count, rest) → head_at text ≡ Some (l, nodes, count, drop (length line) text)
+head_line l text line rest nodes count held is =
+    let (u, e, _) = head_ended line (l, nodes, count, rest) is in
+    head_reads text line (Some (l, nodes, count, rest)) held is ∙ ap (λ (xs : List ℕ). Some (l, nodes, count, xs ++ drop (length line) text)) (through_last u rest (take 1024 text) (sym held ∙ e))
+
+pub head_stops : (had left : Option (List ℕ)) (row : DumpRow) → row.number ≡ 1 → IfSome had (Holds row.text.items left) → head_at row.text.items ≡ None → IfSome had (λ text. StopsBehind (DumpFault row) text [])
+unfolding dump_of lines_before_fault
+head_stops None left row first held is = tt
+head_stops (Some text) left row first held is = let none = head_reads text row.text.items None held.0 is in (rw (none, first) refl, rw none refl)
 
 pub outside_stops : (had : Option (List ℕ)) (e : StreamFault) (lines : List ClosedLine) → IsOutside e → IfSome had (λ text. StopsBehind e text lines)
 outside_stops None e lines h = tt
 outside_stops (Some text) OutOfMemory lines h = tt
 outside_stops (Some text) CannotRead lines h = tt
-outside_stops (Some text) (DumpFault n) lines h = absurd h
+outside_stops (Some text) (DumpFault row) lines h = absurd h
 
-pub opened : (had mid left : Option (List ℕ)) (line rest : List ℕ) (s : DumpStream) → IfSome had (Holds line mid) → IfSome mid (Holds s.line.items left) → head_at line ≡ Some (s.layout, s.nodes, s.count, rest)
-    → s.number ≡ 2 → s.closed ≡ 0 → IfSome had (λ text. HasRead text [] s left)
+pub opened : (had mid left : Option (List ℕ)) (line rest : List ℕ) (s : DumpStream) → IfSome had (Holds line mid) → IfSome mid (Holds s.row.text.items left) → head_at line ≡ Some (s.head.layout, s.head.nodes, s.head.lines, rest)
+    → s.row.number ≡ 2 → s.closed ≡ 0 → IfSome had (λ text. HasRead text [] s left)
 unfolding lines_at
 opened None mid left line rest s held next is second none = tt
 opened (Some text) mid left line rest s held next is second none = record {
-  behind = drop_through 10 text;
-  rest = drop_through 10 text;
-  head = head_line s.layout text line rest s.nodes s.count held.0 is;
-  read = ap (λ (n : ℕ). Ok ([], n, drop_through 10 text)) (sym second);
+  behind = drop (length line) text;
+  rest = drop (length line) text;
+  head = head_line s.head.layout text line rest s.head.nodes s.head.lines held.0 is;
+  read = ap (λ (n : ℕ). Ok ([], n, drop (length line) text)) (sym second);
   many = sym none;
   few = omega (arith, none);
-  holds = next_holds mid left line s.line.items text held next;
+  holds = next_holds mid left line s.row.text.items text held next;
 }
 
 -- one more closed line is read
-pub read_on : (text : List ℕ) (lines : List ClosedLine) (c : ClosedLine) (s next : DumpStream) (had left : Option (List ℕ)) → HasRead text lines s had → s.closed < s.count
-    → ((rest : List ℕ) → Holds s.line.items had rest → (x : List ℕ) × (closed_at s.layout s.closed s.nodes s.number rest ≡ Ok (c, next.number, x)) × Holds next.line.items left x)
-    → next.layout ≡ s.layout → next.nodes ≡ s.nodes → next.count ≡ s.count → next.closed ≡ s.closed + 1 → HasRead text (lines ++ c ∷ []) next left
+pub read_on : (text : List ℕ) (lines : List ClosedLine) (c : ClosedLine) (s next : DumpStream) (had left : Option (List ℕ)) → HasRead text lines s had → s.closed < s.head.lines
+    → ((rest : List ℕ) → Holds s.row.text.items had rest → (x : List ℕ) × (closed_at s.head.layout s.closed s.head.nodes s.row.number rest ≡ Ok (c, next.row.number, x)) × Holds next.row.text.items left x)
+    → next.head.layout ≡ s.head.layout → next.head.nodes ≡ s.head.nodes → next.head.lines ≡ s.head.lines → next.closed ≡ s.closed + 1 → HasRead text (lines ++ c ∷ []) next left
 unfolding lines_at
 read_on text lines c s next had left r more each layout nodes count closed =
     let (x, is, holds) = each r.rest r.holds in
     let at : s.closed ≡ 0 + length lines = omega (arith, r.many) in
     let long : length (lines ++ c ∷ []) ≡ length lines + 1 = length-append lines (c ∷ []) in
-    let (all, _) = front s.layout lines 0 (length (lines ++ c ∷ [])) 1 s.nodes 2 s.number r.behind r.rest long r.read in
-    let one : lines_at s.layout (0 + length lines) 1 s.nodes s.number r.rest ≡ Ok (c ∷ [], next.number, x) = rw (rw at at is) refl in
+    let (all, _) = front s.head.layout lines 0 (length (lines ++ c ∷ [])) 1 s.head.nodes 2 s.row.number r.behind r.rest long r.read in
+    let one : lines_at s.head.layout (0 + length lines) 1 s.head.nodes s.row.number r.rest ≡ Ok (c ∷ [], next.row.number, x) = rw (rw at at is) refl in
     record {
       behind = r.behind;
       rest = x;
@@ -252,74 +357,89 @@ read_on text lines c s next had left r more each layout nodes count closed =
     }
 
 -- the next line of text isn't that of a closed line
-pub stops_behind : (e : StreamFault) (text : List ℕ) (lines : List ClosedLine) (s : DumpStream) (had : Option (List ℕ)) → HasRead text lines s had → s.closed < s.count
-    → ((rest : List ℕ) → Holds s.line.items had rest → StopsAt e (closed_at s.layout s.closed s.nodes s.number rest)) → StopsBehind e text lines
-unfolding dump_of sound_lines lines_at sound_from
+pub stops_behind : (e : StreamFault) (text : List ℕ) (lines : List ClosedLine) (s : DumpStream) (had : Option (List ℕ)) → HasRead text lines s had → s.closed < s.head.lines
+    → ((rest : List ℕ) → Holds s.row.text.items had rest → StopsAt e (closed_at s.head.layout s.closed s.head.nodes s.row.number rest)) → StopsBehind e text lines
+unfolding dump_of lines_before_fault lines_at lines_before_fault_from
 stops_behind OutOfMemory text lines s had r more each = tt
 stops_behind CannotRead text lines s had r more each = tt
-stops_behind (DumpFault n) text lines s had r more each =
+stops_behind (DumpFault row) text lines s had r more each =
     let is = each r.rest r.holds in
     let at : s.closed ≡ 0 + length lines = omega (arith, r.many) in
-    let k : ℕ = s.count - (s.closed + 1) in
-    let (all, sound) = front s.layout lines 0 s.count (suc k) s.nodes 2 s.number r.behind r.rest (omega (arith, r.many, more)) r.read in
+    let k : ℕ = s.head.lines - (s.closed + 1) in
+    let (all, sound) = front s.head.layout lines 0 s.head.lines (suc k) s.head.nodes 2 s.row.number r.behind r.rest (omega (arith, r.many, more)) r.read in
     let here = rw at at is in
-    let fault : lines_at s.layout (0 + length lines) (suc k) s.nodes s.number r.rest ≡ Err (refusals.DumpFault n) = rw here refl in
-    let none : sound_from s.layout (0 + length lines) (suc k) s.nodes s.number r.rest ≡ [] = rw here refl in
+    let fault : lines_at s.head.layout (0 + length lines) (suc k) s.head.nodes s.row.number r.rest ≡ Err (refusals.DumpFault row.number) = rw here refl in
+    let none : lines_before_fault_from s.head.layout (0 + length lines) (suc k) s.head.nodes s.row.number r.rest ≡ [] = rw here refl in
     (rw r.head (rw all (rw fault refl)), rw r.head (sound ∙ ap (λ (cs : List ClosedLine). lines ++ cs) none ∙ append-nil lines))
 
 -- all closed lines are read
-all_read : (text : List ℕ) (lines : List ClosedLine) (s : DumpStream) (had : Option (List ℕ)) (r : HasRead text lines s had) → s.closed ≡ s.count
-    → (dump_of text ≡ (end_at s.number r.rest >>> λ _. Ok (record { nodes = s.nodes; lines = lines }))) × (sound_lines text ≡ lines)
-unfolding dump_of sound_lines sound_from
+all_read : (text : List ℕ) (lines : List ClosedLine) (s : DumpStream) (had : Option (List ℕ)) (r : HasRead text lines s had) → s.closed ≡ s.head.lines
+    → (dump_of text ≡ (end_at s.row.number r.rest >>> λ _. Ok (record { nodes = s.head.nodes; lines = lines }))) × (lines_before_fault text ≡ lines)
+unfolding dump_of lines_before_fault lines_before_fault_from
 all_read text lines s had r full =
-    let (_, sound) = front s.layout lines 0 s.count 0 s.nodes 2 s.number r.behind r.rest (omega (arith, r.many, full)) r.read in
-    let all : lines_at s.layout 0 s.count s.nodes 2 r.behind ≡ Ok (lines, s.number, r.rest) = subst (λ (k : ℕ). lines_at s.layout 0 k s.nodes 2 r.behind ≡ Ok (lines, s.number, r.rest)) (r.many ∙ full) r.read in
+    let (_, sound) = front s.head.layout lines 0 s.head.lines 0 s.head.nodes 2 s.row.number r.behind r.rest (omega (arith, r.many, full)) r.read in
+    let all : lines_at s.head.layout 0 s.head.lines s.head.nodes 2 r.behind ≡ Ok (lines, s.row.number, r.rest) = subst (λ (k : ℕ). lines_at s.head.layout 0 k s.head.nodes 2 r.behind ≡ Ok (lines, s.row.number, r.rest)) (r.many ∙ full) r.read in
     (rw r.head (rw all refl), rw r.head (sound ∙ append-nil lines))
 
-end_reads : (text line : List ℕ) (r : Option (List ℕ)) → line ≡ take_through 10 text → behind (codes "end\n") line ≡ r → behind (codes "end\n") text ≡ with_more (more_text (drop_through 10 text)) r
-end_reads text line r held is = line_reads more_text (behind (codes "end\n")) (λ m s. end_ends m s) append-nil text line r held is
+end_reads : (text line : List ℕ) (r : Option (List ℕ)) → line ≡ take_through 10 (take 1024 text) → behind (codes "end\n") line ≡ r → behind (codes "end\n") text ≡ with_more (more_text (drop (length line) text)) r
+end_reads text line r held is = line_reads more_text (behind (codes "end\n")) (λ m s. end_ends m s) append-nil (none_cut more_text (behind (codes "end\n")) (λ x. x) within) text line r held is
+  where
+    within : (t x : List ℕ) → behind (codes "end\n") t ≡ Some x → (u : List ℕ) × (t ≡ u ++ 10 ∷ x) × (length u < 1024)
+    within t x is = (codes "end", behind_text (codes "end\n") t x is, omega arith)
 
-pub end_missing : (text : List ℕ) (lines : List ClosedLine) (s : DumpStream) (had : Option (List ℕ)) → HasRead text lines s had → s.closed ≡ s.count → behind (codes "end\n") s.line.items ≡ None → StopsBehind (DumpFault s.number) text lines
+pub end_missing : (text : List ℕ) (lines : List ClosedLine) (s : DumpStream) (had : Option (List ℕ)) → HasRead text lines s had → s.closed ≡ s.head.lines → behind (codes "end\n") s.row.text.items ≡ None → StopsBehind (DumpFault s.row) text lines
 unfolding end_at
 end_missing text lines s had r full is =
-    let none = end_reads r.rest s.line.items None r.holds.0 is in
+    let none = end_reads r.rest s.row.text.items None r.holds.0 is in
     let (all, sound) = all_read text lines s had r full in
     (all ∙ rw none refl, sound)
 
-end_line : (text line rest : List ℕ) → line ≡ take_through 10 text → behind (codes "end\n") line ≡ Some rest → behind (codes "end\n") text ≡ Some (drop_through 10 text)
+end_line : (text line rest : List ℕ) → line ≡ take_through 10 (take 1024 text) → behind (codes "end\n") line ≡ Some rest → behind (codes "end\n") text ≡ Some (drop (length line) text)
 end_line text line rest held is =
-    let last : rest ≡ [] = through_last (codes "end") rest text (sym held ∙ behind_text (codes "end\n") line rest is) in
-    end_reads text line (Some rest) held is ∙ ap (λ (xs : List ℕ). Some (xs ++ drop_through 10 text)) last
+    let last : rest ≡ [] = through_last (codes "end") rest (take 1024 text) (sym held ∙ behind_text (codes "end\n") line rest is) in
+    end_reads text line (Some rest) held is ∙ ap (λ (xs : List ℕ). Some (xs ++ drop (length line) text)) last
 
-pub ended_all : (text rest next : List ℕ) (lines : List ClosedLine) (s : DumpStream) (had left : Option (List ℕ)) → HasRead text lines s had → s.closed ≡ s.count → behind (codes "end\n") s.line.items ≡ Some rest
-    → IfSome had (Holds next left) → length next ≡ 0 → dump_of text ≡ Ok (record { nodes = s.nodes; lines = lines })
+nothing : (xs : List ℕ) → length (take_through 10 (take 1024 xs)) ≡ 0 → xs ≡ []
+nothing [] none = refl
+nothing (x ∷ xs) none = absurd (omega (arith, ap length (take_through-nil 10 (take 1024 (x ∷ xs)) none)))
+
+pub ended_all : (text rest next : List ℕ) (lines : List ClosedLine) (s : DumpStream) (had left : Option (List ℕ)) → HasRead text lines s had → s.closed ≡ s.head.lines → behind (codes "end\n") s.row.text.items ≡ Some rest
+    → IfSome had (Holds next left) → length next ≡ 0 → dump_of text ≡ Ok (record { nodes = s.head.nodes; lines = lines })
 unfolding end_at
 ended_all text rest next lines s had left r full is took none =
-    let here = end_line r.rest s.line.items rest r.holds.0 is in
-    let holds = next_holds had left s.line.items next r.rest r.holds took in
-    let over : drop_through 10 r.rest ≡ [] = take_through-nil 10 (drop_through 10 r.rest) (omega (arith, none, ap length holds.0)) in
+    let here = end_line r.rest s.row.text.items rest r.holds.0 is in
+    let holds = next_holds had left s.row.text.items next r.rest r.holds took in
+    let over = nothing (drop (length s.row.text.items) r.rest) (omega (arith, none, ap length holds.0)) in
     (all_read text lines s had r full).0 ∙ rw here (rw over refl)
 
-pub more_behind : (text rest next : List ℕ) (lines : List ClosedLine) (s : DumpStream) (had left : Option (List ℕ)) → HasRead text lines s had → s.closed ≡ s.count → behind (codes "end\n") s.line.items ≡ Some rest
-    → IfSome had (Holds next left) → 0 < length next → StopsBehind (DumpFault (s.number + 1)) text lines
+-- and none is left
+pub none_left : (had left : Option (List ℕ)) (next : List ℕ) → IfSome had (Holds next left) → length next ≡ 0 → IfSome had (λ _. IsAtEnd left)
+none_left None left next took none = tt
+none_left (Some text) left next took none =
+    let over = nothing text (omega (arith, none, ap length took.0)) in
+    subst IsAtEnd (sym took.1) (ap (λ (k : ℕ). drop k text) none ∙ over)
+
+pub more_behind : (text rest : List ℕ) (next : DumpRow) (lines : List ClosedLine) (s : DumpStream) (had left : Option (List ℕ)) → HasRead text lines s had → s.closed ≡ s.head.lines → behind (codes "end\n") s.row.text.items ≡ Some rest
+    → next.number ≡ s.row.number + 1 → IfSome had (Holds next.text.items left) → 0 < length next.text.items → StopsBehind (DumpFault next) text lines
 unfolding end_at
-more_behind text rest next lines s had left r full is took some =
-    let here = end_line r.rest s.line.items rest r.holds.0 is in
-    let holds = next_holds had left s.line.items next r.rest r.holds took in
+more_behind text rest next lines s had left r full is count took some =
+    let here = end_line r.rest s.row.text.items rest r.holds.0 is in
+    let holds = next_holds had left s.row.text.items next.text.items r.rest r.holds took in
     let (all, sound) = all_read text lines s had r full in
-    let more : 0 < length (drop_through 10 r.rest) = take_through_nonempty 10 (drop_through 10 r.rest) (omega (arith, some, ap length holds.0)) in
-    (all ∙ rw here (faulty (drop_through 10 r.rest) more), sound)
+    let left : List ℕ = drop (length s.row.text.items) r.rest in
+    let more : 0 < length (take 1024 left) = take_through_nonempty 10 (take 1024 left) (omega (arith, some, ap length holds.0)) in
+    (all ∙ rw (here, count) (faulty left (omega (arith, more, length-take 1024 left))), sound)
   where
     whole : DumpLines
-    whole = record { nodes = s.nodes; lines = lines }
+    whole = record { nodes = s.head.nodes; lines = lines }
 
-    faulty : (xs : List ℕ) → 0 < length xs → (ended s.number xs >>> λ _. Ok whole) ≡ Err (refusals.DumpFault (s.number + 1))
+    faulty : (xs : List ℕ) → 0 < length xs → (ended s.row.number xs >>> λ _. Ok whole) ≡ Err (refusals.DumpFault (s.row.number + 1))
     faulty [] lt = absurd (omega (arith, lt))
     faulty (x ∷ xs) lt = refl
 
 -- the lines that are read are sound
-pub sound_front : (text : List ℕ) (lines : List ClosedLine) (s : DumpStream) (had : Option (List ℕ)) → HasRead text lines s had → take (length lines) (sound_lines text) ≡ lines
-unfolding sound_lines
-sound_front text lines s had r =
-    let (_, sound) = front s.layout lines 0 s.count (s.count - length lines) s.nodes 2 s.number r.behind r.rest (omega (arith, r.many, r.few)) r.read in
-    rw r.head (rw sound (whole_front lines (sound_from s.layout (0 + length lines) (s.count - length lines) s.nodes s.number r.rest)))
+pub before_fault_front : (text : List ℕ) (lines : List ClosedLine) (s : DumpStream) (had : Option (List ℕ)) → HasRead text lines s had → take (length lines) (lines_before_fault text) ≡ lines
+unfolding lines_before_fault
+before_fault_front text lines s had r =
+    let (_, sound) = front s.head.layout lines 0 s.head.lines (s.head.lines - length lines) s.head.nodes 2 s.row.number r.behind r.rest (omega (arith, r.many, r.few)) r.read in
+    rw r.head (rw sound (whole_front lines (lines_before_fault_from s.head.layout (0 + length lines) (s.head.lines - length lines) s.head.nodes s.row.number r.rest)))

@@ -3,8 +3,9 @@
 ghost use Rattle.std.specs.Prelude.{◌≤◌, ◌+◌, ◌*◌};
 ghost use Rattle.sci_core.specs.declared.whole.TheConstants.{MOST_NODES};
 
+use crate::places::{DumpHead, DumpRow};
 use sci_core::Closed;
-use sci_words::{Kind, Layout, Tag};
+use sci_words::{Kind, Tag};
 use std::marker::Model;
 
 /// The tag of a node that has none of its own in a dump.
@@ -37,12 +38,9 @@ impl Model for Dump {
 /// A dump up to some closed line, and the line of text behind that.
 #[derive(Drop)]
 pub struct DumpStream {
-    pub(crate) layout: Layout,
-    pub(crate) nodes: u16,
-    pub(crate) count: u16,
+    pub(crate) head: DumpHead,
     pub(crate) closed: u16,
-    pub(crate) number: u64,
-    pub(crate) line: Vec<u8>,
-    ghost sizes: { (nodes ≤ MOST_NODES) × (count ≤ 1024) },
-    ghost near: { number ≤ 2 + 1025 * closed },
+    pub(crate) row: DumpRow,
+    ghost sizes: { (head.nodes ≤ MOST_NODES) × (head.lines ≤ 1024) },
+    ghost near: { row.number ≤ 2 + 1025 * closed },
 }

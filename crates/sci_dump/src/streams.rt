@@ -1,29 +1,32 @@
 //! A dump from a reader: its closed lines one after another, over one line of text.
 
-ghost use Rattle.std.specs.Prelude.{◌≡◌, ◌≤◌, ◌<◌, ◌+◌, ◌*◌, ◌++◌, ◌∷◌, [], ℕ, List, Ok, Err, Option, true, length, All, IfOk, IfErr, IfSome, OnOk};
+ghost use Rattle.std.specs.Prelude.{◌≡◌, ◌≤◌, ◌<◌, ◌+◌, ◌++◌, ◌∷◌, [], ℕ, List, Ok, true, length, All, IfOk, IfErr, IfSome, OnOk};
+ghost use Rattle.std.specs.Io.KnownBytes.{IsAtEnd};
 ghost use Rattle.sci_words.specs.Tag.{tag_well_formed};
 ghost use Rattle.sci_core.specs.declared.whole.TheConstants.{MOST_NODES};
 ghost use Rattle.sci_core.specs.Closed.{ClosedLine};
 ghost use Rattle.sci_dump.specs.Reading.{entries_at, closed_at, dump_of};
-ghost use Rattle.sci_dump.specs.Streams.{Holds, IsOutside, Streams, HasRead, StopsBehind, sound_lines};
+ghost use Rattle.sci_dump.specs.Streams.{Holds, Streams, HasRead, StopsBehind};
 ghost use Rattle.sci_dump.specs.declared.streams.StreamFault.TheVariants.{OutOfMemory};
 
 use crate::dumps::DumpStream;
 use crate::fields::behind;
+use crate::places::{DumpHead, DumpPlace, DumpRow};
 use crate::reader::entry;
 use crate::rows::{head_row, memory_row};
+use crate::text_lines::advance;
 use sci_core::{Closed, Line};
-use sci_words::{Layout, Tag};
+use sci_words::Tag;
 use std::alloc::{AllocError, AllocFailed, Global};
-use std::io::{BufRead, ErrorKind};
+use std::io::BufRead;
 
 /// Why a dump isn't read to its end.
-#[derive(Clone, Copy, Debug, PartialEq, Eq, Drop)]
+#[derive(Debug, Drop)]
 pub enum StreamFault {
     /// Refusal 7: a growth of memory was refused.
     OutOfMemory,
     /// Refusal 21: the text is no dump, and this is the line that the definition of reading names.
-    DumpFault(u64),
+    DumpFault(DumpRow),
     /// The reader failed.
     CannotRead,
 }
@@ -44,113 +47,111 @@ impl<T: Drop> From<AllocFailed<T>> for StreamFault {
     }
 }
 
-/// The next line of text, through its line feed.
-fn advance<R: BufRead>(mut line: Vec<u8>, reader: &mut R) -> Result<Vec<u8>, StreamFault>
-    ensures ok { IfOk result (λ next. IfSome (R.remaining reader.old) (Holds next.items (R.remaining reader.new))) }
-    ensures err { IfErr result IsOutside }
-{
-    line.clear();
-    match reader.read_until(b'\n', &mut line) {
-        Ok(_) => Ok(line),
-        Err(error) if error.kind() == ErrorKind::OutOfMemory => Err(StreamFault::OutOfMemory),
-        Err(_) => Err(StreamFault::CannotRead),
-    }
-}
-
 /// The tags and lines of all nodes, and the line of text behind them.
 #[derive(Drop)]
 struct Rows {
     tags: Vec<Tag>,
     lines: Vec<Line>,
-    number: u64,
-    line: Vec<u8>,
+    row: DumpRow,
 }
 
 /// The nodes of a line.
 fn read_rows<R: BufRead>(
     alloc: Global,
-    layout: Layout,
+    head: DumpHead,
     closed: u64,
-    nodes: u16,
-    number: u64,
-    line: Vec<u8>,
+    first: DumpRow,
     reader: &mut R,
 ) -> Result<Rows, StreamFault>
-    requires few { nodes ≤ MOST_NODES }
-    requires near { number < 1200000 }
-    ensures exact { (text : List ℕ) → Holds line.items (R.remaining reader.old) text
-        → Streams (λ x rest. (x.tags.items, x.lines.items, x.number, rest)) (λ x. x.line.items) (R.remaining reader.new) result (entries_at layout closed 0 nodes number text) }
+    requires few { head.nodes ≤ MOST_NODES }
+    requires near { first.number < 1200000 }
+    ensures exact { (text : List ℕ) → Holds first.text.items (R.remaining reader.old) text
+        → Streams (λ x rest. (x.tags.items, x.lines.items, x.row.number, rest)) (λ x. x.row.text.items) (R.remaining reader.new) result (entries_at head.layout closed 0 head.nodes first.number text) }
     ensures well_formed { IfOk result (λ x. All (λ t. tag_well_formed t ≡ true) x.tags.items) }
-    ensures lengths { IfOk result (λ x. (length x.tags.items ≡ nodes) × (length x.lines.items ≡ nodes)) }
-    ensures further { IfOk result (λ x. x.number ≤ number + nodes) }
+    ensures lengths { IfOk result (λ x. (length x.tags.items ≡ head.nodes) × (length x.lines.items ≡ head.nodes)) }
+    ensures further { IfOk result (λ x. x.row.number ≤ first.number + head.nodes) }
 {
-    let count = usize::from(nodes);
+    let count = usize::from(head.nodes);
     let mut tags = Vec::with_capacity(alloc, count)?;
     let mut lines = Vec::with_capacity(alloc, count)?;
-    let mut at = number;
-    let mut held = line;
-    for node in 0..u64::from(nodes) {
-        let Some((tag, content, next, rest)) = entry(layout, closed, node, at, &held) else {
-            return Err(StreamFault::DumpFault(at));
+    let mut number = first.number;
+    let mut text = first.text;
+    let mut place = first.place;
+    for node in 0..u64::from(head.nodes) {
+        let Some((tag, content, next, rest)) = entry(head.layout, closed, node, number, &text)
+        else {
+            return Err(StreamFault::DumpFault(DumpRow {
+                number,
+                text,
+                place,
+            }));
         };
         let is_read = rest.is_empty();
         tags.push(tag)?;
         lines.push(content)?;
-        at = next;
+        if next > number {
+            place = DumpPlace::Line {
+                head,
+                line: closed,
+                node: node + 1,
+            };
+        }
+        number = next;
         if is_read {
-            held = advance(held, reader)?;
+            text = advance(text, reader)?;
         }
     }
-    Ok(Rows {
-        tags,
-        lines,
-        number: at,
-        line: held,
-    })
+    let row = DumpRow {
+        number,
+        text,
+        place,
+    };
+    Ok(Rows { tags, lines, row })
 }
 
 /// A closed line, and the line of text behind it.
 #[derive(Drop)]
 struct Found {
     closed: Closed,
-    number: u64,
-    line: Vec<u8>,
+    row: DumpRow,
 }
 
 /// A closed line.
 fn read_closed<R: BufRead>(
     alloc: Global,
-    layout: Layout,
-    closed: u64,
-    nodes: u16,
+    head: DumpHead,
     number: u64,
-    line: Vec<u8>,
+    row: DumpRow,
     reader: &mut R,
 ) -> Result<Found, StreamFault>
-    requires few { nodes ≤ MOST_NODES }
-    requires near { number < 1100000 }
-    ensures exact { (text : List ℕ) → Holds line.items (R.remaining reader.old) text
-        → Streams (λ x rest. (x.closed, x.number, rest)) (λ x. x.line.items) (R.remaining reader.new) result (closed_at layout closed nodes number text) }
-    ensures further { IfOk result (λ x. x.number ≤ number + 1 + nodes) }
+    requires few { head.nodes ≤ MOST_NODES }
+    requires near { row.number < 1100000 }
+    ensures exact { (text : List ℕ) → Holds row.text.items (R.remaining reader.old) text
+        → Streams (λ x rest. (x.closed, x.row.number, rest)) (λ x. x.row.text.items) (R.remaining reader.new) result (closed_at head.layout number head.nodes row.number text) }
+    ensures further { IfOk result (λ x. x.row.number ≤ row.number + 1 + head.nodes) }
 {
-    let Some((mem, memory, _)) = memory_row(layout, closed, &line) else {
-        return Err(StreamFault::DumpFault(number));
+    let Some((mem, memory, _)) = memory_row(head.layout, number, &row.text) else {
+        return Err(StreamFault::DumpFault(row));
     };
-    let line = advance(line, reader)?;
-    let rows = read_rows(alloc, layout, closed, nodes, number + 1, line, reader)?;
-    let number = rows.number;
-    let line = rows.line;
+    let text = advance(row.text, reader)?;
+    let first = DumpRow {
+        number: row.number + 1,
+        text,
+        place: DumpPlace::Line {
+            head,
+            line: number,
+            node: 0,
+        },
+    };
+    let rows = read_rows(alloc, head, number, first, reader)?;
+    let row = rows.row;
     let closed = Closed {
         mem,
         memory,
         tags: rows.tags,
         lines: rows.lines,
     };
-    Ok(Found {
-        closed,
-        number,
-        line,
-    })
+    Ok(Found { closed, row })
 }
 
 impl DumpStream {
@@ -159,29 +160,40 @@ impl DumpStream {
         ensures ok { IfOk result (λ s. IfSome (R.remaining reader.old) (λ text. HasRead text [] s (R.remaining reader.new))) }
         ensures err { IfErr result (λ e. IfSome (R.remaining reader.old) (λ text. StopsBehind e text [])) }
         ensures first { IfOk result (λ s. s.closed ≡ 0) }
-        ensures few { IfOk result (λ s. s.count ≤ 1024) }
+        ensures few { IfOk result (λ s. s.head.lines ≤ 1024) }
     {
-        let line = advance(Vec::new(alloc), reader)?;
-        let Some((layout, nodes, count, _)) = head_row(&line) else {
-            return Err(StreamFault::DumpFault(1));
+        let text = advance(Vec::new(alloc), reader)?;
+        let Some((layout, nodes, lines, _)) = head_row(&text) else {
+            return Err(StreamFault::DumpFault(DumpRow {
+                number: 1,
+                text,
+                place: DumpPlace::Start,
+            }));
         };
-        let line = advance(line, reader)?;
-        Ok(DumpStream {
+        let head = DumpHead {
             layout,
             nodes,
-            count,
-            closed: 0,
+            lines,
+        };
+        let text = advance(text, reader)?;
+        let row = DumpRow {
             number: 2,
-            line,
+            text,
+            place: DumpPlace::Head(head),
+        };
+        Ok(DumpStream {
+            head,
+            closed: 0,
+            row,
         })
     }
 
     /// How many closed lines the dump has.
     pub fn count(&self) -> u16
-        ensures value { result ≡ self.now.count }
+        ensures value { result ≡ self.now.head.lines }
         ensures few { result ≤ 1024 }
     {
-        self.count
+        self.head.lines
     }
 
     /// Reads the next closed line.
@@ -190,52 +202,45 @@ impl DumpStream {
         alloc: Global,
         reader: &mut R,
     ) -> Result<(Closed, DumpStream), StreamFault>
-        requires { self.closed < self.count }
+        requires { self.closed < self.head.lines }
         ensures ok { IfOk result (λ x. (text : List ℕ) (lines : List ClosedLine) → HasRead text lines self (R.remaining reader.old)
             → HasRead text (lines ++ x.0 ∷ []) x.1 (R.remaining reader.new)) }
         ensures err { IfErr result (λ e. (text : List ℕ) (lines : List ClosedLine) → HasRead text lines self (R.remaining reader.old) → StopsBehind e text lines) }
-        ensures one { IfOk result (λ x. (x.1.closed ≡ self.closed + 1) × (x.1.count ≡ self.count)) }
+        ensures one { IfOk result (λ x. (x.1.closed ≡ self.closed + 1) × (x.1.head.lines ≡ self.head.lines)) }
     {
-        let layout = self.layout;
-        let nodes = self.nodes;
-        let count = self.count;
+        let head = self.head;
         let closed = self.closed;
-        let found = read_closed(
-            alloc,
-            layout,
-            u64::from(closed),
-            nodes,
-            self.number,
-            self.line,
-            reader,
-        )?;
+        let found = read_closed(alloc, head, u64::from(closed), self.row, reader)?;
         let next = DumpStream {
-            layout,
-            nodes,
-            count,
+            head,
             closed: closed + 1,
-            number: found.number,
-            line: found.line,
+            row: found.row,
         };
         Ok((found.closed, next))
     }
 
     /// Reads `end`, and that nothing stands behind it.
     pub fn end<R: BufRead>(self, reader: &mut R) -> Result<(), StreamFault>
-        requires { self.closed ≡ self.count }
+        requires { self.closed ≡ self.head.lines }
         ensures ok { OnOk result ((text : List ℕ) (lines : List ClosedLine) → HasRead text lines self (R.remaining reader.old)
-            → dump_of text ≡ Ok record { nodes = self.nodes; lines = lines }) }
+            → dump_of text ≡ Ok record { nodes = self.head.nodes; lines = lines }) }
         ensures err { IfErr result (λ e. (text : List ℕ) (lines : List ClosedLine) → HasRead text lines self (R.remaining reader.old) → StopsBehind e text lines) }
+        ensures at_end { OnOk result (IfSome (R.remaining reader.old) (λ _. IsAtEnd (R.remaining reader.new))) }
     {
-        let number = self.number;
-        let Some(_) = behind(b"end\n", &self.line) else {
-            return Err(StreamFault::DumpFault(number));
+        let row = self.row;
+        let Some(_) = behind(b"end\n", &row.text) else {
+            return Err(StreamFault::DumpFault(row));
         };
-        let line = advance(self.line, reader)?;
-        if line.is_empty() {
+        let number = row.number + 1;
+        let text = advance(row.text, reader)?;
+        if text.is_empty() {
             Ok(())
         } else {
-            Err(StreamFault::DumpFault(number + 1))
+            Err(StreamFault::DumpFault(DumpRow {
+                number,
+                text,
+                place: DumpPlace::End,
+            }))
         }
     }
 }

@@ -59,17 +59,17 @@ stands_next (Some input) b c log next n line h took drops some fed =
     )
 
 of_fault : (e : LogFault) (why : Option LineReason) (input : List ℕ) → FaultsWhy e why input → StopsWhy e why input
-of_fault LogFault.OutOfMemory why input h = let (lines, log, rest, reached, here, told) = h in told
+of_fault LogFault.OutOfMemory why input h = let (log, rest, here, told) = h in told
 of_fault (LogFault.BadLine n) why input h = h
 of_fault (LogFault.BadNumber n) why input h = h
 of_fault (LogFault.Departs n d) why input h = h
-of_fault LogFault.CannotRead why input h = let (lines, log, rest, reached, here, told) = h in told
+of_fault LogFault.CannotRead why input h = let (log, rest, here, told) = h in told
 
 untold : (e : LogFault) (why : Option LineReason) (input : List ℕ) → StopsWhy e why input → StopsWith e input
 untold LogFault.OutOfMemory why input h = tt
-untold (LogFault.BadLine n) why input h = let (lines, log, rest, reached, here, told) = h in (lines, log, rest, reached, here)
-untold (LogFault.BadNumber n) why input h = let (lines, log, rest, reached, here, told) = h in (lines, log, rest, reached, here)
-untold (LogFault.Departs n d) why input h = let (lines, log, rest, reached, here, told) = h in (lines, log, rest, reached, here)
+untold (LogFault.BadLine n) why input h = let (log, rest, here, told) = h in (log, rest, here)
+untold (LogFault.BadNumber n) why input h = let (log, rest, here, told) = h in (log, rest, here)
+untold (LogFault.Departs n d) why input h = let (log, rest, here, told) = h in (log, rest, here)
 untold LogFault.CannotRead why input h = tt
 
 pub without_why : (a : Option (List ℕ)) (e : LogFault) (why : Option LineReason) → IfSome a (StopsWhy e why) → IfSome a (StopsWith e)
@@ -85,7 +85,7 @@ stops_here (Some input) b log e why n line h took some fed told =
     let here : Feeds (length lines + 1) (without_end (take_through 10 rest)) log (Err e) =
     subst (λ (x : List ℕ). Feeds (length lines + 1) (without_end x) log (Err e)) through (subst (λ (k : ℕ). Feeds k (without_end line) log (Err e)) count fed) in
     let reason : IsWhy e (due_of log) (without_end (take_through 10 rest)) why = subst (λ (x : List ℕ). IsWhy e (due_of log) (without_end x) why) through (fed_tells n (without_end line) log e why fed told) in
-    of_fault e why input (lines, log, rest, reached, inl (take_through_nonempty 10 rest more, here), reason)
+    of_fault e why input (log, rest, (lines, reached, inl (take_through_nonempty 10 rest more, here)), reason)
 
 at_end : (b : Option (List ℕ)) (rest : List ℕ) → b ≡ Some rest → IsAtEnd b → rest ≡ []
 at_end b rest is h = subst (λ (o : Option (List ℕ)). IsAtEnd o) is h
@@ -96,7 +96,7 @@ stops_at_end (Some input) b log e why n h ended fed told =
     let (lines, rest, is, reached, count) = h in
     let over = at_end b rest is ended in
     let reason : IsWhy e (due_of log) (without_end (take_through 10 rest)) why = subst (λ (x : List ℕ). IsWhy e (due_of log) (without_end (take_through 10 x)) why) (sym over) told in
-    of_fault e why input (lines, log, rest, reached, inr (over, subst (λ (k : ℕ). Ends k log (Err e)) count fed), reason)
+    of_fault e why input (log, rest, (lines, reached, inr (over, subst (λ (k : ℕ). Ends k log (Err e)) count fed)), reason)
 
 follows_at_end : (a b : Option (List ℕ)) (log : Log) (n : ℕ) → Stands a b log n → IsAtEnd b → Ends n log (Ok tt) → IfSome a FollowsAll
 follows_at_end None b log n h ended fed = tt

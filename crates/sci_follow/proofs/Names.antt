@@ -1,5 +1,5 @@
 -- Names one after another: the first that stands in front says which it is.
-use Rattle.std.proofs.Common.{◌≡◌, ◌∙◌, List, ℕ, Option, Some, None, refl, ap}
+use Rattle.std.proofs.Common.{◌≡◌, ◌∙◌, List, ℕ, Option, Some, None, ap}
 use Rattle.std.specs.Prelude.{codes}
 use Rattle.sci_core.specs.declared.events.Event.{Event}
 use Rattle.sci_dump.specs.Reading.{behind}

@@ -8,7 +8,6 @@ use Rattle.sci_words.specs.Tag.{tag_links_below}
 use Rattle.sci_words.specs.Refused.{tag_refusal_in}
 use Rattle.sci_words.proofs.Codes.{tag_in-code}
 use Rattle.sci_core.specs.declared.lines.Line.{Line}
-use Rattle.sci_core.specs.declared.rows.Change.{Change}
 use Rattle.sci_core.specs.declared.pending.Pending.{Pending}
 use Rattle.sci_core.specs.declared.events.Event.{Event}
 use Rattle.sci_core.specs.declared.outlines.Outline.{Outline}

@@ -5,7 +5,6 @@ use Rattle.sci_core.specs.State.{State}
 use Rattle.sci_script.specs.declared.commands.Size.{Size}
 use Rattle.sci_script.specs.Size.{IsSize}
 use Rattle.sci_script.specs.Words.{is_skipped}
-use Rattle.sci_follow.specs.declared.entries.Deviation.{Deviation}
 use Rattle.sci_follow.specs.declared.lines.Follower.{Follower}
 use Rattle.sci_follow.specs.declared.told.Noted.{Noted}
 use Rattle.sci_follow.specs.declared.logs.Log.{Log}

@@ -1,5 +1,5 @@
 -- The first part of a line of a log that isn't there, with the text that stands in its place. This project's profile.
-use Rattle.std.specs.Prelude.{◌≡◌, ◌⊎◌, ℕ, zero, suc, ◌+◌, ◌-◌, ◌<◌, ◌&&◌, nat_le, List, [], length, Option, Some, None, codes, Result, Ok, Err, if◌then◌else◌}
+use Rattle.std.specs.Prelude.{◌≡◌, ℕ, zero, suc, ◌+◌, ◌-◌, Bool, true, false, not, ◌&&◌, ◌||◌, nat_le, List, [], length, Option, Some, None, codes, Result, Ok, Err, if◌then◌else◌}
 use Rattle.std.specs.Io.BufRead.{take_through}
 use Rattle.sci_script.specs.declared.commands.Size.{Size}
 use Rattle.sci_dump.specs.Reading.{◌>>=◌, behind, capped_at, number_at, value_at, values_at, word_at}
@@ -10,8 +10,8 @@ use Rattle.sci_follow.specs.declared.parts.Part.{Part}
 use Rattle.sci_follow.specs.declared.told.Told.{Told}
 use Rattle.sci_follow.specs.declared.why.Due.{Due}
 use Rattle.sci_follow.specs.LineText.{claim_at, found_at, is_ended, is_told_enough, link_at, other_asks_at, own_asks_at, told_at}
-use Rattle.sci_follow.specs.Logs.{Feeds, Ends}
-use Rattle.sci_follow.specs.Streams.{Reaches, without_end}
+use Rattle.sci_follow.specs.Logs.{Ends}
+use Rattle.sci_follow.specs.Streams.{FaultsAt, without_end}
 use Rattle.sci_follow.specs.Told.{is_told_in}
 
 -- the part that isn't there, and the text in its place; None where nothing lacks
@@ -27,11 +27,15 @@ onward None more other = other
 abbrev pub wants : {A : Type 0} → Part → List ℕ → Option A → (A → Lack) → Lack
 wants part text read more = onward read more (Some (part, text))
 
--- the text behind a number from low to high, of those up to `most`
-unfoldable pub within_at : ℕ → ℕ → ℕ → List ℕ → Option (List ℕ)
-within_at most low high text = do
+-- the text behind a number of those up to `most`; where it has to be in its range, from low to high
+unfoldable pub within_at : Bool → ℕ → ℕ → ℕ → List ℕ → Option (List ℕ)
+within_at ranged most low high text = do
   found ← capped_at most text
-  if nat_le low found.0 && nat_le found.0 high then Some found.1 else None
+  if not ranged || (nat_le low found.0 && nat_le found.0 high) then Some found.1 else None
+
+-- such a number, and what else
+abbrev pub wants_number : Bool → ℕ → ℕ → ℕ → List ℕ → (List ℕ → Lack) → Lack
+wants_number ranged most low high text more = wants (Part.Number low high) text (within_at ranged most low high text) more
 
 unfoldable pub end_lack : List ℕ → Lack
 end_lack text = if is_ended text then None else Some (Part.End, text)
@@ -73,16 +77,16 @@ unfoldable pub content_lack : List ℕ → Lack
 content_lack text = onward (value_at text) (λ stamp. wants_values stamp.1 end_lack) (value_lack text)
 
 -- `N TAG) `
-unfoldable pub other_lack : ℕ → List ℕ → Lack
-other_lack nodes text = wants (Part.Number 0 (nodes - 1)) text (within_at 65534 0 (nodes - 1) text) (λ rest. wants Part.Space rest (behind (codes " ") rest) tag_lack)
+unfoldable pub other_lack : Bool → ℕ → List ℕ → Lack
+other_lack ranged nodes text = wants_number ranged 65534 0 (nodes - 1) text (λ rest. wants Part.Space rest (behind (codes " ") rest) tag_lack)
 
 -- an event that asks for no tag
-unfoldable pub listed_lack : List ℕ → Lack
-listed_lack text = onward (behind (codes "Queue(") text) link_lack (onward (behind (codes "Requeue(") text) link_lack (wants Part.Event text (behind (codes "Written(words") text) words_lack))
+unfoldable pub tagless_lack : List ℕ → Lack
+tagless_lack text = onward (behind (codes "Queue(") text) link_lack (onward (behind (codes "Requeue(") text) link_lack (wants Part.Event text (behind (codes "Written(words") text) words_lack))
 
 -- an event
-unfoldable pub event_lack : ℕ → List ℕ → Lack
-event_lack nodes text = onward (other_asks_at text) (λ x. other_lack nodes x.1) (onward (own_asks_at text) (λ x. tag_lack x.1) (listed_lack text))
+unfoldable pub event_lack : Bool → ℕ → List ℕ → Lack
+event_lack ranged nodes text = onward (other_asks_at text) (λ x. other_lack ranged nodes x.1) (onward (own_asks_at text) (λ x. tag_lack x.1) (tagless_lack text))
 
 -- a word's code, to the end
 unfoldable pub missed_lack : List ℕ → Lack
@@ -97,30 +101,30 @@ unfoldable pub claim_lack : Told → List ℕ → Lack
 claim_lack told text = onward (claim_at text) (λ claim. if is_told_enough told claim then None else Some (Part.Hit, text)) (outcome_lack text)
 
 -- `EVENT OUTCOME`
-unfoldable pub ended_lack : ℕ → List ℕ → Lack
-ended_lack nodes text = onward (told_at text) (λ told. if is_told_in nodes told.0 then claim_lack told.0 told.1 else event_lack nodes text) (event_lack nodes text)
+unfoldable pub ended_lack : Bool → ℕ → List ℕ → Lack
+ended_lack ranged nodes text = onward (told_at text) (λ told. if not ranged || is_told_in nodes told.0 then claim_lack told.0 told.1 else event_lack ranged nodes text) (event_lack ranged nodes text)
 
 -- ` line L EVENT OUTCOME`
-unfoldable pub placed_lack : Size → List ℕ → Lack
-placed_lack size text = wants Part.OnLine text (behind (codes " line ") text) (λ place. wants (Part.Number 0 (size.lines - 1)) place (within_at 65535 0 (size.lines - 1) place)
-    (λ rest. wants Part.Space rest (behind (codes " ") rest) (ended_lack size.nodes)))
+unfoldable pub placed_lack : Bool → Size → List ℕ → Lack
+placed_lack ranged size text = wants Part.OnLine text (behind (codes " line ") text) (λ place. wants_number ranged 65535 0 (size.lines - 1) place
+    (λ rest. wants Part.Space rest (behind (codes " ") rest) (ended_lack ranged size.nodes)))
 
 -- `node N line L EVENT OUTCOME`, whose first part is called so
-unfoldable pub entry_lack : Size → Part → List ℕ → Lack
-entry_lack size first text = wants first text (behind (codes "node ") text) (λ place. wants (Part.Number 0 (size.nodes - 1)) place (within_at 65534 0 (size.nodes - 1) place) (placed_lack size))
+unfoldable pub entry_lack : Bool → Size → Part → List ℕ → Lack
+entry_lack ranged size first text = wants first text (behind (codes "node ") text) (λ place. wants_number ranged 65534 0 (size.nodes - 1) place (placed_lack ranged size))
 
 -- `open L S V V V V V V V V`, or an entry
-unfoldable pub opening_lack : Size → List ℕ → Lack
-opening_lack size text = onward (behind (codes "open ") text) (λ place. wants (Part.Number 0 (size.lines - 1)) place (within_at 65535 0 (size.lines - 1) place) content_lack)
-    (entry_lack size Part.First text)
+unfoldable pub opening_lack : Bool → Size → List ℕ → Lack
+opening_lack ranged size text = onward (behind (codes "open ") text) (λ place. wants_number ranged 65535 0 (size.lines - 1) place content_lack)
+    (entry_lack ranged size Part.OpenOrNode text)
 
 -- ` LINES`, to the end
-unfoldable pub lines_lack : List ℕ → Lack
-lines_lack text = wants Part.Space text (behind (codes " ") text) (λ place. wants (Part.Number 1 1024) place (within_at 65535 1 1024 place) end_lack)
+unfoldable pub lines_lack : Bool → List ℕ → Lack
+lines_lack ranged text = wants Part.Space text (behind (codes " ") text) (λ place. wants_number ranged 65535 1 1024 place end_lack)
 
 -- `memory NODES LINES`
-unfoldable pub memory_lack : List ℕ → Lack
-memory_lack text = wants Part.Memory text (behind (codes "memory ") text) (λ place. wants (Part.Number 1 1024) place (within_at 65535 1 1024 place) lines_lack)
+unfoldable pub memory_lack : Bool → List ℕ → Lack
+memory_lack ranged text = wants Part.Memory text (behind (codes "memory ") text) (λ place. wants_number ranged 65535 1 1024 place (lines_lack ranged))
 
 -- which lines are due
 abbrev pub due_of : Log → Due
@@ -129,29 +133,30 @@ due_of (Log.Opening f) = Due.Opening f.size
 due_of (Log.Running f) = Due.Event f.size
 
 -- what lacks of a line where these are due
-abbrev pub line_lack : Due → List ℕ → Lack
-line_lack Due.Memory text = memory_lack text
-line_lack (Due.Opening size) text = opening_lack size text
-line_lack (Due.Event size) text = entry_lack size Part.Node text
+abbrev pub line_lack : Bool → Due → List ℕ → Lack
+line_lack ranged Due.Memory text = memory_lack ranged text
+line_lack ranged (Due.Opening size) text = opening_lack ranged size text
+line_lack ranged (Due.Event size) text = entry_lack ranged size Part.Node text
 
 -- the first such part, and which byte of the line stands in its place
 abbrev pub reason_at : List ℕ → Part × List ℕ → LineReason
 reason_at text lack = record { column = length text - length lack.1 + 1; wanted = lack.0 }
 
--- the reason of a line that is refused 16 or 17, where one lacks
-abbrev pub told_of : List ℕ → Lack → Option LineReason
-told_of text (Some lack) = Some (reason_at text lack)
-told_of text None = None
+-- the reason of a line that is refused, where one lacks
+abbrev pub reason_of : List ℕ → Lack → Option LineReason
+reason_of text (Some lack) = Some (reason_at text lack)
+reason_of text None = None
 
 abbrev pub WouldTell : LogFault → Due → List ℕ → Option LineReason → Type 0
-WouldTell (LogFault.BadLine n) due text why = why ≡ told_of text (line_lack due text)
-WouldTell (LogFault.BadNumber n) due text why = why ≡ told_of text (line_lack due text)
+WouldTell (LogFault.BadLine n) due text why = why ≡ reason_of text (line_lack false due text)
+WouldTell (LogFault.BadNumber n) due text why = why ≡ reason_of text (line_lack true due text)
 WouldTell fault due text why = why ≡ None
 
--- a reason is told exactly of a line that is refused 16 or 17: what lacks there
+-- a reason is told exactly of a line that is refused 16 or 17: the first part that lacks, of 17 with each number in its range, of 16
+-- whatever its numbers are
 abbrev pub IsWhy : LogFault → Due → List ℕ → Option LineReason → Type 0
-IsWhy (LogFault.BadLine n) due text why = (lack : Part × List ℕ) × (line_lack due text ≡ Some lack) × (why ≡ Some (reason_at text lack))
-IsWhy (LogFault.BadNumber n) due text why = (lack : Part × List ℕ) × (line_lack due text ≡ Some lack) × (why ≡ Some (reason_at text lack))
+IsWhy (LogFault.BadLine n) due text why = (lack : Part × List ℕ) × (line_lack false due text ≡ Some lack) × (why ≡ Some (reason_at text lack))
+IsWhy (LogFault.BadNumber n) due text why = (lack : Part × List ℕ) × (line_lack true due text ≡ Some lack) × (why ≡ Some (reason_at text lack))
 IsWhy fault due text why = why ≡ None
 
 -- the end, as of an empty line
@@ -159,11 +164,9 @@ abbrev pub EndsWhy : ℕ → Log → Result (Unit {0}) (LogFault × Option LineR
 EndsWhy n log (Ok u) = Ends n log (Ok u)
 EndsWhy n log (Err x) = Ends n log (Err x.0) × IsWhy x.0 (due_of log) [] x.1
 
--- the lines before the first fault are without one, and it is this, for this reason: at the next line, or at the end, as of an empty line
+-- the lines before the first fault are without one, and it is this, for this reason
 abbrev pub FaultsWhy : LogFault → Option LineReason → List ℕ → Type 0
-FaultsWhy e why input = (lines : List (List ℕ)) × (log : Log) × (rest : List ℕ) × Reaches input lines log rest
-    × (((0 < length rest) × Feeds (length lines + 1) (without_end (take_through 10 rest)) log (Err e)) ⊎ ((rest ≡ []) × Ends (length lines + 1) log (Err e)))
-    × IsWhy e (due_of log) (without_end (take_through 10 rest)) why
+FaultsWhy e why input = (log : Log) × (rest : List ℕ) × FaultsAt e input log rest × IsWhy e (due_of log) (without_end (take_through 10 rest)) why
 
 -- why the text isn't followed to its end
 abbrev pub StopsWhy : LogFault → Option LineReason → List ℕ → Type 0

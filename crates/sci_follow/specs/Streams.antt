@@ -1,5 +1,5 @@
 -- A log's text, up to its first fault. This project's profile.
-use Rattle.std.specs.Prelude.{◌≡◌, ◌⊎◌, ℕ, ◌+◌, ◌-◌, ◌<◌, List, [], ◌∷◌, length, map, take, Ok, Err, if◌then◌else◌}
+use Rattle.std.specs.Prelude.{◌≡◌, ◌⊎◌, ℕ, ◌+◌, ◌-◌, ◌<◌, List, [], ◌∷◌, length, take, Ok, Err, if◌then◌else◌}
 use Rattle.std.specs.Io.BufRead.{take_through, drop_through, ends_with_byte}
 use Rattle.std.specs.Str.Lines.{strip_carriage_return}
 use Rattle.sci_follow.specs.declared.logs.Log.{Log}
@@ -29,10 +29,14 @@ pub record Reaches (input : List ℕ) (lines : List (List ℕ)) (log : Log) (res
 abbrev pub FollowsAll : List ℕ → Type 0
 FollowsAll input = (lines : List (List ℕ)) × (log : Log) × Reaches input lines log [] × Ends (length lines + 1) log (Ok tt)
 
--- the lines before the first fault are without one, and it is this: at the next line, or at the end
-abbrev pub FaultsWith : LogFault → List ℕ → Type 0
-FaultsWith e input = (lines : List (List ℕ)) × (log : Log) × (rest : List ℕ) × Reaches input lines log rest
+-- the lines before what is left are without fault, and this is that of the next one, or of the end
+abbrev pub FaultsAt : LogFault → List ℕ → Log → List ℕ → Type 0
+FaultsAt e input log rest = (lines : List (List ℕ)) × Reaches input lines log rest
     × (((0 < length rest) × Feeds (length lines + 1) (without_end (take_through 10 rest)) log (Err e)) ⊎ ((rest ≡ []) × Ends (length lines + 1) log (Err e)))
+
+-- the first fault of a text
+abbrev pub FaultsWith : LogFault → List ℕ → Type 0
+FaultsWith e input = (log : Log) × (rest : List ℕ) × FaultsAt e input log rest
 
 -- why the text isn't followed to its end
 abbrev pub StopsWith : LogFault → List ℕ → Type 0

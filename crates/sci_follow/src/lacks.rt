@@ -3,7 +3,7 @@
 ghost use Rattle.std.specs.Prelude.{◌≡◌};
 ghost use Rattle.sci_dump.specs.Reading.{Reads};
 ghost use Rattle.sci_follow.specs.declared.parts.Part.TheVariants.{Number};
-ghost use Rattle.sci_follow.specs.Reasons.{within_at, values_end, end_lack, bracket_lack, tag_lack, link_lack, value_lack, words_lack, content_lack, other_lack, listed_lack, event_lack, missed_lack, outcome_lack, claim_lack, ended_lack, placed_lack, entry_lack, opening_lack, lines_lack, memory_lack};
+ghost use Rattle.sci_follow.specs.Reasons.{within_at, values_end, end_lack, bracket_lack, tag_lack, link_lack, value_lack, words_lack, content_lack, other_lack, tagless_lack, event_lack, missed_lack, outcome_lack, claim_lack, ended_lack, placed_lack, entry_lack, opening_lack, lines_lack, memory_lack};
 
 use crate::event_names::{other_asks, own_asks};
 use crate::event_text::{link, told_event};
@@ -15,13 +15,13 @@ use crate::told::Told;
 use sci_dump::fields::{behind, capped, number, value, values, word};
 use sci_script::Size;
 
-/// The text behind a number from `low` to `high`, of those up to `most`.
+/// The text behind a number of those up to `most`; where it has to be in its range, from `low` to `high`.
 #[tactic(auto, unfolding(crate::specs::Reasons::within_at))]
-fn within(most: u16, low: u16, high: u16, text: &[u8]) -> Option<&[u8]>
-    ensures { Reads (λ t. t.now) result (within_at most low high text.now) }
+fn within(ranged: bool, most: u16, low: u16, high: u16, text: &[u8]) -> Option<&[u8]>
+    ensures { Reads (λ t. t.now) result (within_at ranged most low high text.now) }
 {
     let (found, rest) = capped(most, text)?;
-    if low <= found && found <= high {
+    if !ranged || (low <= found && found <= high) {
         Some(rest)
     } else {
         None
@@ -141,11 +141,11 @@ fn content_lack(text: &[u8]) -> Option<(Part, &[u8])>
 
 /// `N TAG) `, of a node that is there.
 #[tactic(auto, unfolding(crate::specs::Reasons::other_lack))]
-fn other_lack(nodes: u16, text: &[u8]) -> Option<(Part, &[u8])>
-    ensures { Reads (λ x. (x.0, x.1.now)) result (other_lack nodes text.now) }
+fn other_lack(ranged: bool, nodes: u16, text: &[u8]) -> Option<(Part, &[u8])>
+    ensures { Reads (λ x. (x.0, x.1.now)) result (other_lack ranged nodes text.now) }
 {
     let last = nodes.saturating_sub(1);
-    let Some(rest) = within(65534, 0, last, text) else {
+    let Some(rest) = within(ranged, 65534, 0, last, text) else {
         return Some((number_part(0, last), text));
     };
     match behind(b" ", rest) {
@@ -155,9 +155,9 @@ fn other_lack(nodes: u16, text: &[u8]) -> Option<(Part, &[u8])>
 }
 
 /// An event that asks for no tag and is told with more than its name.
-#[tactic(auto, unfolding(crate::specs::Reasons::listed_lack))]
-fn listed_lack(text: &[u8]) -> Option<(Part, &[u8])>
-    ensures { Reads (λ x. (x.0, x.1.now)) result (listed_lack text.now) }
+#[tactic(auto, unfolding(crate::specs::Reasons::tagless_lack))]
+fn tagless_lack(text: &[u8]) -> Option<(Part, &[u8])>
+    ensures { Reads (λ x. (x.0, x.1.now)) result (tagless_lack text.now) }
 {
     if let Some(rest) = behind(b"Queue(", text) {
         return link_lack(rest);
@@ -173,16 +173,16 @@ fn listed_lack(text: &[u8]) -> Option<(Part, &[u8])>
 
 /// An event, where none stands that has its nodes.
 #[tactic(auto, unfolding(crate::specs::Reasons::event_lack))]
-fn event_lack(nodes: u16, text: &[u8]) -> Option<(Part, &[u8])>
-    ensures { Reads (λ x. (x.0, x.1.now)) result (event_lack nodes text.now) }
+fn event_lack(ranged: bool, nodes: u16, text: &[u8]) -> Option<(Part, &[u8])>
+    ensures { Reads (λ x. (x.0, x.1.now)) result (event_lack ranged nodes text.now) }
 {
     if let Some((_, rest)) = other_asks(text) {
-        return other_lack(nodes, rest);
+        return other_lack(ranged, nodes, rest);
     }
     if let Some((_, rest)) = own_asks(text) {
         return tag_lack(rest);
     }
-    listed_lack(text)
+    tagless_lack(text)
 }
 
 /// A word's code, to the end.
@@ -232,64 +232,69 @@ fn claim_lack(told: Told, text: &[u8]) -> Option<(Part, &[u8])>
 
 /// `EVENT OUTCOME`.
 #[tactic(auto, unfolding(crate::specs::Reasons::ended_lack))]
-fn ended_lack(nodes: u16, text: &[u8]) -> Option<(Part, &[u8])>
-    ensures { Reads (λ x. (x.0, x.1.now)) result (ended_lack nodes text.now) }
+fn ended_lack(ranged: bool, nodes: u16, text: &[u8]) -> Option<(Part, &[u8])>
+    ensures { Reads (λ x. (x.0, x.1.now)) result (ended_lack ranged nodes text.now) }
 {
     match told_event(text) {
         Some((told, rest)) => {
-            if is_told_in(nodes, &told) {
+            if !ranged || is_told_in(nodes, &told) {
                 claim_lack(told, rest)
             } else {
-                event_lack(nodes, text)
+                event_lack(ranged, nodes, text)
             }
         }
-        None => event_lack(nodes, text),
+        None => event_lack(ranged, nodes, text),
     }
 }
 
 /// ` line L EVENT OUTCOME`.
 #[tactic(auto, unfolding(crate::specs::Reasons::placed_lack))]
-fn placed_lack(size: Size, text: &[u8]) -> Option<(Part, &[u8])>
-    ensures { Reads (λ x. (x.0, x.1.now)) result (placed_lack size text.now) }
+fn placed_lack(ranged: bool, size: Size, text: &[u8]) -> Option<(Part, &[u8])>
+    ensures { Reads (λ x. (x.0, x.1.now)) result (placed_lack ranged size text.now) }
 {
     let last = size.lines.saturating_sub(1);
     let Some(place) = behind(b" line ", text) else {
         return Some((Part::OnLine, text));
     };
-    let Some(rest) = within(65535, 0, last, place) else {
+    let Some(rest) = within(ranged, 65535, 0, last, place) else {
         return Some((number_part(0, last), place));
     };
     match behind(b" ", rest) {
-        Some(rest) => ended_lack(size.nodes, rest),
+        Some(rest) => ended_lack(ranged, size.nodes, rest),
         None => Some((Part::Space, rest)),
     }
 }
 
 /// `node N line L EVENT OUTCOME`, whose first part is called so.
 #[tactic(auto, unfolding(crate::specs::Reasons::entry_lack))]
-pub(crate) fn entry_lack(size: Size, first: Part, text: &[u8]) -> Option<(Part, &[u8])>
-    ensures { Reads (λ x. (x.0, x.1.now)) result (entry_lack size first text.now) }
+pub(crate) fn entry_lack(
+    ranged: bool,
+    size: Size,
+    first: Part,
+    text: &[u8],
+) -> Option<(Part, &[u8])>
+    ensures { Reads (λ x. (x.0, x.1.now)) result (entry_lack ranged size first text.now) }
 {
     let last = size.nodes.saturating_sub(1);
     let Some(place) = behind(b"node ", text) else {
         return Some((first, text));
     };
-    match within(65534, 0, last, place) {
-        Some(rest) => placed_lack(size, rest),
+    match within(ranged, 65534, 0, last, place) {
+        Some(rest) => placed_lack(ranged, size, rest),
         None => Some((number_part(0, last), place)),
     }
 }
 
 /// `open L S V V V V V V V V`, or an entry.
 #[tactic(auto, unfolding(crate::specs::Reasons::opening_lack))]
-pub(crate) fn opening_lack(size: Size, text: &[u8]) -> Option<(Part, &[u8])>
-    ensures { Reads (λ x. (x.0, x.1.now)) result (opening_lack size text.now) }
+pub(crate) fn opening_lack(ranged: bool, size: Size, text: &[u8]) -> Option<(Part, &[u8])>
+    ensures { Reads (λ x. (x.0, x.1.now)) result (opening_lack ranged size text.now) }
 {
     let last = size.lines.saturating_sub(1);
     let Some(place) = behind(b"open ", text) else {
-        return entry_lack(size, Part::First, text);
+        return entry_lack(ranged, size, Part::OpenOrNode, text);
     };
-    match within(65535, 0, last, place) {
+    match within(ranged, 65535, 0, last, place) {
         Some(rest) => content_lack(rest),
         None => Some((number_part(0, last), place)),
     }
@@ -297,13 +302,13 @@ pub(crate) fn opening_lack(size: Size, text: &[u8]) -> Option<(Part, &[u8])>
 
 /// ` LINES`, to the end.
 #[tactic(auto, unfolding(crate::specs::Reasons::lines_lack))]
-fn lines_lack(text: &[u8]) -> Option<(Part, &[u8])>
-    ensures { Reads (λ x. (x.0, x.1.now)) result (lines_lack text.now) }
+fn lines_lack(ranged: bool, text: &[u8]) -> Option<(Part, &[u8])>
+    ensures { Reads (λ x. (x.0, x.1.now)) result (lines_lack ranged text.now) }
 {
     let Some(place) = behind(b" ", text) else {
         return Some((Part::Space, text));
     };
-    match within(65535, 1, 1024, place) {
+    match within(ranged, 65535, 1, 1024, place) {
         Some(rest) => end_lack(rest),
         None => Some((number_part(1, 1024), place)),
     }
@@ -311,14 +316,14 @@ fn lines_lack(text: &[u8]) -> Option<(Part, &[u8])>
 
 /// `memory NODES LINES`.
 #[tactic(auto, unfolding(crate::specs::Reasons::memory_lack))]
-pub(crate) fn memory_lack(text: &[u8]) -> Option<(Part, &[u8])>
-    ensures { Reads (λ x. (x.0, x.1.now)) result (memory_lack text.now) }
+pub(crate) fn memory_lack(ranged: bool, text: &[u8]) -> Option<(Part, &[u8])>
+    ensures { Reads (λ x. (x.0, x.1.now)) result (memory_lack ranged text.now) }
 {
     let Some(place) = behind(b"memory ", text) else {
         return Some((Part::Memory, text));
     };
-    match within(65535, 1, 1024, place) {
-        Some(rest) => lines_lack(rest),
+    match within(ranged, 65535, 1, 1024, place) {
+        Some(rest) => lines_lack(ranged, rest),
         None => Some((number_part(1, 1024), place)),
     }
 }

@@ -18,7 +18,7 @@ pub enum Part {
     /// `memory `, in front of all other lines.
     Memory,
     /// `open ` or `node `.
-    First,
+    OpenOrNode,
     /// `node `.
     Node,
     /// ` line `.
@@ -51,7 +51,7 @@ impl fmt::Display for Part {
     fn fmt<W: fmt::Write>(&self, f: &mut fmt::Formatter<W>) -> fmt::Result {
         match self {
             Part::Memory => f.write_str("memory NODES LINES"),
-            Part::First => f.write_str("open L or node N"),
+            Part::OpenOrNode => f.write_str("open L or node N"),
             Part::Node => f.write_str("node N"),
             Part::OnLine => f.write_str("a space and line L"),
             Part::Number { low, high } => write!(f, "a number from {low} to {high}"),

@@ -8,4 +8,4 @@ mod why;
 
 pub use places::{Due, Format, Stage};
 pub use reasons::{RowFault, RowReason};
-pub use why::{why_dump, why_history};
+pub use why::{why_dump, why_history, why_row};

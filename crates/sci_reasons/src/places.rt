@@ -1,6 +1,7 @@
 //! Where a text stands, by its lines so far, and which lines are due there.
 
 use crate::rows::{Row, name, number_in};
+use sci_dump::{DumpHead, DumpPlace};
 use sci_words::Layout;
 use std::fmt;
 
@@ -47,6 +48,30 @@ impl Due {
             nodes: 0,
             lines: 0,
             stage: Stage::Head,
+        }
+    }
+
+    /// Behind the head of a dump.
+    fn within(head: DumpHead, stage: Stage) -> Due {
+        Due {
+            layout: head.layout,
+            nodes: u64::from(head.nodes),
+            lines: u64::from(head.lines),
+            stage,
+            ..Due::new(Format::Dump)
+        }
+    }
+
+    /// At this place of a dump.
+    pub(crate) fn at(place: DumpPlace) -> Due {
+        match place {
+            DumpPlace::Start => Due::new(Format::Dump),
+            DumpPlace::Head(head) => Due::within(head, Stage::Line(0)),
+            DumpPlace::Line { head, line, node } => Due::within(head, Stage::Nodes { line, node }),
+            DumpPlace::End => Due {
+                stage: Stage::Done,
+                ..Due::new(Format::Dump)
+            },
         }
     }
 

@@ -23,6 +23,9 @@ pub enum RowReason {
     /// It stands behind `end`.
     #[error("nothing wanted behind end")]
     Behind,
+    /// It is longer than any row.
+    #[error("fewer than 1024 bytes wanted")]
+    Long,
     /// No line feed ends it.
     #[error("a line feed wanted at its end")]
     Cut,

@@ -28,7 +28,7 @@ pub fn number_in(text: &[u8], place: usize) -> Option<u64> {
 }
 
 /// A line of text.
-#[derive(Clone, Copy, Debug, PartialEq, Eq, Drop)]
+#[derive(Clone, Copy, Drop)]
 pub enum Row {
     /// `scidump` in this layout.
     Dump(Layout),
@@ -60,7 +60,7 @@ pub enum Row {
 }
 
 /// What is wanted as a word.
-#[derive(Clone, Copy, Debug, PartialEq, Eq, Drop)]
+#[derive(Clone, Copy, Drop)]
 enum Field {
     /// The name of the line.
     Name,

@@ -1,13 +1,13 @@
 //! Why a text is refused, at the line that its reader refuses.
 
-ghost use Rattle.std.specs.Prelude.{IfOk};
+ghost use Rattle.std.specs.Prelude.{◌≡◌, IfOk};
 ghost use Rattle.sci_dump.specs.Reading.{dump_of};
 ghost use Rattle.sci_histories.specs.Reading.{history_of};
 ghost use Rattle.sci_reasons.specs.Reasons.{IsWhy};
 
 use crate::places::{Due, Format, Stage};
 use crate::reasons::{RowFault, RowReason};
-use sci_dump::{DumpRefusal, read_dump};
+use sci_dump::{DumpRefusal, DumpRow, ROW_LIMIT, read_dump};
 use sci_histories::read_history;
 use std::alloc::{AllocError, Global};
 
@@ -20,6 +20,8 @@ fn fault(due: Due, text: &[u8], is_ended: bool) -> RowReason {
         return RowReason::End(due);
     }
     match due.row(text) {
+        // of a longer line only a front may be there
+        Some(_) if due.format == Format::Dump && text.len() >= ROW_LIMIT => RowReason::Long,
         Some(row) => row.fault(text).unwrap_or(RowReason::Cut),
         None => RowReason::Other(due),
     }
@@ -38,6 +40,21 @@ fn why_line(format: Format, text: &[u8], line: u64) -> RowReason {
         due = due.behind(row);
     }
     RowReason::End(due)
+}
+
+/// Why a line of text is refused where it stands in a dump, in words.
+pub fn why_row(row: &DumpRow) -> RowFault
+    ensures { result.line ≡ row.now.number }
+{
+    let due = Due::at(row.place);
+    let reason = match row.text.as_slice() {
+        [text @ .., b'\n'] => fault(due, text, true),
+        text => fault(due, text, false),
+    };
+    RowFault {
+        line: row.number,
+        reason,
+    }
 }
 
 /// Why a text is refused as a dump, in words. None where it isn't refused 21; else of the line of that refusal. Refusal 7 alone.

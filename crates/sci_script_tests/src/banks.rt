@@ -1,13 +1,11 @@
 //! Desks over banks of lines that threads share: they print what a desk of whole lines does.
 ghost use Rattle.std.specs.Prelude.{◌≡◌, ℕ, List, length, vec_items, IsTrue};
+ghost use Rattle.sci_port.specs.SeatBanks.{IsLine};
 ghost use Rattle.sci_script.specs.BankDesks.{AreBanksOf, IsBankOf};
 ghost use Rattle.sci_script.specs.Dealt.{ArePiled, AreShared};
 
-use crate::shared::{Shared, hand_of, opened};
-use sci_coarse::{CoarseBank, CoarseLine};
-use sci_core::AnyWords;
-use sci_fine::{FineBank, FineLine};
-use sci_port::Bank;
+use crate::shared::{ScriptLine, hand_of, opened};
+use sci_port::{Bank, SeatBank};
 use sci_script::{BankDesk, Script, ScriptRefusal, read_script};
 use std::alloc::Global;
 use std::test::Fail;
@@ -64,81 +62,33 @@ pub(crate) fn run_over<B: Bank + Drop>(
 }
 
 /// The banks of the script's nodes over these lines. None: there is no memory, or they make no banks.
-pub(crate) fn coarse_banks<'a>(
+fn banks_of<'a, L: ScriptLine>(
     alloc: Global,
     script: &Script,
-    lines: &'a [CoarseLine<AnyWords>],
-    piles: &mut Vec<Vec<sci_coarse::Seat<AnyWords>>>,
-) -> Option<Vec<CoarseBank<'a, AnyWords>>>
+    lines: &'a [L],
+    piles: &mut Vec<Vec<L::Seat>>,
+) -> Option<Vec<SeatBank<'a, L>>>
     requires count { length lines.now ≡ script.now.size.lines }
-    requires lines { AreShared ⟦<CoarseLine<AnyWords> as Shared>⟧.is_line script.now.size.nodes lines.now }
-    requires piles { ArePiled ⟦<CoarseLine<AnyWords> as Shared>⟧.is_seat vec_items lines.now piles.old.items }
+    requires lines { AreShared (λ l nodes number. IsLine nodes (record {}) number (L.terms l)) script.now.size.nodes lines.now }
+    requires piles { ArePiled L.is_seat vec_items lines.now piles.old.items }
 {
     let mut banks = Vec::new(alloc);
     for _ in 0..script.nodes() {
         let hand = hand_of(alloc, lines, piles)?;
-        let Ok(bank) = CoarseBank::new(lines, hand) else {
-            return None;
-        };
-        if banks.insert(0, bank).is_err() {
-            return None;
-        }
+        let bank = SeatBank::new(lines, hand).ok()?;
+        banks.insert(0, bank).ok()?;
     }
     Some(banks)
-}
-
-/// The banks of the script's nodes over these lines. None: there is no memory, or they make no banks.
-pub(crate) fn fine_banks<'a>(
-    alloc: Global,
-    script: &Script,
-    lines: &'a [FineLine<AnyWords>],
-    piles: &mut Vec<Vec<sci_fine::Seat<AnyWords>>>,
-) -> Option<Vec<FineBank<'a, AnyWords>>>
-    requires count { length lines.now ≡ script.now.size.lines }
-    requires lines { AreShared ⟦<FineLine<AnyWords> as Shared>⟧.is_line script.now.size.nodes lines.now }
-    requires piles { ArePiled ⟦<FineLine<AnyWords> as Shared>⟧.is_seat vec_items lines.now piles.old.items }
-{
-    let mut banks = Vec::new(alloc);
-    for _ in 0..script.nodes() {
-        let hand = hand_of(alloc, lines, piles)?;
-        let Ok(bank) = FineBank::new(lines, hand) else {
-            return None;
-        };
-        if banks.insert(0, bank).is_err() {
-            return None;
-        }
-    }
-    Some(banks)
-}
-
-/// A line that a script can be run over.
-pub trait Banked: Shared {
-    /// Runs a script over banks of such lines. None: there is no memory, or they make no banks.
-    fn run(alloc: Global, script: &Script, out: &mut Vec<u8>) -> Option<Result<(), ScriptRefusal>>;
-}
-
-impl Banked for CoarseLine<AnyWords> {
-    fn run(alloc: Global, script: &Script, out: &mut Vec<u8>) -> Option<Result<(), ScriptRefusal>> {
-        let (lines, mut piles) = opened::<CoarseLine<AnyWords>>(alloc, script)?;
-        let banks = coarse_banks(alloc, script, &lines, &mut piles)?;
-        run_over(alloc, script, banks, out)
-    }
-}
-
-impl Banked for FineLine<AnyWords> {
-    fn run(alloc: Global, script: &Script, out: &mut Vec<u8>) -> Option<Result<(), ScriptRefusal>> {
-        let (lines, mut piles) = opened::<FineLine<AnyWords>>(alloc, script)?;
-        let banks = fine_banks(alloc, script, &lines, &mut piles)?;
-        run_over(alloc, script, banks, out)
-    }
 }
 
 /// Reads a script, and runs it over banks of such lines.
-pub(crate) fn run_on<L: Banked>(
+pub(crate) fn run_on<L: ScriptLine>(
     alloc: Global,
     text: &str,
     out: &mut Vec<u8>,
 ) -> Result<Result<(), ScriptRefusal>, Fail> {
     let script = read_script(alloc, text.as_bytes())?;
-    Ok(L::run(alloc, &script, out).ok_or("no desk")?)
+    let (lines, mut piles) = opened::<L>(alloc, &script).ok_or("no lines")?;
+    let banks = banks_of(alloc, &script, &lines, &mut piles).ok_or("no banks")?;
+    Ok(run_over(alloc, &script, banks, out).ok_or("no desk")?)
 }

@@ -1,24 +1,18 @@
 //! Lines that threads share, opened as a script says, and their seats, dealt to the nodes.
 ghost use Rattle.std.specs.Prelude.{◌≡◌, ℕ, length, vec_items, IfSome};
+ghost use Rattle.sci_port.specs.SeatBanks.{IsLine};
 ghost use Rattle.sci_script.specs.Dealt.{AreDealt, ArePiled, AreSeats, AreShared};
 
 use sci_coarse::CoarseLine;
 use sci_core::{AnyWords, Line};
 use sci_fine::FineLine;
+use sci_port::SharedLine;
 use sci_script::Script;
 use sci_words::LineNo;
 use std::alloc::Global;
 
-/// A line that threads share, with a seat for each node.
-pub trait Shared: Sized {
-    type Seat: Drop;
-
-    /// The line has so many nodes, and this number.
-    ghost is_line: { Self → ℕ → ℕ → Type 0 };
-
-    /// The seat is one of this very line.
-    ghost is_seat: { Self → Self.Seat → Type 0 };
-
+/// A kind of line that threads share, of which a script's memory may be.
+pub trait ScriptLine: SharedLine<Keep = AnyWords> + Sized + Drop {
     /// A line that nobody has used, and its seats. None: there is no memory, or it can't have so many nodes.
     fn opened(
         alloc: Global,
@@ -26,63 +20,39 @@ pub trait Shared: Sized {
         number: LineNo,
         content: Line,
     ) -> Option<(Self, Vec<Self::Seat>)>
-        ensures line { IfSome result (λ r. is_line r.0 nodes number) }
-        ensures seats { IfSome result (λ r. AreSeats is_seat r.0 r.1.items) };
+        ensures line { IfSome result (λ r. IsLine nodes (record {}) number (Self.terms r.0)) }
+        ensures seats { IfSome result (λ r. AreSeats Self.is_seat r.0 r.1.items) };
 }
 
-impl Shared for CoarseLine<AnyWords> {
-    ghost use Rattle.sci_coarse.specs.Banks.{IsLine};
-    ghost use Rattle.sci_coarse.specs.Seats.{IsSeatOf};
-
-    type Seat = sci_coarse::Seat<AnyWords>;
-
-    ghost is_line = { λ line nodes number. IsLine nodes (record {}) number line };
-
-    ghost is_seat = { λ line seat. IsSeatOf line seat };
-
+impl ScriptLine for CoarseLine<AnyWords> {
     fn opened(
         alloc: Global,
         nodes: u16,
         number: LineNo,
         content: Line,
     ) -> Option<(CoarseLine<AnyWords>, Vec<sci_coarse::Seat<AnyWords>>)> {
-        let Ok(opened) = CoarseLine::new(alloc, nodes, number, content, AnyWords) else {
-            return None;
-        };
-        Some(opened)
+        CoarseLine::new(alloc, nodes, number, content, AnyWords).ok()
     }
 }
 
-impl Shared for FineLine<AnyWords> {
-    ghost use Rattle.sci_fine.specs.Banks.{IsLine};
-    ghost use Rattle.sci_fine.specs.Seats.{IsSeatOf};
-
-    type Seat = sci_fine::Seat<AnyWords>;
-
-    ghost is_line = { λ line nodes number. IsLine nodes (record {}) number line };
-
-    ghost is_seat = { λ line seat. IsSeatOf line seat };
-
+impl ScriptLine for FineLine<AnyWords> {
     fn opened(
         alloc: Global,
         nodes: u16,
         number: LineNo,
         content: Line,
     ) -> Option<(FineLine<AnyWords>, Vec<sci_fine::Seat<AnyWords>>)> {
-        let Ok(opened) = FineLine::new(alloc, nodes, number, content, AnyWords) else {
-            return None;
-        };
-        Some(opened)
+        FineLine::new(alloc, nodes, number, content, AnyWords).ok()
     }
 }
 
 /// The lines of a script as it opens them, and the seats of each, in a pile for each line.
-pub(crate) fn opened<L: Shared + Drop>(
+pub(crate) fn opened<L: ScriptLine>(
     alloc: Global,
     script: &Script,
 ) -> Option<(Vec<L>, Vec<Vec<L::Seat>>)>
     ensures count { IfSome result (λ r. length r.0.items ≡ script.now.size.lines) }
-    ensures lines { IfSome result (λ r. AreShared L.is_line script.now.size.nodes r.0.items) }
+    ensures lines { IfSome result (λ r. AreShared (λ l nodes number. IsLine nodes (record {}) number (L.terms l)) script.now.size.nodes r.0.items) }
     ensures piles { IfSome result (λ r. ArePiled L.is_seat vec_items r.0.items r.1.items) }
 {
     let mut lines = Vec::new(alloc);
@@ -100,7 +70,7 @@ pub(crate) fn opened<L: Shared + Drop>(
 }
 
 /// The last node that still has its seats: its seat at each line. None: there is no memory, or a pile has no seat.
-pub(crate) fn hand_of<L: Shared>(
+pub(crate) fn hand_of<L: ScriptLine>(
     alloc: Global,
     lines: &[L],
     piles: &mut Vec<Vec<L::Seat>>,

@@ -398,7 +398,8 @@ module _ (size : Size) (is : IsSize size) where
 
 -- a text without a fault is followed, where it is read and memory lasts
 fault_is : (text : List ℕ) (e : LogFault) → NoFault text 1 Log.New → FaultsWith e text → IsMemory e
-fault_is text e none (lines, log, rest, reaches, fault) =
+fault_is text e none (log, rest, there) =
+    let (lines, reaches, fault) = there in
     let at : length lines + 1 ≡ 1 + length lines = omega arith in
     none lines log rest e reaches.cuts reaches.feeds
     (subst (λ (k : ℕ). IsFault rest k log e) at fault)

@@ -28,3 +28,7 @@ pub mod Fed
 pub mod LogFollows
 pub mod LineHistories
 pub mod LinesLeft
+pub mod Skipping
+pub mod Passing
+pub mod Wording
+pub mod Gathering

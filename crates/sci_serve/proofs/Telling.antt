@@ -1,8 +1,8 @@
 -- What is told of a dump's lines, one after another.
-use Rattle.std.proofs.Common.{◌≡◌, ℕ, ◌+◌, ◌<◌, ◌≤◌, ◌⊎◌, List, [], ◌∷◌, ◌++◌, length, take, Option, Some, None, IfSome, Result, OnOk, IfErr, Ok, Err, refl, sym, ap, ◌∙◌, subst, arith, inl, inr, length-append, append-nil, slice_index_or, append_assoc}
+use Rattle.std.proofs.Common.{◌≡◌, ℕ, ◌+◌, List, [], ◌∷◌, ◌++◌, length, take, Option, Ok, refl, sym, ap, ◌∙◌, subst, arith, inl, inr, length-append, append-nil, slice_index_or}
 use Rattle.std.specs.Prelude.{codes}
 use Rattle.std.specs.Io.KnownBytes.{Appends}
-use Rattle.std.proofs.KnownBytes.{Appends-nil, Appends-trans}
+use Rattle.std.proofs.KnownBytes.{Appends-trans}
 use Rattle.std.proofs.lemmas.List.{get_or_append_left, take-append-le}
 use Rattle.std.proofs.lemmas.List.Elements.{All-push, All-nil}
 use Rattle.std.proofs.Math.Seq.{get_or-append_seam, take-append_seam, take-append-add}
@@ -15,10 +15,9 @@ use Rattle.sci_dump.specs.declared.streams.StreamFault.{StreamFault}
 use Rattle.sci_dump.specs.declared.streams.StreamFault.TheVariants as streams
 use Rattle.sci_dump.specs.Dumps.{DumpLines}
 use Rattle.sci_dump.specs.Reading.{dump_of}
-use Rattle.sci_dump.specs.Rules.{KeepsEnding, BreaksFirst, FirstBroken, IsVerdictOf}
-use Rattle.sci_dump.specs.Streams.{sound_lines, StopsBehind}
+use Rattle.sci_dump.specs.Rules.{KeepsEnding, BreaksFirst}
+use Rattle.sci_dump.specs.Streams.{lines_before_fault, StopsBehind}
 use Rattle.sci_serve.specs.declared.faults.SimFault.{SimFault}
-use Rattle.sci_serve.specs.declared.faults.SimFault.TheVariants.{CannotRead, CannotWrite, Refused, NoDump, Unlawful as SaysNo}
 use Rattle.sci_serve.specs.Verdicts.{list_of, AreListsOf, unlawful_line}
 use Rattle.sci_serve.specs.Large.{stream_fault_of, IsTold, Tells, FailsTelling, FailsConcluding, ChecksLarge, StopsLarge}
 use Rattle.sci_serve.proofs.Listing.{lists_more}
@@ -70,15 +69,15 @@ abbrev pub Ends : SimFault → List ℕ → Option (List ℕ) → Option (List �
 Ends e input old new = (written : List ℕ) × StopsLarge e input written × Appends old new written
 
 -- the reading stops behind these lines
-pub stream_stops : (e : StreamFault) (input text : List ℕ) (cs : List ClosedLine) (verdict : Verdict) (old new : Option (List ℕ)) → take (length cs) (sound_lines input) ≡ cs → StopsBehind e input cs → IsTold cs verdict text → Appends old new text
+pub stream_stops : (e : StreamFault) (input text : List ℕ) (cs : List ClosedLine) (verdict : Verdict) (old new : Option (List ℕ)) → take (length cs) (lines_before_fault input) ≡ cs → StopsBehind e input cs → IsTold cs verdict text → Appends old new text
     → Ends (stream_fault_of e) input old new
 stream_stops streams.OutOfMemory input text cs verdict old new sound h told appended = (text, (length cs, verdict, subst (λ (ds : List ClosedLine). IsTold ds verdict text) (sym sound) told), appended)
 stream_stops streams.CannotRead input text cs verdict old new sound h told appended = (text, (length cs, verdict, subst (λ (ds : List ClosedLine). IsTold ds verdict text) (sym sound) told), appended)
-stream_stops (streams.DumpFault n) input text cs verdict old new sound h told appended = (text, (h.0, verdict, subst (λ (ds : List ClosedLine). IsTold ds verdict text) (sym h.1) told), appended)
+stream_stops (streams.DumpFault row) input text cs verdict old new sound h told appended = (text, (h.0, verdict, subst (λ (ds : List ClosedLine). IsTold ds verdict text) (sym h.1) told), appended)
 
 -- a line isn't told
-pub tell_stops : (e : SimFault) (input text : List ℕ) (cs : List ClosedLine) (c : ClosedLine) (before : Verdict) (number : ℕ) (old mid new : Option (List ℕ)) → take (length cs) (sound_lines input) ≡ cs
-    → take (length (cs ++ c ∷ [])) (sound_lines input) ≡ cs ++ c ∷ [] → length cs ≡ number → IsTold cs before text → Appends old mid text → FailsTelling e before number c mid new → Ends e input old new
+pub tell_stops : (e : SimFault) (input text : List ℕ) (cs : List ClosedLine) (c : ClosedLine) (before : Verdict) (number : ℕ) (old mid new : Option (List ℕ)) → take (length cs) (lines_before_fault input) ≡ cs
+    → take (length (cs ++ c ∷ [])) (lines_before_fault input) ≡ cs ++ c ∷ [] → length cs ≡ number → IsTold cs before text → Appends old mid text → FailsTelling e before number c mid new → Ends e input old new
 tell_stops e input text cs c before number old mid new sound more_sound count told appended (inl h) =
     subst (λ (f : SimFault). Ends f input old new) (sym h.0) (
       text,
@@ -86,7 +85,7 @@ tell_stops e input text cs c before number old mid new sound more_sound count to
       subst (λ (xs : List ℕ). Appends old new xs) (append-nil text) (Appends-trans old mid new text [] appended h.1),
     )
 tell_stops e input text cs c before number old mid new sound more_sound count told appended (inr (is, verdict, more, n, tells, less, front)) =
-    let all : IsTold (take (length (cs ++ c ∷ [])) (sound_lines input)) verdict (text ++ more) = subst (λ (ds : List ClosedLine). IsTold ds verdict (text ++ more)) (sym more_sound) (tells cs text count told) in
+    let all : IsTold (take (length (cs ++ c ∷ [])) (lines_before_fault input)) verdict (text ++ more) = subst (λ (ds : List ClosedLine). IsTold ds verdict (text ++ more)) (sym more_sound) (tells cs text count told) in
     subst (λ (f : SimFault). Ends f input old new) (sym is) (
       text ++ take n more,
       (text ++ more, length text + n, inl (length (cs ++ c ∷ []), verdict, all), omega (arith, less, length-append text more), sym (take-append-add text more n)),
@@ -95,32 +94,22 @@ tell_stops e input text cs c before number old mid new sound more_sound count to
 
 -- a whole dump is judged
 pub concluded : (input text : List ℕ) (dump : DumpLines) (verdict : Verdict) (old mid new : Option (List ℕ)) → dump_of input ≡ Ok dump → IsTold dump.lines verdict text → Appends old mid text
-    → (verdict ≡ Lawful) × Appends mid new (codes "lawful\n") → (whole : List ℕ) × ChecksLarge input Lawful whole × Appends old new whole
+    → (verdict ≡ Lawful) × Appends mid new (codes "lawful\n") → (lists : List ℕ) × ChecksLarge input Lawful lists × Appends old new (lists ++ codes "lawful\n")
 concluded input text dump verdict old mid new is told appended (lawful, last) =
-    let (exact, lists) = subst (λ (v : Verdict). IsTold dump.lines v text) lawful told in
-    (text ++ codes "lawful\n", (dump, is, exact, (text, lists, refl)), Appends-trans old mid new text (codes "lawful\n") appended last)
+    (text, (dump, is, subst (λ (v : Verdict). IsTold dump.lines v text) lawful told), Appends-trans old mid new text (codes "lawful\n") appended last)
 
 pub not_concluded : (e : SimFault) (input text : List ℕ) (dump : DumpLines) (verdict : Verdict) (old mid new : Option (List ℕ)) → dump_of input ≡ Ok dump → IsTold dump.lines verdict text → Appends old mid text
     → FailsConcluding e verdict mid new → Ends e input old new
 not_concluded e input text dump verdict old mid new is told appended (inl (says, number, rule, unlawful, last)) =
-    let (first, lists) = subst (λ (v : Verdict). IsTold dump.lines v text) unlawful told in
     subst (λ (f : SimFault). Ends f input old new) (sym says) (
       text,
-      (number, rule, (dump, is, first, lists)),
+      (number, rule, (dump, is, subst (λ (v : Verdict). IsTold dump.lines v text) unlawful told)),
       subst (λ (xs : List ℕ). Appends old new xs) (append-nil text) (Appends-trans old mid new text [] appended last),
     )
 not_concluded e input text dump verdict old mid new is told appended (inr (cannot, lawful, n, less, front)) =
-    let (exact, lists) = subst (λ (v : Verdict). IsTold dump.lines v text) lawful told in
+    let lists = subst (λ (v : Verdict). IsTold dump.lines v text) lawful told in
     subst (λ (f : SimFault). Ends f input old new) (sym cannot) (
       text ++ take n (codes "lawful\n"),
-      (text ++ codes "lawful\n", length text + n, inr (dump, is, exact, (text, lists, refl)), omega (arith, less, length-append text (codes "lawful\n")), sym (take-append-add text (codes "lawful\n") n)),
+      (text ++ codes "lawful\n", length text + n, inr (text, (dump, is, lists), refl), omega (arith, less, length-append text (codes "lawful\n")), sym (take-append-add text (codes "lawful\n") n)),
       Appends-trans old mid new text (take n (codes "lawful\n")) appended front,
     )
-
-pub on_ok : {A B : Type 0} (r : Result (Unit {0}) SimFault) → OnOk r A → (A → B) → OnOk r B
-on_ok (Ok x) h f = f h
-on_ok (Err e) h f = tt
-
-pub on_err : {P Q : SimFault → Type 0} (r : Result (Unit {0}) SimFault) → IfErr r P → ((e : SimFault) → P e → Q e) → IfErr r Q
-on_err (Ok x) h f = tt
-on_err (Err e) h f = f e h

@@ -1,5 +1,5 @@
 -- What the command `check --large` writes of a dump, line by line. This project's profile.
-use Rattle.std.specs.Prelude.{◌≡◌, ◌⊎◌, ℕ, ◌<◌, List, [], ◌∷◌, ◌++◌, length, take, codes, Ok, Err, Option}
+use Rattle.std.specs.Prelude.{◌≡◌, ◌⊎◌, ℕ, ◌<◌, List, [], ◌∷◌, ◌++◌, length, take, codes, Ok, Err, Option, Some, None}
 use Rattle.std.specs.Io.KnownBytes.{Appends}
 use Rattle.sci_core.specs.Closed.{ClosedLine}
 use Rattle.sci_script.specs.declared.refusals.ScriptRefusal.TheVariants.{OutOfMemory, BadCommand, BadNumber, NotDone, WriteFailed}
@@ -12,14 +12,15 @@ use Rattle.sci_dump.specs.declared.streams.StreamFault.TheVariants as streams
 use Rattle.sci_dump.specs.Dumps.{DumpLines}
 use Rattle.sci_dump.specs.Reading.{dump_of}
 use Rattle.sci_dump.specs.Rules.{IsVerdictOf}
-use Rattle.sci_dump.specs.Streams.{sound_lines}
+use Rattle.sci_dump.specs.Streams.{lines_before_fault}
+use Rattle.sci_reasons.specs.declared.reasons.RowFault.{RowFault}
 use Rattle.sci_serve.specs.declared.faults.SimFault.{SimFault}
 use Rattle.sci_serve.specs.declared.faults.SimFault.TheVariants.{CannotRead, CannotWrite, InputTooLong, Refused, NoDump, Unlawful as SaysNo, NoRun}
-use Rattle.sci_serve.specs.Verdicts.{AreListsOf, IsTextOf, unlawful_line}
+use Rattle.sci_serve.specs.Verdicts.{AreListsOf, unlawful_line}
 
 abbrev pub stream_fault_of : StreamFault → SimFault
 stream_fault_of streams.OutOfMemory = Refused OutOfMemory
-stream_fault_of (streams.DumpFault n) = NoDump n
+stream_fault_of (streams.DumpFault row) = NoDump row.number
 stream_fault_of streams.CannotRead = CannotRead
 
 -- each line's list line, up to the first line that is unlawful, and which rule that breaks
@@ -45,30 +46,34 @@ abbrev pub FailsConcluding : SimFault → Verdict → Option (List ℕ) → Opti
 FailsConcluding e verdict old new = ((e ≡ SaysNo) × (number : ℕ) × (rule : Rule) × (verdict ≡ Unlawful number rule) × Appends old new [])
     ⊎ ((e ≡ CannotWrite) × (verdict ≡ Lawful) × (n : ℕ) × (n < length (codes "lawful\n")) × Appends old new (take n (codes "lawful\n")))
 
--- all that is written of a lawful dump is what `check` writes of it; of another it ends with what is told of its lines
-abbrev pub IsLargeTextOf : List ClosedLine → Verdict → List ℕ → Type 0
-IsLargeTextOf cs Lawful text = IsTextOf cs Lawful text
-IsLargeTextOf cs (Unlawful number rule) text = IsToldOf cs (Unlawful number rule) text
-
--- the input is a dump with this verdict, and this is its text
+-- the input is a dump with this verdict, and this is told of its lines
 abbrev pub ChecksLarge : List ℕ → Verdict → List ℕ → Type 0
-ChecksLarge input verdict text = (dump : DumpLines) × (dump_of input ≡ Ok dump) × IsVerdictOf dump.lines verdict × IsLargeTextOf dump.lines verdict text
+ChecksLarge input verdict text = (dump : DumpLines) × (dump_of input ≡ Ok dump) × IsTold dump.lines verdict text
 
 -- what is told of the first lines of an input
 abbrev pub IsToldUpTo : List ℕ → List ℕ → Type 0
-IsToldUpTo input text = (k : ℕ) × (verdict : Verdict) × IsTold (take k (sound_lines input)) verdict text
+IsToldUpTo input text = (k : ℕ) × (verdict : Verdict) × IsTold (take k (lines_before_fault input)) verdict text
+
+-- what is written of an input up to some line, or of a lawful dump
+abbrev pub IsLargeText : List ℕ → List ℕ → Type 0
+IsLargeText input text = IsToldUpTo input text ⊎ ((lists : List ℕ) × ChecksLarge input Lawful lists × (text ≡ lists ++ codes "lawful\n"))
 
 -- what is written where the command fails: what is told of the lines that were read; all of them where the check says no, or the text
 -- is no dump; and a front where the writer failed
 abbrev pub StopsLarge : SimFault → List ℕ → List ℕ → Type 0
 StopsLarge CannotRead input written = IsToldUpTo input written
-StopsLarge CannotWrite input written = (text : List ℕ) × (n : ℕ) × (IsToldUpTo input text ⊎ ChecksLarge input Lawful text) × (n < length text) × (written ≡ take n text)
+StopsLarge CannotWrite input written = (text : List ℕ) × (n : ℕ) × IsLargeText input text × (n < length text) × (written ≡ take n text)
 StopsLarge InputTooLong input written = ⊥
 StopsLarge (Refused OutOfMemory) input written = IsToldUpTo input written
 StopsLarge (Refused (BadCommand n)) input written = ⊥
 StopsLarge (Refused (BadNumber n)) input written = ⊥
 StopsLarge (Refused (NotDone n)) input written = ⊥
 StopsLarge (Refused WriteFailed) input written = ⊥
-StopsLarge (NoDump n) input written = (dump_of input ≡ Err (refusals.DumpFault n)) × (verdict : Verdict) × IsTold (sound_lines input) verdict written
+StopsLarge (NoDump n) input written = (dump_of input ≡ Err (refusals.DumpFault n)) × (verdict : Verdict) × IsTold (lines_before_fault input) verdict written
 StopsLarge SaysNo input written = (number : ℕ) × (rule : Rule) × ChecksLarge input (Unlawful number rule) written
 StopsLarge (NoRun e) input written = ⊥
+
+-- why a line of text is refused: told of that line, where one is
+abbrev pub IsWhyStopped : SimFault → Option RowFault → Type 0
+IsWhyStopped (NoDump n) why = (fault : RowFault) × (why ≡ Some fault) × (fault.line ≡ n)
+IsWhyStopped e why = why ≡ None

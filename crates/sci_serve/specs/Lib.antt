@@ -19,3 +19,5 @@ pub mod Plays
 pub mod Accepted
 pub mod ReadBack
 pub mod FollowedTurns
+pub mod Kinds
+pub mod Gathered

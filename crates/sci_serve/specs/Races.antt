@@ -18,8 +18,14 @@ use Rattle.sci_races.specs.Start.{LeavesOpen, LeavesNone}
 use Rattle.sci_serve.specs.declared.faults.SimFault.TheVariants.{CannotRead, CannotWrite, InputTooLong, Refused, NoDump, Unlawful, NoRun}
 use Rattle.sci_serve.specs.declared.racing.RaceFault.{RaceFault}
 use Rattle.sci_serve.specs.declared.racing.RaceFault.TheVariants.{Fault, TooManyStates}
+use Rattle.sci_serve.specs.Fault.{status_of}
 use Rattle.sci_serve.specs.Input.{IsToldInTime}
 use Rattle.sci_serve.specs.Serve.{IsRefused}
+
+-- 1 where a search stops
+abbrev pub race_status_of : RaceFault → ℕ
+race_status_of (Fault e) = status_of e
+race_status_of TooManyStates = 1
 
 abbrev pub race_fault_of : SearchRefusal → RaceFault
 race_fault_of search.OutOfMemory = Fault (Refused OutOfMemory)

@@ -26,7 +26,7 @@ fn keep(limit: usize, kept: Option<Vec<u8>>, bytes: &[u8]) -> Result<Option<Vec<
 }
 
 /// Reads to the end. Bytes past the limit are dropped, and the input is then refused with 23, at its end. An input that
-/// hasn't ended after twice as many reads as it may have bytes can't be read.
+/// hasn't ended after twice as many reads as it may have bytes, or as the common limit has where that is more, can't be read.
 pub fn read_input<R: Read>(alloc: Global, limit: usize, reader: &mut R) -> Result<Vec<u8>, SimFault>
     ensures read { IfOk result (λ v. IfSome (R.remaining reader.old) (λ input. v.items ≡ input)) }
     ensures short { IfOk result (λ v. length v.items ≤ limit) }
@@ -36,7 +36,7 @@ pub fn read_input<R: Read>(alloc: Global, limit: usize, reader: &mut R) -> Resul
 {
     let mut kept = Some(Vec::new(alloc));
     let mut buffer = [0u8; 4096];
-    for _ in 0..limit.saturating_mul(2) {
+    for _ in 0..limit.max(INPUT_LIMIT).saturating_mul(2) {
         match reader.read(&mut buffer) {
             Ok(0) => {
                 return match kept {

@@ -5,7 +5,7 @@
 //! settings ask for, [`serve_history`] and [`serve_history_by`] write the history of its lines, [`serve_check`] checks a dump,
 //! [`serve_check_large`] one of any length, and [`serve_legal`] a history. Each answers Ok or a [`SimFault`], which has the program's
 //! status; [`serve_outcomes`] a [`RaceFault`].
-//! [`read_settings`] reads the settings of a workload, and [`explained`] says why a text is refused.
+//! [`read_settings`] reads the settings of a workload, [`Beginning`] tells which text an input is, and [`explained`] why one is refused.
 //! [`script_is_talked`], [`entries_are_read_back`], [`turns_are_followed`] and [`logs_follow`] are laws: they compute nothing.
 #![tactic(auto)]
 
@@ -15,6 +15,7 @@ mod faults;
 mod following;
 mod histories;
 mod input;
+mod kinds;
 mod large;
 mod laws;
 mod legality;
@@ -37,7 +38,8 @@ pub use explaining::{Explanation, Text, explained};
 pub use faults::SimFault;
 pub use following::{serve_follow, serve_follow_told};
 pub use input::{INPUT_LIMIT, read_input};
-pub use large::serve_check_large;
+pub use kinds::{Beginning, Kind};
+pub use large::{serve_check_large, serve_check_large_told};
 pub use laws::{entries_are_read_back, logs_follow, script_is_talked, turns_are_followed};
 pub use legality::serve_legal;
 pub use playing::serve_play;

@@ -6,7 +6,7 @@ ghost use Rattle.sci_script.specs.declared.refusals.ScriptRefusal.TheVariants.{O
 ghost use Rattle.sci_serve.specs.declared.faults.SimFault.TheVariants.{Refused};
 ghost use Rattle.sci_serve.specs.declared.racing.RaceFault.TheVariants.{Fault};
 ghost use Rattle.sci_serve.specs.Fault.{fault_of};
-ghost use Rattle.sci_serve.specs.Races.{race_fault_of, IsRaceToldInTime, Races, StopsRacing};
+ghost use Rattle.sci_serve.specs.Races.{race_fault_of, race_status_of, IsRaceToldInTime, Races, StopsRacing};
 
 use crate::faults::SimFault;
 use crate::input::read_input;
@@ -26,6 +26,18 @@ pub enum RaceFault {
     /// Turns lead to more states than were to be visited.
     #[error("too many states")]
     TooManyStates,
+}
+
+impl RaceFault {
+    /// The status that the program ends with.
+    pub fn status(self) -> u8
+        ensures { result ≡ race_status_of self }
+    {
+        match self {
+            RaceFault::Fault(fault) => fault.status(),
+            RaceFault::TooManyStates => 1,
+        }
+    }
 }
 
 impl From<SimFault> for RaceFault {

@@ -21,7 +21,7 @@ use std::sync::Wait;
 use std::test::Fail;
 use std::thread::Threads;
 
-const NO_MEMORY: SimFault = SimFault::Refused(ScriptRefusal::OutOfMemory);
+pub(crate) const NO_MEMORY: SimFault = SimFault::Refused(ScriptRefusal::OutOfMemory);
 
 const SCRIPT: &str = "memory 1 1\nload 0 0 0\nturn 0\nturn 0\nlist 0\n";
 

@@ -1,12 +1,16 @@
-//! Dumps that are judged line by line: what is written, and how that ends.
-use crate::checks::{same, same_at, same_bytes_at};
+//! Dumps that are judged line by line: what is written, how that ends, and why.
+use crate::checks::{same_at, same_bytes_at};
 use crate::rows::{DUMP, HELD, LAWFUL};
 use crate::slow::Slow;
-use sci_serve::{SimFault, serve_check, serve_check_large};
-use std::alloc::Global;
-use std::io::sink;
+use sci_serve::{
+    Explanation, SimFault, Text, explained, serve_check, serve_check_large, serve_check_large_told,
+};
+use std::alloc::{AllocError, Global};
+use std::io::{BufReader, sink};
 use std::process::Abort;
-use std::test::Fail;
+
+#[cfg(test)]
+mod growths;
 
 const TWO: &str = "scidump 1 3 2\n\
     line 0 0000000000000201 0 0 0 0 0 0 0 0 0\n\
@@ -77,38 +81,76 @@ const ROWS: [Row; 10] = [
     ("scidump 1 3 1", Some(SimFault::NoDump(1)), ""),
 ];
 
+/// The fault of a text, and why, are those of the whole.
+fn judged_as_the_whole(rt: &impl Abort, alloc: Global, input: &[u8]) -> Result<(), AllocError> {
+    let mut reader = input;
+    let (end, why) = match serve_check_large_told(alloc, &mut reader, &mut sink()) {
+        Ok(()) => (None, None),
+        Err((fault, why)) => (Some(fault), why),
+    };
+    let mut whole = Slow::new(input, false);
+    let fault = serve_check(alloc, &mut whole, &mut sink()).err();
+    same_at(rt, &input, &fault, &end);
+    let Some(fault) = fault else {
+        return Ok(());
+    };
+    let reason = explained(alloc, Text::Dump, fault, input)?;
+    same_at(rt, &input, &why.map(Explanation::Row), &reason);
+    Ok(())
+}
+
+/// The verdict is the same over a reader that gives a byte at a time, and is interrupted before each.
+fn judged_slowly(rt: &impl Abort, alloc: Global, row: &Row) -> Result<(), AllocError> {
+    let (input, fault, written) = row;
+    let slow = Slow::new(input.as_bytes(), true);
+    let mut reader = BufReader::with_capacity(alloc, 3, slow).map_err(|_| AllocError)?;
+    let mut out = Vec::new(alloc);
+    let end = serve_check_large(alloc, &mut reader, &mut out).err();
+    same_at(rt, input, &end, fault);
+    same_bytes_at(rt, input, &out, written.as_bytes());
+    Ok(())
+}
+
 #[test]
-fn judged_line_by_line(rt: HostRuntime) -> Result<(), Fail> {
+fn judged_from_slow_readers(rt: HostRuntime) -> Result<(), AllocError> {
+    for row in &ROWS {
+        judged_slowly(&rt, rt.alloc(), row)?;
+    }
+    Ok(())
+}
+
+#[test]
+fn judged_line_by_line(rt: HostRuntime) -> Result<(), AllocError> {
     for (input, fault, written) in &ROWS {
         let mut reader = input.as_bytes();
         let mut out = Vec::new(rt.alloc());
         let end = serve_check_large(rt.alloc(), &mut reader, &mut out).err();
         same_at(&rt, input, &end, fault);
         same_bytes_at(&rt, input, &out, written.as_bytes());
-        // the same fault as of the whole
-        let mut whole = Slow::new(input.as_bytes(), false);
-        let mut all = Vec::new(rt.alloc());
-        let fault = serve_check(rt.alloc(), &mut whole, &mut all).err();
-        same_at(&rt, input, &fault, &end);
+        judged_as_the_whole(&rt, rt.alloc(), input.as_bytes())?;
     }
     Ok(())
 }
 
-fn serves(alloc: Global) -> Result<(), SimFault> {
-    let mut input = DUMP.as_bytes();
-    serve_check_large(alloc, &mut input, &mut sink())
-}
-
-fn refuses(rt: &impl Abort, alloc: Global) -> Result<(), Fail> {
-    if serves(alloc).is_err() {
-        same(rt, &serves(alloc), &Ok(()));
-        return Err(Fail::new("serve_check_large answered 7"));
-    }
-    Ok(())
-}
-
-/// Growths: 11 of serve_check_large.
 #[test]
-fn refused_growths(rt: HostRuntime) -> Result<(), Fail> {
-    refuses(&rt, rt.alloc())
+fn long_lines_judged_as_the_whole(rt: HostRuntime) -> Result<(), AllocError> {
+    for length in [1022, 1023, 1024, 5000] {
+        let mut text = Vec::new(rt.alloc());
+        text.extend_from_slice(b"scidump 1 1 1\n")?;
+        for _ in 0..length {
+            text.push(b'x')?;
+        }
+        text.push(b'\n')?;
+        judged_as_the_whole(&rt, rt.alloc(), &text)?;
+    }
+    Ok(())
+}
+
+#[test]
+fn fronts_judged_as_the_whole(rt: HostRuntime) -> Result<(), AllocError> {
+    let text = SECOND_UNLAWFUL.as_bytes();
+    for end in 0..text.len() {
+        judged_as_the_whole(&rt, rt.alloc(), &text[..end])?;
+    }
+    Ok(())
 }

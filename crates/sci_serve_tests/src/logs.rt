@@ -1,8 +1,8 @@
 //! Logs.
 
 mod follow;
+mod growths;
 mod reads;
 mod reasons;
 mod runs;
-mod serving;
 mod texts;

@@ -33,8 +33,8 @@ const INPUTS: [Input; 14] = [
     (INPUT_LIMIT, 1, false, true, 0, NEVER, UNREAD),
     (4, 4, false, false, 0, NEVER, LAST),
     (4, 5, false, false, 0, NEVER, LONG),
-    (4, 0, false, false, 7, NEVER, EMPTY),
-    (4, 0, false, false, 8, NEVER, UNREAD),
+    (4, 30, true, false, 0, NEVER, LONG),
+    (0, 0, false, false, 8, NEVER, EMPTY),
     // no limit but memory
     (NEVER, 1_048_577, false, false, 0, NEVER, LAST),
 ];

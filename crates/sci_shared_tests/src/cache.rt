@@ -208,28 +208,45 @@ const USES: [(Request, u32, &[u16]); 8] = [
     (Request::Evict { line: 1 }, 3, &[2]),
 ];
 
+// A node's use of its lines takes so many turns, and leaves it these residents: the lines after it.
+fn uses(
+    rt: &impl Abort,
+    alloc: Global,
+    node: &mut Node,
+    lines: Lent,
+    want: &(Request, u32, &[u16]),
+) -> Result<Lent, Fail>
+    requires { node.old.lines ≡ 3 }
+    ensures { node.new.lines ≡ 3 }
+{
+    let (request, turns, residents) = want;
+    let (took, _, after) = done(node, lines, *request).ok_or("no end")?;
+    let named = node.resident(alloc)?;
+    same_at(
+        rt,
+        request,
+        &(took, named.as_slice()),
+        &(*turns, *residents),
+    );
+    Ok(after)
+}
+
 #[test]
 fn the_table_goes_by_the_last_use(rt: HostRuntime) -> Result<(), Fail> {
     let mut node = made(rt.alloc(), 0, 2)?;
     let mut lines = opened(rt.alloc(), 1, 3, Line::ZERO)?;
-    for (request, turns, residents) in &USES {
-        let (took, _, after) = done(&mut node, lines, *request).ok_or("no end")?;
-        let named = node.resident(rt.alloc())?;
-        same_at(
-            &rt,
-            request,
-            &(took, named.as_slice()),
-            &(*turns, *residents),
-        );
-        lines = after;
+    for want in &USES {
+        lines = uses(&rt, rt.alloc(), &mut node, lines, want)?;
     }
     stands(&rt, &lines, 2, 0, ("FRESH", "ONLY_FRESH"));
     stands(&rt, &lines, 0, 0, ("HOME", "INVALID"));
     Ok(())
 }
 
-// Loads of line 0 and the stores behind them that purge it: what is seen, the value that is stored, and its answer.
-const PURGES: [(Answer, u64, Answer); 2] = [
+/// A load of line 0 and the store behind it that purges it: what is seen, the value that is stored, and its answer.
+type Purge = (Answer, u64, Answer);
+
+const PURGES: [Purge; 2] = [
     (
         ZEROS,
         5,
@@ -252,23 +269,38 @@ const PURGES: [(Answer, u64, Answer); 2] = [
     ),
 ];
 
+// The reader's line is purged, and it still names it: the lines after that.
+fn purges(
+    rt: &impl Abort,
+    reader: &mut Node,
+    writer: &mut Node,
+    wholes: Lent,
+    purge: &Purge,
+) -> Result<Lent, Fail>
+    requires { (reader.old.lines ≡ 3) × (writer.old.lines ≡ 3) }
+    ensures { (reader.new.lines ≡ 3) × (writer.new.lines ≡ 3) }
+{
+    let (seen, value, wrote) = *purge;
+    let load = Request::Load { line: 0 };
+    let (_, read) = answers(rt, reader, wholes, load, seen)?;
+    let store = Request::Store {
+        line: 0,
+        word: 0,
+        value,
+    };
+    let (_, purged) = answers(rt, writer, read, store, wrote)?;
+    stands(rt, &purged, 0, 0, ("GONE", "INVALID"));
+    Ok(purged)
+}
+
 #[test]
 fn a_purged_line_stays_named(rt: HostRuntime) -> Result<(), Fail> {
     let mut reader = made(rt.alloc(), 0, 1)?;
     let mut writer = made(rt.alloc(), 1, 1)?;
     let mut wholes = opened(rt.alloc(), 2, 3, Line::ZERO)?;
-    for (seen, value, wrote) in &PURGES {
-        let load = Request::Load { line: 0 };
-        let (_, read) = answers(&rt, &mut reader, wholes, load, *seen)?;
-        let store = Request::Store {
-            line: 0,
-            word: 0,
-            value: *value,
-        };
-        let (_, purged) = answers(&rt, &mut writer, read, store, *wrote)?;
-        stands(&rt, &purged, 0, 0, ("GONE", "INVALID"));
+    for purge in &PURGES {
+        wholes = purges(&rt, &mut reader, &mut writer, wholes, purge)?;
         lists(&rt, rt.alloc(), &reader, &[0])?;
-        wholes = purged;
     }
     // As a victim it is out at once.
     let wholes = finds_zeros(&rt, &mut reader, wholes, 1, 5)?;

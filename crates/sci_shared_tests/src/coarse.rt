@@ -1,3 +1,2 @@
-//! A line under its lock word: banks of lines, and what a line that was taken for good answers.
-pub(crate) mod banks;
-pub(crate) mod memory;
+//! A line under its lock word: what a line that was taken for good answers.
+mod memory;

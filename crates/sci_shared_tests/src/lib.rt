@@ -8,8 +8,6 @@ mod checks;
 #[cfg(test)]
 mod coarse;
 #[cfg(test)]
-mod fine;
-#[cfg(test)]
 mod lines;
 pub mod plain;
 #[cfg(test)]

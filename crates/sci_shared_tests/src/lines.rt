@@ -1,7 +1,10 @@
 //! A line that threads share, whichever it is, as the tests of both use it.
-ghost use Rattle.std.specs.Prelude.{◌≡◌, All, IfErr, IfOk, IsTrue};
+ghost use Rattle.std.specs.Prelude.{◌≡◌, All, IfErr, IfOk, IsTrue, MatchOption};
 ghost use Rattle.sci_core.specs.declared.pending.Pending.TheVariants.{Idle};
+ghost use Rattle.sci_port.specs.declared.calls.Call.TheVariants.{Stepped};
+ghost use Rattle.sci_port.specs.SeatBanks.{IsLine};
 
+pub(crate) mod banks;
 mod callers;
 mod coarse;
 mod fine;
@@ -18,9 +21,10 @@ pub(crate) mod turning;
 use crossbeam_utils::Backoff;
 use sci_core::{AnyWords, Closed, Event, Line, OpenRefusal, Outcome, Pending, Receipt};
 use sci_ops::{Answer, Op, Turn};
-use sci_port::{SeatPort, SharedLine};
+use sci_port::{Port, SeatPort, SharedLine};
 use sci_words::{LineNo, NodeId};
 use std::alloc::Global;
+use std::process::Abort;
 use std::sync::Wait;
 
 /// A closed line, with each node's receipts.
@@ -35,7 +39,8 @@ pub trait TestedLine: SharedLine<Keep = AnyWords> + Sized + Drop {
         number: LineNo,
         opening: Line,
     ) -> Result<(Self, Vec<Self::Seat>), OpenRefusal>
-        ensures { IfOk result (λ r. All (λ s. Self.is_seat r.0 s) r.1.items) };
+        ensures line { IfOk result (λ r. IsLine nodes (record {}) number (Self.terms r.0)) }
+        ensures seats { IfOk result (λ r. All (λ s. Self.is_seat r.0 s) r.1.items) };
 
     /// The line, closed, with each node's receipts; or the line and the seats, with the refusal.
     fn close(
@@ -50,6 +55,9 @@ pub trait TestedLine: SharedLine<Keep = AnyWords> + Sized + Drop {
     /// What a seat says of itself: its node, its line's number, and the node's pending step.
     fn says(seat: &Self::Seat) -> (NodeId, LineNo, Pending)
         ensures { result.2 ≡ (Self.seating seat.now).pending };
+
+    /// What a seat keeps of its node's loads and writes.
+    fn receipts(seat: &Self::Seat) -> &[Receipt];
 
     /// An event of the seat's node, if it is in turn.
     fn try_step(&self, seat: &mut Self::Seat, event: Event) -> Option<Outcome>
@@ -101,12 +109,32 @@ fn closed<L: TestedLine>(alloc: Global, line: L, seats: Vec<L::Seat>) -> Result<
     Ok(closed)
 }
 
+/// The same of a line that is to be closed.
+fn closes<L: TestedLine>(rt: &impl Abort, alloc: Global, line: L, seats: Vec<L::Seat>) -> Closed
+    requires { All (λ s. L.is_seat line s) seats.items }
+{
+    closed(alloc, line, seats).expect(rt, "it is not closed")
+}
+
 /// One turn, which leaves the port to the same seat of the same line.
 fn turn<L: TestedLine>(port: &mut SeatPort<'_, L>, op: &mut Op) -> Turn
     ensures same_line { port.new.line ≡ port.old.line }
     ensures same_reference { port.new.seat.ghost_name ≡ port.old.seat.ghost_name }
 {
     op.turn(port)
+}
+
+/// An event through a port, if it is in turn: the seat has then made this very call.
+fn step<L: SharedLine<Keep = AnyWords>>(port: &mut SeatPort<'_, L>, event: Event) -> Option<Outcome>
+    ensures same_line { port.new.line ≡ port.old.line }
+    ensures same_reference { port.new.seat.ghost_name ≡ port.old.seat.ghost_name }
+    ensures made { MatchOption result (port.new.seat.now ≡ port.old.seat.now) (λ outcome. L.makes port.old.seat.now (Stepped event outcome) port.new.seat.now) }
+{
+    if port.pending().allows(port.node(), port.nodes(), &event) {
+        Some(port.step(event))
+    } else {
+        None
+    }
 }
 
 /// Turns to the operation's end.

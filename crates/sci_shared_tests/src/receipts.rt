@@ -3,11 +3,13 @@
 mod memory;
 
 use crate::checks::same;
-use crate::coarse::memory::pair_of as coarse_pair;
-use crate::fine::banks::pair_of as fine_pair;
+use crate::lines::TestedLine;
+use crate::lines::banks::pair_of;
+use sci_coarse::CoarseLine;
 use sci_core::{AnyWords, Line, Receipt, Whole};
+use sci_fine::FineLine;
 use sci_ops::{Op, Turn};
-use sci_port::{Port, Receipted, Receipts, Solo};
+use sci_port::{Port, Receipted, Receipts, SeatPort, Solo};
 use sci_words::NodeId;
 use std::alloc::Global;
 use std::process::Abort;
@@ -132,57 +134,46 @@ fn receipts_on_a_line_that_is_lent(rt: HostRuntime) -> Result<(), Fail> {
     on_wholes(&rt, rt.alloc(), &mut whole, &mut another, 1)
 }
 
-#[test]
-fn receipts_on_separate_words(rt: HostRuntime) -> Result<(), Fail> {
-    let Some((line, mut zero, mut one)) = fine_pair(rt.alloc(), 0, AnyWords) else {
-        return Err(Fail::new("no line"));
-    };
-    keeps(&rt, rt.alloc(), &mut line.port(&mut zero))?;
-    keeps(&rt, rt.alloc(), &mut line.port(&mut one))
+// Ports round the ports of a line that threads share keep them.
+fn on_shared<L: TestedLine>(rt: &impl Abort, alloc: Global) -> Result<(), Fail> {
+    let (line, mut zero, mut one) = pair_of::<L>(alloc, 0)?;
+    keeps(rt, alloc, &mut SeatPort::new(&line, &mut zero))?;
+    keeps(rt, alloc, &mut SeatPort::new(&line, &mut one))
 }
 
 #[test]
-fn seats_on_separate_words_keep_receipts(rt: HostRuntime) -> Result<(), Fail> {
-    let Some((line, mut zero, mut one)) = fine_pair(rt.alloc(), 0, AnyWords) else {
-        return Err(Fail::new("no line"));
-    };
-    with_room(&rt, &mut line.port(&mut zero), 2)?;
-    with_room(&rt, &mut line.port(&mut one), 2)?;
-    expects(&rt, true, zero.receipts());
-    expects(&rt, false, one.receipts());
+fn receipts_on_lines_that_are_shared(rt: HostRuntime) -> Result<(), Fail> {
+    on_shared::<CoarseLine<AnyWords>>(&rt, rt.alloc())?;
+    on_shared::<FineLine<AnyWords>>(&rt, rt.alloc())
+}
+
+// Seats of such a line keep what their ports are to keep.
+fn seats_keep<L: TestedLine>(rt: &impl Abort, alloc: Global) -> Result<(), Fail> {
+    let (line, mut zero, mut one) = pair_of::<L>(alloc, 0)?;
+    with_room(rt, &mut SeatPort::new(&line, &mut zero), 2)?;
+    with_room(rt, &mut SeatPort::new(&line, &mut one), 2)?;
+    expects(rt, true, L::receipts(&zero));
+    expects(rt, false, L::receipts(&one));
     Ok(())
 }
 
 #[test]
-fn receipts_under_a_lock_word(rt: HostRuntime) -> Result<(), Fail> {
-    let Some((line, mut zero, mut one)) = coarse_pair(rt.alloc()) else {
-        return Err(Fail::new("no line"));
-    };
-    keeps(&rt, rt.alloc(), &mut line.port(&mut zero))?;
-    keeps(&rt, rt.alloc(), &mut line.port(&mut one))
-}
-
-#[test]
-fn seats_under_a_lock_word_keep_receipts(rt: HostRuntime) -> Result<(), Fail> {
-    let Some((line, mut zero, mut one)) = coarse_pair(rt.alloc()) else {
-        return Err(Fail::new("no line"));
-    };
-    with_room(&rt, &mut line.port(&mut zero), 2)?;
-    with_room(&rt, &mut line.port(&mut one), 2)?;
-    expects(&rt, true, zero.receipts());
-    expects(&rt, false, one.receipts());
-    Ok(())
+fn seats_keep_receipts(rt: HostRuntime) -> Result<(), Fail> {
+    seats_keep::<CoarseLine<AnyWords>>(&rt, rt.alloc())?;
+    seats_keep::<FineLine<AnyWords>>(&rt, rt.alloc())
 }
 
 // Where there is no room nothing is kept, and the operations go on.
+fn keeps_none<L: TestedLine>(rt: &impl Abort, alloc: Global) -> Result<(), Fail> {
+    let (line, mut zero, mut one) = pair_of::<L>(alloc, 0)?;
+    with_room(rt, &mut SeatPort::new(&line, &mut zero), 0)?;
+    same(rt, &L::receipts(&zero).len(), &0);
+    let receipts = kept(rt, alloc, &mut SeatPort::new(&line, &mut one), 0)?;
+    same(rt, &receipts.as_slice().len(), &0);
+    Ok(())
+}
+
 #[test]
 fn none_are_kept_without_room(rt: HostRuntime) -> Result<(), Fail> {
-    let Some((line, mut zero, mut one)) = fine_pair(rt.alloc(), 0, AnyWords) else {
-        return Err(Fail::new("no line"));
-    };
-    with_room(&rt, &mut line.port(&mut zero), 0)?;
-    same(&rt, &zero.receipts().len(), &0);
-    let receipts = kept(&rt, rt.alloc(), &mut line.port(&mut one), 0)?;
-    same(&rt, &receipts.as_slice().len(), &0);
-    Ok(())
+    keeps_none::<FineLine<AnyWords>>(&rt, rt.alloc())
 }

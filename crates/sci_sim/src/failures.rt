@@ -3,6 +3,7 @@
 use crate::streams::{Input, Output};
 use sci_serve::{RaceFault, SimFault, Text, explained};
 use std::alloc::{AllocError, Global};
+use std::fmt::Display;
 
 /// Why the program fails, and what its second line says of that, where it is wanted and known.
 #[derive(Drop)]
@@ -24,11 +25,20 @@ impl Failure {
         }
     }
 
-    /// The status that the program ends with.
-    pub fn status(&self) -> u8 {
-        match self.fault {
-            RaceFault::Fault(fault) => fault.status(),
-            RaceFault::TooManyStates => 1,
+    /// A fault and its reason, where that is wanted and known.
+    pub fn told<E: Display + Drop>(
+        alloc: Global,
+        fault: SimFault,
+        reason: Option<E>,
+        why: bool,
+    ) -> Failure {
+        let reason = match reason {
+            Some(reason) if why => format!(in alloc; "{reason}").ok(),
+            _ => None,
+        };
+        Failure {
+            fault: RaceFault::Fault(fault),
+            reason,
         }
     }
 }

@@ -77,7 +77,7 @@ STEP is the node's pending step after the turn, perhaps dirty, turned or told; L
 
 --page: the turns as a grid, with pictures, in one file of HTML. In a browser the arrow keys, PageDown, PageUp, Home and End, or a
 click, go from turn to turn; G shows the grid alone. #step=7 behind the page's address opens the seventh turn, #grid=7 the same without
-its picture, #all up to 200 pictures. A faulty script has no page.";
+its picture, #all up to 200 pictures. An unreadable script has no page.";
 
 /// What `scisim outcomes --help` says behind its options.
 pub const OUTCOMES: &str = "\

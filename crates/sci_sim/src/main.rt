@@ -7,7 +7,6 @@ mod arguments;
 mod commands;
 mod failures;
 mod help;
-mod kinds;
 mod streams;
 mod tasks;
 
@@ -145,12 +144,13 @@ fn scisim<T: Threads + Wait + Eprint + Sync>(
                 return Ok(ExitCode::from(2));
             };
             let is_large = options.get_flag("large");
+            // a reason of a script keeps the text: of a large one only where it is asked for
+            let is_told = is_shown && (!is_large || name == "check");
             let place = Place {
                 rt,
                 threads,
                 limit: if is_large { usize::MAX } else { INPUT_LIMIT },
-                // a reason keeps the text: of a large one only where it is asked for
-                why: options.get_flag("why") || (is_shown && !is_large),
+                why: options.get_flag("why") || is_told,
             };
             served(&place, name, options)?;
             Ok(ExitCode::SUCCESS)
@@ -171,7 +171,7 @@ fn main(rt: HostRuntime) -> ExitCode {
             if let Some(reason) = &failure.reason {
                 let _ = eprintln!(rt; "{reason}");
             }
-            ExitCode::from(failure.status())
+            ExitCode::from(fault.status())
         }
     }
 }

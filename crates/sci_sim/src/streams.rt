@@ -68,7 +68,7 @@ pub struct Input<'a> {
     front: Vec<u8>,
     at: usize,
     /// How many reads these took that aren't taken again: so many are interrupted behind them, and count as they did.
-    spent: u32,
+    spent: usize,
 }
 
 impl<'a> Input<'a> {
@@ -90,7 +90,7 @@ impl<'a> Input<'a> {
     }
 
     /// Lets so many line feeds and these bytes be read before what follows, in no fewer reads than these.
-    pub fn put_before(&mut self, feeds: u64, front: Vec<u8>, reads: u32) {
+    pub fn put_before(&mut self, feeds: u64, front: Vec<u8>, reads: usize) {
         self.feeds = feeds;
         self.front = front;
         self.at = 0;

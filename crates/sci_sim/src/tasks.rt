@@ -1,13 +1,12 @@
 //! What each command does with what it reads.
 
 use crate::failures::{Failure, reason_of};
-use crate::kinds::{Beginning, Kind};
 use crate::streams::{Input, Output};
 use sci_serve::{
-    Form, INPUT_LIMIT, Progress, RaceFault, SimFault, Text, Told, Visits, read_input,
-    serve_buffered, serve_check, serve_check_large, serve_follow_told, serve_history,
-    serve_history_by, serve_legal, serve_outcomes, serve_play, serve_run, serve_run_by, serve_talk,
-    serve_talk_by,
+    Beginning, Form, INPUT_LIMIT, Kind, Progress, RaceFault, SimFault, Text, Told, Visits,
+    read_input, serve_buffered, serve_check, serve_check_large_told, serve_follow_told,
+    serve_history, serve_history_by, serve_legal, serve_outcomes, serve_play, serve_run,
+    serve_run_by, serve_talk, serve_talk_by,
 };
 use std::alloc::{AllocError, Global};
 use std::io::{BufReader, BufWriter, ErrorKind, Read};
@@ -26,7 +25,7 @@ pub enum Task {
     Race { page: bool, most: usize },
     /// Runs a workload, and prints its result or its history.
     Run { history: bool, progress: bool },
-    /// Judges a dump.
+    /// Judges a dump that is no longer than other inputs.
     Dump,
     /// Judges a history.
     History,
@@ -114,22 +113,6 @@ fn run<T: Threads + Wait + Sync, R: Read>(
     }
 }
 
-/// Judges a dump: line by line where it may have more bytes than other inputs.
-fn judge<R: Read>(
-    alloc: Global,
-    limit: usize,
-    reader: &mut R,
-    output: &mut Output,
-) -> Result<(), SimFault> {
-    if limit == INPUT_LIMIT {
-        return serve_check(alloc, reader, output);
-    }
-    let mut buffered = BufReader::with_capacity(alloc, BUFFER, reader).map_err(|_| SimFault::from(
-        AllocError,
-    ))?;
-    serve_check_large(alloc, &mut buffered, output)
-}
-
 /// Does a task.
 fn perform<T: Threads + Wait + Eprint + Sync, R: Read>(
     place: &Place<'_, T>,
@@ -151,7 +134,7 @@ fn perform<T: Threads + Wait + Eprint + Sync, R: Read>(
             history,
             progress: false,
         } => run(place.threads, alloc, history, reader, output),
-        Task::Dump => judge(alloc, place.limit, reader, output),
+        Task::Dump => serve_check(alloc, reader, output),
         Task::History => serve_legal(alloc, reader, output),
     };
     served.map_err(|fault| RaceFault::Fault(fault))
@@ -232,11 +215,23 @@ fn follow<T, R: Read>(
     ))?;
     match serve_follow_told(alloc, &mut buffered, output) {
         Ok(()) => Ok(()),
-        Err((fault, Some(reason))) if place.why => Err(Failure {
-            fault: RaceFault::Fault(fault),
-            reason: format!(in alloc; "{reason}").ok(),
-        }),
-        Err((fault, _)) => Err(Failure::from(fault)),
+        Err((fault, reason)) => Err(Failure::told(alloc, fault, reason, place.why)),
+    }
+}
+
+/// Judges a dump of any length, line by line, and says of a line of text that is refused why, where that is wanted.
+fn judge<T, R: Read>(
+    place: &Place<'_, T>,
+    reader: &mut R,
+    output: &mut Output,
+) -> Result<(), Failure> {
+    let alloc = place.rt.alloc();
+    let mut buffered = BufReader::with_capacity(alloc, BUFFER, reader).map_err(|_| SimFault::from(
+        AllocError,
+    ))?;
+    match serve_check_large_told(alloc, &mut buffered, output) {
+        Ok(()) => Ok(()),
+        Err((fault, reason)) => Err(Failure::told(alloc, fault, reason, place.why)),
     }
 }
 
@@ -247,14 +242,15 @@ pub fn check<T: Threads + Wait + Eprint + Sync>(
     output: &mut Output,
 ) -> Result<(), Failure> {
     let beginning = Beginning::read(place.rt.alloc(), input)?;
-    let kind = beginning.kind();
+    let kind = beginning.kind;
     // the reads of a dump are limited
     let reads = match kind {
         Kind::Dump => beginning.reads,
         Kind::History | Kind::Log => 0,
     };
-    input.put_before(beginning.feeds(), beginning.front, reads);
+    input.put_before(beginning.feeds, beginning.front, reads);
     match kind {
+        Kind::Dump if place.limit > INPUT_LIMIT => judge(place, input, output),
         Kind::Dump => serve(place, Task::Dump, input, output),
         Kind::History => serve(place, Task::History, input, output),
         Kind::Log => follow(place, input, output),

@@ -129,7 +129,7 @@ impl fmt::Display for Misfit {
 }
 
 /// Why a table isn't read.
-#[derive(Debug, Drop)]
+#[derive(Drop)]
 pub enum Unread {
     /// A growth of memory was refused.
     OutOfMemory,

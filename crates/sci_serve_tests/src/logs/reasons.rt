@@ -21,20 +21,32 @@ fn at(column: usize, wanted: Part) -> Option<LineReason> {
     Some(LineReason { column, wanted })
 }
 
-fn rows() -> [Row; 9] {
+fn rows() -> [Row; 11] {
+    let (low, high) = (1, 1024);
+    let size = Part::Number { low, high };
     let few = Part::Number { low: 0, high: 1 };
     [
         ("", bad(1), at(1, Part::Memory)),
         ("# nothing\n\n", bad(3), at(1, Part::Memory)),
         ("\nload 0 0 0\n", bad(2), at(1, Part::Memory)),
-        ("memory 2 1\n\nload 0 0 0", bad(3), at(1, Part::First)),
+        ("memory 2 1\n\nload 0 0 0", bad(3), at(1, Part::OpenOrNode)),
         (
             "memory 2 1\r\nnode 2 line 0 Look Done\r\n",
             out(2),
             at(6, few),
         ),
-        // the first part that lacks is told, also where a later one makes it a faulty line
-        ("memory 2 1\nnode 2 line 0 Loop Done\n", bad(2), at(6, few)),
+        // of a faulty line what lacks is told, whatever its numbers are; of a faulty number that number
+        (
+            "memory 2 1\nnode 2 line 0 Loop Done\n",
+            bad(2),
+            at(15, Part::Event),
+        ),
+        ("memory 0 one\n", bad(1), at(10, size)),
+        (
+            "memory 2 1\nnode 0 line 0 AttachFresh(2 INVALID) Done\n",
+            out(2),
+            at(27, few),
+        ),
         (
             "memory 2 1\nnode 0 line 0 Look Done\nopen 0 0 0 0 0 0 0 0 0 0\n",
             bad(3),

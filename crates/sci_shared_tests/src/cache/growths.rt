@@ -18,9 +18,10 @@ use std::sync::Wait;
 use std::test::Fail;
 
 // A node of three lines, which may name so many.
-fn made(rt: &impl Abort, alloc: Global, zero: NodeId, capacity: u16) -> Result<Node, Fail>
+fn made(rt: &impl Abort, alloc: Global, capacity: u16) -> Result<Node, Fail>
     ensures { IfOk result (λ node. node.lines ≡ 3) }
 {
+    let zero = NodeId::new(0).ok_or("no node")?;
     match Node::new(alloc, zero, 3, capacity) {
         Ok(node) => Ok(node),
         Err(refusal) => {
@@ -66,7 +67,7 @@ fn begins(
     assert!(rt; !node.open());
     super::lists(rt, alloc, node, named)?;
     let lent = given_back(bank);
-    have(rt, &lent, receipts);
+    have(rt, &lent, &receipts);
     let mut bank = of_three(lent, node)?;
     same(rt, &node.begin(&mut bank, load), &Ok(()));
     Err(Fail::new("begin answered 7"))
@@ -146,7 +147,7 @@ fn waits_on<R: Abort + Wait>(
     assert!(rt; !node.open());
     super::lists(rt, alloc, node, &[named])?;
     let lent = given_back(bank);
-    have(rt, &lent, receipts);
+    have(rt, &lent, &receipts);
     let mut bank = of_three(lent, node)?;
     ends(rt, node, &mut bank, request, Ok(want));
     Err(told(request))
@@ -186,8 +187,8 @@ fn filled(rt: &impl Abort, node: &mut Node, lent: Lent, line: u16) -> Result<Len
     Ok(lent)
 }
 
-// Begins a load of a line that isn't named yet, and has it and such loads.
-fn fills(
+// Begins a load of a line that isn't named yet, and ends it: the lines after it.
+fn loads(
     rt: &impl Abort,
     alloc: Global,
     node: &mut Node,
@@ -200,47 +201,54 @@ fn fills(
 {
     let mut bank = begins(rt, alloc, node, lent, line, stands)?;
     ended(node, &mut bank).ok_or("no end")?;
-    filled(rt, node, given_back(bank), line)
+    Ok(given_back(bank))
+}
+
+// Line 0 is loaded for as many receipts as there is room, and then line 1, which puts it out.
+fn fills_two(rt: &impl Abort, alloc: Global, node: &mut Node, lent: Lent) -> Result<Lent, Fail>
+    requires { node.old.lines ≡ 3 }
+    ensures { node.new.lines ≡ 3 }
+{
+    let lent = loads(rt, alloc, node, lent, 0, (&[], [&[]; 3]))?;
+    let lent = filled(rt, node, lent, 0)?;
+    let lent = loads(rt, alloc, node, lent, 1, (&[0], [&FULL, &[], &[]]))?;
+    filled(rt, node, lent, 1)
+}
+
+// Line 2 is loaded so, which puts line 1 out, and then it is evicted.
+fn fills_the_last<R: Abort + Wait>(
+    rt: &R,
+    alloc: Global,
+    node: &mut Node,
+    lent: Lent,
+) -> Result<(), Fail>
+    requires { node.old.lines ≡ 3 }
+{
+    let load = (Request::Load { line: 2 }, super::ZEROS);
+    let lent = waits_on(rt, alloc, node, lent, load, (1, [&FULL, &FULL, &[]]))?;
+    let lent = filled(rt, node, lent, 2)?;
+    let evict = (Request::Evict { line: 2 }, Answer::Out);
+    waits_on(rt, alloc, node, lent, evict, (2, [&FULL; 3]))?;
+    Ok(())
 }
 
 /// Growths: 11 of open, 2 of new, 8 of begin, 2 of load, 1 of evict.
 #[test]
 fn refused_receipts(rt: HostRuntime) -> Result<(), Fail> {
-    let alloc = rt.alloc();
-    let zero = NodeId::new(0).ok_or("no node")?;
-    let lent = lent(&rt, alloc)?;
-    let mut node = made(&rt, alloc, zero, 1)?;
-    let lent = fills(&rt, alloc, &mut node, lent, 0, (&[], [&[]; 3]))?;
-    // Line 1, and line 0, which it puts out.
-    let stands: (&[u16], [&[Receipt]; 3]) = (&[0], [&FULL, &[], &[]]);
-    let lent = fills(&rt, alloc, &mut node, lent, 1, stands)?;
-    // Line 2, and line 1.
-    let load = (Request::Load { line: 2 }, super::ZEROS);
-    let lent = waits_on(&rt, alloc, &mut node, lent, load, (1, [&FULL, &FULL, &[]]))?;
-    let lent = filled(&rt, &mut node, lent, 2)?;
-    let evict = (Request::Evict { line: 2 }, Answer::Out);
-    waits_on(
-        &rt,
-        alloc,
-        &mut node,
-        lent,
-        evict,
-        (2, [&FULL, &FULL, &FULL]),
-    )?;
-    Ok(())
+    let lent = lent(&rt, rt.alloc())?;
+    let mut node = made(&rt, rt.alloc(), 1)?;
+    let lent = fills_two(&rt, rt.alloc(), &mut node, lent)?;
+    fills_the_last(&rt, rt.alloc(), &mut node, lent)
 }
 
 /// Growths: 2 of new, 11 of open, 8 of begin, 1 of resident, 5 of open, 2 of new, 6 of store, 1 of load, 1 of evict, 1 of add, 1 of write_line, 1 of evict.
 #[test]
 fn refused_growths(rt: HostRuntime) -> Result<(), Fail> {
     let alloc = rt.alloc();
-    let zero = NodeId::new(0).ok_or("no node")?;
-    let mut node = made(&rt, alloc, zero, 2)?;
+    let mut node = made(&rt, alloc, 2)?;
     let lent = lent(&rt, alloc)?;
-    let mut bank = begins(&rt, alloc, &mut node, lent, 2, (&[], [&[]; 3]))?;
-    ended(&mut node, &mut bank).ok_or("no end")?;
-    let stands: (&[u16], [&[Receipt]; 3]) = (&[2], [&[], &[], &[SAW]]);
-    begins(&rt, alloc, &mut node, given_back(bank), 1, stands)?;
+    let lent = loads(&rt, alloc, &mut node, lent, 2, (&[], [&[]; 3]))?;
+    begins(&rt, alloc, &mut node, lent, 1, (&[2], [&[], &[], &[SAW]]))?;
     lists(&rt, alloc, &node, &[1, 2])?;
     waits_each(&rt, alloc)
 }

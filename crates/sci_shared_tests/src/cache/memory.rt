@@ -4,7 +4,7 @@
 ghost use Rattle.std.specs.Prelude.{◌≡◌, length};
 
 use super::receipts::of_three;
-use super::{Lent, banked, done, ended, made, opened};
+use super::{Lent, banked, done, ended, finds_zeros, made, opened};
 use crate::checks::{allocates, same};
 use crate::lines::turning::turns_in;
 use sci_cache::{Node, Request};
@@ -85,11 +85,13 @@ fn turns_take_no_memory(rt: HostRuntime) -> Result<(), Fail> {
 // For how many receipts each of these requests needs room at most.
 const NEED: usize = 3;
 
-// The requests of a node that names line 1, each to its end, where there is the room that they need.
+// Makes room, and then the requests of a node that names line 1, each to its end, where there is the room that it needs.
 fn begun(node: &mut Node, bank: &mut SoloBank<AnyWords>) -> Option<()>
     requires node { (node.old.id ≡ bank.old.node) × (node.old.lines ≡ 3) }
     requires bank { length bank.old.wholes.items ≡ 3 }
 {
+    bank.reserve(1, 4 * NEED).ok()?;
+    bank.reserve(2, NEED).ok()?;
     for request in requests(1) {
         let has_room = bank.room(1) >= NEED && bank.room(2) >= NEED;
         if !has_room || node.begin(bank, request).is_err() {
@@ -106,10 +108,8 @@ fn calls_with_room_take_no_memory(rt: HostRuntime) -> Result<(), Fail> {
     // room two.
     let lent = opened(rt.alloc(), 1, 3, Line::ZERO)?;
     let mut node = made(rt.alloc(), 0, 1)?;
-    let (_, _, lent) = done(&mut node, lent, Request::Load { line: 1 }).ok_or("no end")?;
+    let lent = finds_zeros(&rt, &mut node, lent, 1, 4)?;
     let mut bank = of_three(lent, &node)?;
-    bank.reserve(1, 4 * NEED)?;
-    bank.reserve(2, NEED)?;
     begun(&mut node, &mut bank).ok_or("no end")?;
     allocates(&rt, rt.alloc(), "allocation 22 is refused");
     Ok(())

@@ -28,10 +28,10 @@ pub(super) fn of_three(lent: Lent, node: &Node) -> Result<SoloBank<AnyWords>, Fa
 }
 
 // These receipts stand on the three lines.
-pub(super) fn have(rt: &impl Abort, lent: &Lent, want: [&[Receipt]; 3]) {
+pub(super) fn have(rt: &impl Abort, lent: &Lent, want: &[&[Receipt]; 3]) {
     same(rt, &lent.receipts.len(), &want.len());
     for (line, (receipts, want)) in lent.receipts.iter().zip(want).enumerate() {
-        same_at(rt, &line, &receipts.as_slice(), &want);
+        same_at(rt, &line, &receipts.as_slice(), want);
     }
 }
 
@@ -159,15 +159,15 @@ fn begun_each(rt: &impl Abort, alloc: Global, node: Node) -> Result<Lent, Fail>
 #[test]
 fn each_call_leaves_its_receipts(rt: HostRuntime) -> Result<(), Fail> {
     let node = made(rt.alloc(), 0, 1)?;
-    have(&rt, &called_each(&rt, rt.alloc(), node)?, RECEIPTS);
+    have(&rt, &called_each(&rt, rt.alloc(), node)?, &RECEIPTS);
     let node = made(rt.alloc(), 0, 1)?;
-    have(&rt, &begun_each(&rt, rt.alloc(), node)?, RECEIPTS);
+    have(&rt, &begun_each(&rt, rt.alloc(), node)?, &RECEIPTS);
     Ok(())
 }
 
 // There is no room for receipts on three lines, and none stands there.
 fn have_none(rt: &impl Abort, lent: &Lent) {
-    have(rt, lent, [&[], &[], &[]]);
+    have(rt, lent, &[&[], &[], &[]]);
     for receipts in lent.receipts.iter() {
         same(rt, &receipts.room(), &0);
     }
@@ -216,15 +216,32 @@ fn needs(
     same_at(rt, &request, &enough, &true);
 }
 
+// The call begins, and needs so much until it ends.
+fn needs_to_its_end(
+    rt: &impl Abort,
+    node: &mut Node,
+    bank: &mut SoloBank<AnyWords>,
+    request: Request,
+    want: [usize; 3],
+) -> Result<(), Fail>
+    requires node { (node.old.id ≡ bank.old.node) × (node.old.lines ≡ 3) }
+    requires bank { length bank.old.wholes.items ≡ 3 }
+    ensures node { (node.new.id ≡ bank.new.node) × (node.new.lines ≡ 3) }
+    ensures bank { length bank.new.wholes.items ≡ 3 }
+{
+    same_at(rt, &request, &node.begin(bank, request), &Ok(()));
+    needs(rt, node, bank, request, want);
+    ended(node, bank).ok_or("no end")?;
+    needs(rt, node, bank, request, [0; 3]);
+    Ok(())
+}
+
 #[test]
 fn calls_need_room_on_their_line_and_the_victims(rt: HostRuntime) -> Result<(), Fail> {
     let mut node = made(rt.alloc(), 0, 1)?;
     let mut bank = of_three(opened(rt.alloc(), 1, 3, Line::ZERO)?, &node)?;
     for (request, want) in &NEEDS {
-        same_at(&rt, request, &node.begin(&mut bank, *request), &Ok(()));
-        needs(&rt, &node, &mut bank, *request, *want);
-        ended(&mut node, &mut bank).ok_or("no end")?;
-        needs(&rt, &node, &mut bank, *request, [0; 3]);
+        needs_to_its_end(&rt, &mut node, &mut bank, *request, *want)?;
     }
     Ok(())
 }

@@ -111,22 +111,50 @@ const STORE_OF_BOTH: Request = Request::Store {
     value: 0,
 };
 
+// And of one whose call is open.
+const REFUSED_WHILE_OPEN: [(Request, NodeRefusal); 2] = [
+    (LOAD, NodeRefusal::CallOpen),
+    (STORE_OF_BOTH, NodeRefusal::CallOpen),
+];
+
+const LOAD: Request = Request::Load { line: 0 };
+
+// Each of these requests is refused, and the node names these lines.
+fn refuses_each(
+    rt: &impl Abort,
+    alloc: Global,
+    node: &mut Node,
+    bank: &mut SoloBank<AnyWords>,
+    refused: &[(Request, NodeRefusal)],
+    named: &[u16],
+) -> Result<(), Fail>
+    requires node { (node.old.id ≡ bank.old.node) × (node.old.lines ≡ 1) }
+    requires bank { length bank.old.wholes.items ≡ 1 }
+    ensures node { (node.new.id ≡ bank.new.node) × (node.new.lines ≡ 1) }
+    ensures bank { length bank.new.wholes.items ≡ 1 }
+{
+    for (request, refusal) in refused {
+        refuses(rt, node, bank, *request, *refusal);
+    }
+    lists(rt, alloc, node, named)
+}
+
 #[test]
 fn requests_and_turns_are_refused(rt: HostRuntime) -> Result<(), Fail> {
     let (mut node, mut bank) = seated(rt.alloc(), Line::ZERO)?;
     same(&rt, &node.turn(&mut bank), &Err(NodeRefusal::NoCall));
-    for (request, refusal) in REFUSED {
-        refuses(&rt, &mut node, &mut bank, request, refusal);
-    }
+    refuses_each(&rt, rt.alloc(), &mut node, &mut bank, &REFUSED, &[])?;
     assert!(rt; !node.open());
-    lists(&rt, rt.alloc(), &node, &[])?;
-    let load = Request::Load { line: 0 };
-    same(&rt, &node.begin(&mut bank, load), &Ok(()));
+    same(&rt, &node.begin(&mut bank, LOAD), &Ok(()));
     assert!(rt; node.open());
-    for request in [load, STORE_OF_BOTH] {
-        refuses(&rt, &mut node, &mut bank, request, NodeRefusal::CallOpen);
-    }
-    lists(&rt, rt.alloc(), &node, &[0])
+    refuses_each(
+        &rt,
+        rt.alloc(),
+        &mut node,
+        &mut bank,
+        &REFUSED_WHILE_OPEN,
+        &[0],
+    )
 }
 
 // The request by the call that waits for its end.

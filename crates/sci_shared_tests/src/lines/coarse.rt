@@ -7,7 +7,7 @@ ghost use Rattle.sci_port.specs.declared.calls.Call.TheVariants.{Stepped};
 
 use super::{Finished, TestedLine};
 use sci_coarse::{CoarseLine, CoarsePort, Seat, law_of_one_run};
-use sci_core::{AnyWords, Event, Line, OpenRefusal, Outcome, Pending};
+use sci_core::{AnyWords, Event, Line, OpenRefusal, Outcome, Pending, Receipt};
 use sci_port::Port;
 use sci_words::{LineNo, NodeId};
 use std::alloc::Global;
@@ -54,6 +54,10 @@ impl TestedLine for CoarseLine<AnyWords> {
 
     fn says(seat: &Seat<AnyWords>) -> (NodeId, LineNo, Pending) {
         (seat.node(), seat.number(), seat.pending())
+    }
+
+    fn receipts(seat: &Seat<AnyWords>) -> &[Receipt] {
+        seat.receipts()
     }
 
     fn try_step(&self, seat: &mut Seat<AnyWords>, event: Event) -> Option<Outcome> {

@@ -5,26 +5,11 @@ ghost use Rattle.sci_fine.specs.Laws.{IsLogged};
 ghost use Rattle.sci_fine.specs.Seats.{IsSeatOf};
 ghost use Rattle.sci_port.specs.declared.calls.Call.TheVariants.{Stepped};
 
-use super::{Finished, TestedLine};
-use sci_core::{AnyWords, Event, Line, OpenRefusal, Outcome, Pending};
-use sci_fine::{FineLine, FinePort, Seat, law_of_one_run};
-use sci_port::Port;
+use super::{Finished, TestedLine, step};
+use sci_core::{AnyWords, Event, Line, OpenRefusal, Outcome, Pending, Receipt};
+use sci_fine::{FineLine, Seat, law_of_one_run};
 use sci_words::{LineNo, NodeId};
 use std::alloc::Global;
-
-// An event through a port, if it is in turn: the seat's log then has this very call behind it, and nothing else.
-fn step(port: &mut FinePort<'_, AnyWords>, event: Event) -> Option<Outcome>
-    ensures same_line { port.new.line ≡ port.old.line }
-    ensures same_reference { port.new.seat.ghost_name ≡ port.old.seat.ghost_name }
-    ensures logged { MatchOption result (port.new.seat.now ≡ port.old.seat.now) (λ outcome. IsLogged port.old.seat.now.token.me.0 (Stepped event outcome) port.new.seat.now.token.me.0) }
-{
-    if port.pending().allows(port.node(), port.nodes(), &event) {
-        law_of_one_run::<AnyWords>();
-        Some(port.step(event))
-    } else {
-        None
-    }
-}
 
 impl TestedLine for FineLine<AnyWords> {
     fn opened(
@@ -56,7 +41,17 @@ impl TestedLine for FineLine<AnyWords> {
         (seat.node(), seat.number(), seat.pending())
     }
 
-    fn try_step(&self, seat: &mut Seat<AnyWords>, event: Event) -> Option<Outcome> {
+    fn receipts(seat: &Seat<AnyWords>) -> &[Receipt] {
+        seat.receipts()
+    }
+
+    // The seat's log then has this very call behind it, and nothing else.
+    fn try_step(&self, seat: &mut Seat<AnyWords>, event: Event) -> Option<Outcome>
+        requires { IsSeatOf self.now seat.old }
+        ensures seat { IsSeatOf self.now seat.new }
+        ensures logged { MatchOption result (seat.new ≡ seat.old) (λ outcome. IsLogged seat.old.token.me.0 (Stepped event outcome) seat.new.token.me.0) }
+    {
+        law_of_one_run::<AnyWords>();
         step(&mut self.port(seat), event)
     }
 }

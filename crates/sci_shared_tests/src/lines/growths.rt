@@ -103,8 +103,13 @@ fn is_read_alone(rt: &impl Abort, closed: &Closed, nodes: u16, head: u16) {
 }
 
 // The last of so many nodes loads a new line, which is then closed.
-fn last_loads<R: Abort + Wait>(rt: &R, alloc: Global, nodes: u16, last: u16) -> Result<(), Fail> {
-    let Ok((line, mut seats)) = FineLine::opened(alloc, nodes, 7, OPENING) else {
+fn last_loads<R: Abort + Wait, L: TestedLine>(
+    rt: &R,
+    alloc: Global,
+    nodes: u16,
+    last: u16,
+) -> Result<(), Fail> {
+    let Ok((line, mut seats)) = L::opened(alloc, nodes, 7, OPENING) else {
         return Err(Fail::new("new answered 7"));
     };
     let words = OPENING.words;
@@ -127,6 +132,6 @@ fn last_loads<R: Abort + Wait>(rt: &R, alloc: Global, nodes: u16, last: u16) -> 
 /// Growths: 5 of new, 3 of finish, 5 of new, 3 of finish.
 #[test]
 fn refused_growths_of_many_nodes(rt: HostRuntime) -> Result<(), Fail> {
-    last_loads(&rt, rt.alloc(), 1023, 1022)?;
-    last_loads(&rt, rt.alloc(), 1024, 1023)
+    last_loads::<_, FineLine<AnyWords>>(&rt, rt.alloc(), 1023, 1022)?;
+    last_loads::<_, FineLine<AnyWords>>(&rt, rt.alloc(), 1024, 1023)
 }

@@ -1,5 +1,5 @@
 //! How a line that threads share is opened and closed.
-use super::{TestedLine, closed};
+use super::{TestedLine, closed, closes};
 use crate::checks::{same, same_at};
 use sci_coarse::CoarseLine;
 use sci_core::{AnyWords, Closed, Line};
@@ -80,10 +80,7 @@ fn finishes_in_order<L: TestedLine>(rt: &impl Abort, alloc: Global) -> Result<()
     let refused = closed(alloc, line, seats);
     assert!(rt; matches!(refused, Err((9, 2))));
     let (line, seats) = L::opened(alloc, 2, 0, OPENING)?;
-    let Ok(closed) = closed(alloc, line, seats) else {
-        panic!(rt; "it was refused")
-    };
-    is_unused(rt, &closed);
+    is_unused(rt, &closes(rt, alloc, line, seats));
     Ok(())
 }
 

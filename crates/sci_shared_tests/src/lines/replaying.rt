@@ -1,7 +1,7 @@
 //! The events of recorded runs, made again on a line that threads share.
 ghost use Rattle.std.specs.Prelude.{◌≡◌, All};
 
-use super::{TestedLine, closed};
+use super::{TestedLine, closes};
 use crate::checks::same;
 use crate::recorded::Recorded;
 use crate::recorded::comparing::{is_left_as, step_whole};
@@ -99,9 +99,6 @@ pub(crate) fn replay_run<L: TestedLine>(
     let mut whole = Whole::open(alloc, run.nodes, 0, run.opening, AnyWords)?;
     let (line, mut seats) = L::opened(alloc, run.nodes, 0, run.opening)?;
     replay_all(rt, &line, seats.as_mut_slice(), &mut whole, events);
-    let Ok(left) = closed(alloc, line, seats) else {
-        panic!(rt; "it is not closed")
-    };
-    assert!(rt; is_left_as(&left, &whole));
+    assert!(rt; is_left_as(&closes(rt, alloc, line, seats), &whole));
     Ok(())
 }

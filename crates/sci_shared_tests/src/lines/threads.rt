@@ -1,14 +1,13 @@
 //! Threads on one line: additions by two nodes, loads by three, and four threads of loads, stores, additions and evictions by eight.
 ghost use Rattle.std.specs.Prelude.{All};
-ghost use Rattle.sci_fine.specs.Seats.{IsSeatOf};
 
-use super::{TestedLine, carry_out, closed};
+use super::{TestedLine, carry_out, closes};
 use crate::checks::same;
 use sci_coarse::CoarseLine;
 use sci_core::{AnyWords, Closed, Line};
-use sci_fine::{FineLine, Seat};
+use sci_fine::FineLine;
 use sci_ops::{Answer, Op};
-use sci_words::Kind;
+use sci_words::{Kind, Tag};
 use std::alloc::Global;
 use std::process::Abort;
 use std::sync::Wait;
@@ -62,9 +61,7 @@ where
     let add = Op::add(0, 1).ok().ok_or("no such word")?;
     let (line, mut seats) = L::opened(alloc, 2, 0, Line::ZERO)?;
     all_repeat(rt, &line, seats.as_mut_slice(), add, ADDS);
-    let Ok(closed) = closed(alloc, line, seats) else {
-        panic!(rt; "it was refused")
-    };
+    let closed = closes(rt, alloc, line, seats);
     let head = closed.mem.forw.ok_or("no list")?;
     let line = closed.lines.get(usize::from(head.get())).ok_or("no line")?;
     same(rt, &line.words[0], &(2 * ADDS));
@@ -78,19 +75,24 @@ fn two_threads_add(rt: HostRuntime) -> Result<(), Fail> {
     adds_by_two::<_, FineLine<AnyWords>>(&rt, rt.alloc())
 }
 
+// How many of three nodes share a line once each has loaded it, in a thread of its own.
+fn sharers<R: Abort + Threads + Wait + Sync, L: TestedLine + Sync>(
+    rt: &R,
+    alloc: Global,
+) -> Result<usize, Fail>
+where
+    L::Seat: Send,
+{
+    let (line, mut seats) = L::opened(alloc, 3, 0, Line::ZERO)?;
+    all_repeat(rt, &line, seats.as_mut_slice(), Op::load(), 1);
+    let closed = closes(rt, alloc, line, seats);
+    let shares = |tag: &&Tag| matches!(tag.kind, Kind::Fresh | Kind::Dirty | Kind::Valid);
+    Ok(closed.tags.iter().filter(shares).count())
+}
+
 #[test]
 fn three_threads_load(rt: HostRuntime) -> Result<(), Fail> {
-    let (line, mut seats) = FineLine::<AnyWords>::opened(rt.alloc(), 3, 0, Line::ZERO)?;
-    all_repeat(&rt, &line, seats.as_mut_slice(), Op::load(), 1);
-    let Ok(left) = closed(rt.alloc(), line, seats) else {
-        panic!(rt; "the nodes are not done")
-    };
-    let sharers = left
-        .tags
-        .iter()
-        .filter(|tag| matches!(tag.kind, Kind::Fresh | Kind::Dirty | Kind::Valid))
-        .count();
-    same(&rt, &sharers, &3);
+    same(&rt, &sharers::<_, FineLine<AnyWords>>(&rt, rt.alloc())?, &3);
     Ok(())
 }
 
@@ -167,26 +169,21 @@ fn is_of_a_store(answer: &Answer) -> bool {
 }
 
 // One operation of each of these nodes.
-fn serve_all<R: Abort + Wait>(
-    rt: &R,
-    line: &FineLine<AnyWords>,
-    seats: &mut [Seat<AnyWords>],
-    step: u64,
-)
-    requires { All (λ s. IsSeatOf line.now s) seats.old }
-    ensures { All (λ s. IsSeatOf line.now s) seats.new }
+fn serve_all<R: Abort + Wait, L: TestedLine>(rt: &R, line: &L, seats: &mut [L::Seat], step: u64)
+    requires { All (λ s. L.is_seat line.now s) seats.old }
+    ensures { All (λ s. L.is_seat line.now s) seats.new }
 {
     for seat in seats.iter_mut() {
-        let op = operation(u64::from(seat.node().get()), step);
+        let op = operation(u64::from(L::seat_node(seat).get()), step);
         let answer = carry_out(rt, line, seat, op);
         assert!(rt; is_of_a_store(&answer));
     }
 }
 
 // The operations of these nodes, in turn.
-fn work<R: Abort + Wait>(rt: &R, line: &FineLine<AnyWords>, seats: &mut [Seat<AnyWords>])
-    requires { All (λ s. IsSeatOf line.now s) seats.old }
-    ensures { All (λ s. IsSeatOf line.now s) seats.new }
+fn work<R: Abort + Wait, L: TestedLine>(rt: &R, line: &L, seats: &mut [L::Seat])
+    requires { All (λ s. L.is_seat line.now s) seats.old }
+    ensures { All (λ s. L.is_seat line.now s) seats.new }
 {
     for step in 0..STEPS {
         serve_all(rt, line, seats, step);
@@ -194,33 +191,43 @@ fn work<R: Abort + Wait>(rt: &R, line: &FineLine<AnyWords>, seats: &mut [Seat<An
 }
 
 // Every two nodes work in a thread of their own.
-fn all_work<R: Abort + Threads + Wait + Sync>(
+fn all_work<R: Abort + Threads + Wait + Sync, L: TestedLine + Sync>(
     rt: &R,
-    line: &FineLine<AnyWords>,
-    seats: &mut [Seat<AnyWords>],
+    line: &L,
+    seats: &mut [L::Seat],
 )
-    requires { All (λ s. IsSeatOf line.now s) seats.old }
-    ensures { All (λ s. IsSeatOf line.now s) seats.new }
+where
+    L::Seat: Send,
+    requires { All (λ s. L.is_seat line.now s) seats.old }
+    ensures { All (λ s. L.is_seat line.now s) seats.new }
 {
     thread::for_each_chunk_mut(rt, seats, 2, &|_, pair| work(rt, line, pair));
 }
 
 // The line holds what the threads wrote: a mark, all that was added, and as many stamps as there were writes.
-fn adds_up<R: Abort>(rt: &R, closed: &Closed) -> Result<(), Fail> {
+fn adds_up(rt: &impl Abort, closed: &Closed) {
     let value = closed.value();
     let (stores, adds) = counts();
     assert!(rt; is_mark(value.words[0]));
     same(rt, &value.words[1], &adds);
     same(rt, &value.stamp, &stores.wrapping_add(adds));
+}
+
+// Four threads work on one line.
+fn adds_by_four<R: Abort + Threads + Wait + Sync, L: TestedLine + Sync>(
+    rt: &R,
+    alloc: Global,
+) -> Result<(), Fail>
+where
+    L::Seat: Send,
+{
+    let (line, mut seats) = L::opened(alloc, 8, 0, Line::ZERO)?;
+    all_work(rt, &line, seats.as_mut_slice());
+    adds_up(rt, &closes(rt, alloc, line, seats));
     Ok(())
 }
 
 #[test]
 fn four_threads_work(rt: HostRuntime) -> Result<(), Fail> {
-    let (line, mut seats) = FineLine::<AnyWords>::opened(rt.alloc(), 8, 0, Line::ZERO)?;
-    all_work(&rt, &line, seats.as_mut_slice());
-    let Ok(left) = closed(rt.alloc(), line, seats) else {
-        panic!(rt; "the nodes are not done")
-    };
-    adds_up(&rt, &left)
+    adds_by_four::<_, FineLine<AnyWords>>(&rt, rt.alloc())
 }

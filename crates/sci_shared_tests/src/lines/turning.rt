@@ -2,12 +2,10 @@
 ghost use Rattle.std.specs.Prelude.{◌≡◌, ◌<◌, All};
 
 use super::{TestedLine, turn};
-use crate::checks::same;
 use sci_core::{AnyWords, Event, Outcome};
 use sci_ops::{Op, Turn};
-use sci_port::{At, Bank, Port, SeatBank, SeatPort};
+use sci_port::{At, Bank, Port, SeatPort};
 use sci_words::LineNo;
-use std::process::Abort;
 
 const TURNS: u32 = 100_000;
 
@@ -123,11 +121,4 @@ pub(crate) fn turns_in<B: Bank<Keep = AnyWords>>(bank: &mut B, nodes: u16) -> Op
         ops[usize::from(line)] = at_work;
     }
     Some(ended)
-}
-
-/// Turns on two lines of so many nodes by a bank of seats, which gives its seats back.
-pub(crate) fn takes_turns<L: TestedLine>(rt: &impl Abort, bank: SeatBank<'_, L>, nodes: u16) {
-    let mut bank = bank;
-    assert!(rt; matches!(turns_in(&mut bank, nodes), Some(1_000..)));
-    same(rt, &bank.into_seats().len(), &2);
 }

@@ -9,11 +9,11 @@ use Rattle.sci_dump.proofs.streams.read_rows.Given as goal
 abbrev pub invariant-loop-node : goal.invariant-loop-node
 invariant-loop-node g l =
     record {
-      left : (text : List ℕ) → Holds l.fn.line.items (g.R.Read.remaining l.fn.reader) text
-          → (rest : List ℕ) × Holds l.held.items (g.R.Read.remaining l.reader) rest
-          × (with_nodes l.layout l.tags.items l.lines.items (entries_at l.layout l.closed l.node (l.nodes - l.node) l.at rest) ≡ entries_at l.layout l.closed 0 l.nodes l.number text);
+      left : (text : List ℕ) → Holds l.fn.first.text.items (g.R.Read.remaining l.fn.reader) text
+          → (rest : List ℕ) × Holds l.text.items (g.R.Read.remaining l.reader) rest
+          × (with_nodes l.head.layout l.tags.items l.lines.items (entries_at l.head.layout l.closed l.node (l.head.nodes - l.node) l.number rest) ≡ entries_at l.head.layout l.closed 0 l.head.nodes l.fn.first.number text);
       well_formed : All (λ t. tag_well_formed t ≡ true) l.tags.items;
       tags : length l.tags.items ≡ l.node;
       lines : length l.lines.items ≡ l.node;
-      near : l.at ≤ l.number + l.node;
+      near : l.number ≤ l.fn.first.number + l.node;
     }

@@ -10,7 +10,7 @@ loop-place-preserved g c =
     record {
       count = rw c.in-Ok.ensures.items (length_push c.loop-place.hand.items _ ∙ ap (λ n. n + 1) was.count);
       same = length-set c.loop-place.piles.items c.loop-place.place _ ∙ was.same;
-      hand = rw c.in-Ok.ensures.items (dealt_more g.L.Shared.is_seat c.args.lines.now c.loop-place.hand.items c.in_ok-seat.seat c.loop-place.place was.count was.hand
-          (λ l el. last_of g.L.Shared.is_seat vec_items c.args.lines.now c.loop-place.piles.items c.loop-place.place l c.index_mut.result.now c.pop.new.self.items c.in_ok-seat.seat near c.index_mut.ensures.value c.in_ok-seat.ensures.items was.piles el));
-      piles = piled_less g.L.Shared.is_seat vec_items c.args.lines.now c.loop-place.piles.items c.loop-place.place c.index_mut.result.now c.pop.new.self _ near c.index_mut.ensures.value c.in_ok-seat.ensures.items was.piles;
+      hand = rw c.in-Ok.ensures.items (dealt_more g.L.SharedLine.is_seat c.args.lines.now c.loop-place.hand.items c.in_ok-seat.seat c.loop-place.place was.count was.hand
+          (λ l el. last_of g.L.SharedLine.is_seat vec_items c.args.lines.now c.loop-place.piles.items c.loop-place.place l c.index_mut.result.now c.pop.new.self.items c.in_ok-seat.seat near c.index_mut.ensures.value c.in_ok-seat.ensures.items was.piles el));
+      piles = piled_less g.L.SharedLine.is_seat vec_items c.args.lines.now c.loop-place.piles.items c.loop-place.place c.index_mut.result.now c.pop.new.self _ near c.index_mut.ensures.value c.in_ok-seat.ensures.items was.piles;
     }

@@ -6,6 +6,6 @@ abbrev pub invariant-loop-place : goal.invariant-loop-place
 invariant-loop-place g l = record {
   count : length l.hand.items ≡ l.place;
   same : length l.piles.items ≡ length l.initial.piles.items;
-  hand : AreDealt g.L.Shared.is_seat l.lines l.hand.items;
-  piles : ArePiled g.L.Shared.is_seat vec_items l.lines l.piles.items;
+  hand : AreDealt g.L.SharedLine.is_seat l.lines l.hand.items;
+  piles : ArePiled g.L.SharedLine.is_seat vec_items l.lines l.piles.items;
 }

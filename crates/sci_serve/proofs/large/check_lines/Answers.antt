@@ -1,6 +1,6 @@
 use Rattle.std.proofs.Common.{rules, arith, [], ◌∷◌, ◌++◌, ◌∙◌}
 use Rattle.std.proofs.KnownBytes.{Appends-nil, Appends-trans}
-use Rattle.sci_dump.proofs.Streaming.{sound_front}
+use Rattle.sci_dump.proofs.Streaming.{before_fault_front}
 use Rattle.sci_serve.proofs.Telling.{told_none, stream_stops, tell_stops}
 use Rattle.sci_serve.proofs.large.check_lines.Goals as goal
 
@@ -13,16 +13,16 @@ next-requires g c = omega (arith, c.loop-number.invariant.at, c.loop-number.inva
 pub returns-in-Err-clause-err : goal.returns-in-Err-clause-err
 returns-in-Err-clause-err g c = λ input r.
     let (cs, text, read, told, appended) = c.loop-number.invariant.told input r in
-    rw c.fault_of.ensures
+    rw c.told_of.ensures.fault
     (stream_stops c.in-Err.fault input text cs c.loop-number.verdict (g.W.Write.contents c.args.writer.now) (g.W.Write.contents c.loop-number.writer)
-    (sound_front input cs c.loop-number.stream (g.R.Read.remaining c.loop-number.reader) read) (c.in-Err.ensures.err input cs read) told appended)
+    (before_fault_front input cs c.loop-number.stream (g.R.Read.remaining c.loop-number.reader) read) (c.in-Err.ensures.err input cs read) told appended)
 
 pub returns-in-Err-tell-clause-err : goal.returns-in-Err-tell-clause-err
 returns-in-Err-tell-clause-err g c = λ input r.
     let (cs, text, read, told, appended) = c.loop-number.invariant.told input r in
     tell_stops c.in-Err-tell.fault input text cs c.in-Ok.closed c.loop-number.verdict c.loop-number.number (g.W.Write.contents c.args.writer.now) (g.W.Write.contents c.loop-number.writer) (g.W.Write.contents c.tell.new.writer)
-    (sound_front input cs c.loop-number.stream (g.R.Read.remaining c.loop-number.reader) read)
-    (sound_front input (cs ++ c.in-Ok.closed ∷ []) c.in-Ok.next (g.R.Read.remaining c.next.new.reader) (c.in-Ok.ensures.ok input cs read))
+    (before_fault_front input cs c.loop-number.stream (g.R.Read.remaining c.loop-number.reader) read)
+    (before_fault_front input (cs ++ c.in-Ok.closed ∷ []) c.in-Ok.next (g.R.Read.remaining c.next.new.reader) (c.in-Ok.ensures.ok input cs read))
     (read.many ∙ c.loop-number.invariant.at) told appended c.in-Err-tell.ensures.err
 
 pub loop-number-preserved : goal.loop-number-preserved

@@ -12,5 +12,5 @@ invariant-loop-number g l =
       told : (input : List ℕ) → HasRead input [] l.fn.first (g.R.Read.remaining l.fn.reader)
           → (cs : List ClosedLine) × (text : List ℕ) × HasRead input cs l.stream (g.R.Read.remaining l.reader) × IsTold cs l.verdict text × Appends (g.W.Write.contents l.fn.writer) (g.W.Write.contents l.writer) text;
       at : l.stream.closed ≡ l.number;
-      all : l.stream.count ≡ l.number-end;
+      all : l.stream.head.lines ≡ l.number-end;
     }

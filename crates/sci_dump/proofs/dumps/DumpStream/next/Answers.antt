@@ -11,7 +11,7 @@ returns-in_err-found-clause-err g c =
     let s = c.args.self in
     rw (p.1, p.2)
     (λ text lines r. stops_behind c.in_err-found.field-0.0 text lines s (g.R.Read.remaining c.args.reader.now) r c.requires
-    (λ rest h. subst (λ (n : ℕ). StopsAt c.in_err-found.field-0.0 (closed_at s.layout n s.nodes s.number rest)) c.from.ensures (c.in_err-found.ensures.exact rest h)))
+    (λ rest h. subst (λ (n : ℕ). StopsAt c.in_err-found.field-0.0 (closed_at s.head.layout n s.head.nodes s.row.number rest)) c.from.ensures (c.in_err-found.ensures.exact rest h)))
 
 pub returns-clause-ok : goal.returns-clause-ok
 returns-clause-ok g c = λ text lines r.

@@ -1,9 +1,9 @@
-use Rattle.std.proofs.Common.{◌≡◌, ◌<◌, ◌∙◌, ◌∷◌, [], List, take, refl, sym, subst, Ok, Err}
+use Rattle.std.proofs.Common.{◌∙◌, List, take, refl, sym, subst, Ok, Err}
 use Rattle.std.proofs.lemmas.List.{take_all, take_more}
 use Rattle.std.proofs.lemmas.List.Elements.{All-get_or}
 use Rattle.sci_script.specs.declared.commands.Size.{Size}
 use Rattle.sci_follow.specs.declared.entries.Entry.{Entry}
-use Rattle.sci_follow.specs.Steps.{IsIn, Takes, lines_of}
+use Rattle.sci_follow.specs.Steps.{IsIn, lines_of}
 use Rattle.sci_follow.specs.Runs.{IsRun}
 use Rattle.sci_follow.proofs.Running.{departs, run_more, taken_with}
 use Rattle.sci_follow.proofs.lines.Follower.follow.Goals as goal

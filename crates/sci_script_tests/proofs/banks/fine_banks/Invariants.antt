@@ -1,7 +1,0 @@
-use Rattle.std.proofs.Common.{vec_items}
-use Rattle.sci_fine.specs.Seats.{IsSeatOf}
-use Rattle.sci_script.specs.Dealt.{ArePiled}
-use Rattle.sci_script_tests.proofs.banks.fine_banks.Given as goal
-
-abbrev pub invariant-loop : goal.invariant-loop
-invariant-loop l = ArePiled (λ line seat. IsSeatOf line seat) vec_items l.lines l.piles.items

@@ -1,4 +1,0 @@
-use Rattle.sci_shared_tests.proofs.coarse.banks.writes_and_reads.Goals as goal
-
-pub store-requires-clause-fits : goal.store-requires-clause-fits
-store-requires-clause-fits g c = λ words e fits. tt
