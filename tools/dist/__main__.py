@@ -57,12 +57,19 @@ def is_faulty(name, built, kept):
     return False
 
 
+def seconds(*tables):
+    """Returns a line for each crate that one of these tables has: in how many seconds it was proved, as the last one says that has it."""
+    rows = dict(row.split() for it in tables for row in it.read_text(encoding="utf-8").splitlines())
+    return "".join(f"{name} {it}\n" for name, it in rows.items() if (made.ROOT / "crates" / name).is_dir())
+
+
 def check(table, *sources):
     if sums() != [*sources]:
         print("dist: the sources have changed while the gate ran: nothing is noted or compared")
         return 0
     lines = built_from(sources)
-    shutil.copyfile(table, OUT / "seconds")
+    # (it has no seconds of a crate that an earlier run has proved)
+    (OUT / "seconds").write_text(seconds(DIST / "seconds", pathlib.Path(table)), encoding="utf-8")
     made.write(OUT, lines)
     built, kept = (dict(it.split(" ", 1) for it in some) for some in (lines, made.read(DIST)))
     return 1 if any([is_faulty(name, built, kept) for name in MADE]) else 0

@@ -3,7 +3,8 @@
     python3 tools/refused/gate.py FOLDER [--all]
 
 It says what `rt ci` says, and has its status. FOLDER/edits has what became of the edits; its last line is `N passed, M failed`.
-FOLDER/seconds has how many seconds the proof of each crate took, FOLDER/spent how many CPU seconds each part of a crate.
+FOLDER/seconds has how many seconds the proof of each crate took, FOLDER/spent how many CPU seconds each part of a crate; neither has what
+`rt ci` took from an earlier run on this machine.
 """
 
 import argparse
@@ -74,23 +75,31 @@ def hastened(tasks):
 
 
 def timed(name, call, table):
-    """Returns a task's call that writes its crate's name and its seconds into a table."""
+    """Returns a task's call that writes its crate's name and its seconds into a table, where it has run a program."""
 
     def noted(given, jobs):
         begun = time.monotonic()
         well = call(given, jobs)
-        print(name, round(time.monotonic() - begun), file=table, flush=True)
+        if sum(spent.record()):
+            print(name, round(time.monotonic() - begun), file=table, flush=True)
         return well
 
     return noted
 
 
+def behind_proof(key, task):
+    """Returns the task, which waits for its crate's proof too where it proves that crate once more for the edits of must-fail/: it then
+    begins over what was proved."""
+    return ([*task[0], (key[0], "proof")], *task[1:]) if key[1] == "seed" else task
+
+
 def beside(in_lanes, trials, table, used):
     """Returns the kit's lanes, but for this: the edits of each crate run in them too, once its library is proved, what all wait for is
-    hastened, the proof of each crate is timed, and the CPU seconds of each task are noted. The lanes take first what has the most lines before it, so that of the edits counts for
-    next to nothing: they fill what rt ci leaves free."""
+    hastened, the proof of each crate is timed, and the CPU seconds of each task are noted. The lanes take first what has the most lines
+    before it, so that of the edits counts for next to nothing: they fill what rt ci leaves free."""
 
     def in_lanes_with_edits(tasks):
+        tasks = {key: behind_proof(key, it) for key, it in tasks.items()}
         # (a kit that names its tasks otherwise tries them behind rt ci)
         known = [it for it in trials if (it.crate.name, "proof") in tasks]
         more = tasks_of(known, lambda name: [(name, "proof")])
@@ -106,7 +115,7 @@ def beside(in_lanes, trials, table, used):
 def main():
     parser = argparse.ArgumentParser(prog="gate.py", description=__doc__.split("\n")[0])
     parser.add_argument("folder")
-    parser.add_argument("--all", action="store_true", help="try every edit, whatever was tried before")
+    parser.add_argument("--all", action="store_true", help="prove all, and try every edit, whatever was proved and tried before")
     given = parser.parse_args()
     to = os.path.realpath(given.folder)
     os.makedirs(f"{to}/seeds", exist_ok=True)
@@ -123,7 +132,7 @@ def main():
         threading.Thread(target=seeds.watch, args=(f"{to}/seeds", name, os.path.realpath("crates")), daemon=True).start()
         if hasattr(RT, "checked"):
             RT.checked = seeds.begun(f"{to}/seeds", RT.checked)
-    status = RT.main(["ci"])
+    status = RT.main(["ci", "--anew"] if given.all else ["ci"])
     if not status:
         in_lanes(tasks_of([it for it in trials if not it.is_tried], lambda name: []))
     with open(f"{to}/edits", "w", encoding="utf-8") as said, contextlib.redirect_stdout(said):

@@ -8,8 +8,9 @@ from kit import RT
 
 # the seconds of each program that the thread's task has waited for
 OF_THREAD = threading.local()
-# how a task of `rt ci` is told
-KINDS = {"proof": "proof", "tests": "tests", "edits": "must-fail"}
+# how a task of `rt ci` is told, whose key begins with its crate and its kind; all others are those of the edits of must-fail/
+KINDS = {"proof": "proof", "tests": "tests"}
+OTHERS = "must-fail"
 
 
 def waitpid(pid, options):
@@ -50,10 +51,15 @@ def noted(key, call, table):
 
 def rows(table, trials):
     """Returns a line for each crate: the CPU seconds of its proof, its tests, and its wrong edits."""
-    used = {key: sum(it) for key, it in table.items()} | {(it.crate.name, "tried"): it.used for it in trials}
-    for name in dict.fromkeys(name for name, _ in used):
-        parts = [(said, used.get((name, kind), 0)) for kind, said in [*KINDS.items(), ("tried", "edits")]]
-        yield f"CPU s of {name}: {', '.join(f'{said} {it:.0f}' for said, it in parts if it >= 0.5)}\n"
+    parts = {}
+    for (name, kind, *_), seconds in table.items():
+        of_crate = parts.setdefault(name, dict.fromkeys([*KINDS.values(), OTHERS], 0))
+        of_crate[KINDS.get(kind, OTHERS)] += sum(seconds)
+    for it in trials:
+        parts.setdefault(it.crate.name, {})["edits"] = it.used
+    for name, of_crate in parts.items():
+        told = [f"{said} {it:.0f}" for said, it in of_crate.items() if it >= 0.5]
+        yield f"CPU s of {name}: {', '.join(told) or 'none'}\n"
 
 
 # (the library subprocess, and the kit's own, call them by these names)

@@ -34,6 +34,8 @@ def summed(phases):
     return "cells " + " ".join(map(str, cells)) + "\n"
 
 
+# each node waits for its neighbours' tiles, also that of the first whose thread isn't started
+AWAITED = f'work = "stencil"\nnodes = 64\ncapacity = 3\nphases = 1\ncells = {64 * 7 * [0]}\n'
 PHASES = 'work = "stencil"\nnodes = 1\ncapacity = 2\nphases = 100000\ncells = [1, 0, 0, 0, 0, 0, 0]\n'
 
 # A command, its input, the text by hand where it is known, and whether something is printed before the last growth.
@@ -51,6 +53,7 @@ SERVED = [
 CASES = [
     (["script"], Little("memory 1024 1024\nlist 1023\n", 150_000_000), 0, "line 1023 HOME\n", ""),
     (["run"], Crowded(COUNT.replace("nodes = 4", "nodes = 64")), 1, "", refused("26")),
+    (["run"], Crowded(AWAITED), 1, "", refused("26")),
     (["run"], Crowded(ONE), 0, "count 1000\n", ""),
     (["run"], Little(MILLIONS, 300_000_000), 1, "", refused("7")),
     (["run", "--history"], Little(MILLIONS, 300_000_000), 1, "", refused("7")),

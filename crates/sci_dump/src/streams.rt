@@ -6,7 +6,7 @@ ghost use Rattle.sci_words.specs.Tag.{tag_well_formed};
 ghost use Rattle.sci_core.specs.declared.whole.TheConstants.{MOST_NODES};
 ghost use Rattle.sci_core.specs.Closed.{ClosedLine};
 ghost use Rattle.sci_dump.specs.Reading.{entries_at, closed_at, dump_of};
-ghost use Rattle.sci_dump.specs.Streams.{Holds, Streams, HasRead, StopsBehind};
+ghost use Rattle.sci_dump.specs.Streams.{HoldsRow, IsHeadOf, Streams, HasRead, StopsBehind, from_line};
 ghost use Rattle.sci_dump.specs.declared.streams.StreamFault.TheVariants.{OutOfMemory};
 
 use crate::dumps::DumpStream;
@@ -20,7 +20,7 @@ use sci_words::Tag;
 use std::alloc::{AllocError, AllocFailed, Global};
 use std::io::BufRead;
 
-/// Why a dump isn't read to its end.
+/// Why a dump isn't read to its end. The reader is behind the lines of text that were read, and maybe behind a part of the next.
 #[derive(Debug, Drop)]
 pub enum StreamFault {
     /// Refusal 7: a growth of memory was refused.
@@ -65,8 +65,9 @@ fn read_rows<R: BufRead>(
 ) -> Result<Rows, StreamFault>
     requires few { head.nodes ≤ MOST_NODES }
     requires near { first.number < 1200000 }
-    ensures exact { (text : List ℕ) → Holds first.text.items (R.remaining reader.old) text
-        → Streams (λ x rest. (x.tags.items, x.lines.items, x.row.number, rest)) (λ x. x.row.text.items) (R.remaining reader.new) result (entries_at head.layout closed 0 head.nodes first.number text) }
+    ensures exact { (text : List ℕ) → IsHeadOf head text → HoldsRow text first (R.remaining reader.old)
+        → Streams text (λ x rest. (x.tags.items, x.lines.items, x.row.number, rest)) (λ x. x.row) (R.remaining reader.new) result
+        (entries_at head.layout closed 0 head.nodes first.number (from_line first.number text)) }
     ensures well_formed { IfOk result (λ x. All (λ t. tag_well_formed t ≡ true) x.tags.items) }
     ensures lengths { IfOk result (λ x. (length x.tags.items ≡ head.nodes) × (length x.lines.items ≡ head.nodes)) }
     ensures further { IfOk result (λ x. x.row.number ≤ first.number + head.nodes) }
@@ -74,38 +75,28 @@ fn read_rows<R: BufRead>(
     let count = usize::from(head.nodes);
     let mut tags = Vec::with_capacity(alloc, count)?;
     let mut lines = Vec::with_capacity(alloc, count)?;
-    let mut number = first.number;
-    let mut text = first.text;
-    let mut place = first.place;
+    let mut row = first;
     for node in 0..u64::from(head.nodes) {
-        let Some((tag, content, next, rest)) = entry(head.layout, closed, node, number, &text)
+        let number = row.number;
+        let Some((tag, content, next, _)) = entry(head.layout, closed, node, number, &row.text)
         else {
-            return Err(StreamFault::DumpFault(DumpRow {
-                number,
-                text,
-                place,
-            }));
+            return Err(StreamFault::DumpFault(row));
         };
-        let is_read = rest.is_empty();
         tags.push(tag)?;
         lines.push(content)?;
+        // at the end of the text nothing is read, and nothing more asked for
         if next > number {
-            place = DumpPlace::Line {
-                head,
-                line: closed,
-                node: node + 1,
+            row = DumpRow {
+                number: next,
+                text: advance(row.text, reader)?,
+                place: DumpPlace::Line {
+                    head,
+                    line: closed,
+                    node: node + 1,
+                },
             };
         }
-        number = next;
-        if is_read {
-            text = advance(text, reader)?;
-        }
     }
-    let row = DumpRow {
-        number,
-        text,
-        place,
-    };
     Ok(Rows { tags, lines, row })
 }
 
@@ -126,8 +117,9 @@ fn read_closed<R: BufRead>(
 ) -> Result<Found, StreamFault>
     requires few { head.nodes ≤ MOST_NODES }
     requires near { row.number < 1100000 }
-    ensures exact { (text : List ℕ) → Holds row.text.items (R.remaining reader.old) text
-        → Streams (λ x rest. (x.closed, x.row.number, rest)) (λ x. x.row.text.items) (R.remaining reader.new) result (closed_at head.layout number head.nodes row.number text) }
+    ensures exact { (text : List ℕ) → IsHeadOf head text → HoldsRow text row (R.remaining reader.old)
+        → Streams text (λ x rest. (x.closed, x.row.number, rest)) (λ x. x.row) (R.remaining reader.new) result
+        (closed_at head.layout number head.nodes row.number (from_line row.number text)) }
     ensures further { IfOk result (λ x. x.row.number ≤ row.number + 1 + head.nodes) }
 {
     let Some((mem, memory, _)) = memory_row(head.layout, number, &row.text) else {
@@ -155,7 +147,7 @@ fn read_closed<R: BufRead>(
 }
 
 impl DumpStream {
-    /// Reads the first line of a dump.
+    /// Reads the first line of a dump. Refusals 7 and 21, or a reader that fails, here and below as [`StreamFault`] says.
     pub fn open<R: BufRead>(alloc: Global, reader: &mut R) -> Result<DumpStream, StreamFault>
         ensures ok { IfOk result (λ s. IfSome (R.remaining reader.old) (λ text. HasRead text [] s (R.remaining reader.new))) }
         ensures err { IfErr result (λ e. IfSome (R.remaining reader.old) (λ text. StopsBehind e text [])) }
@@ -188,7 +180,7 @@ impl DumpStream {
         })
     }
 
-    /// How many closed lines the dump has.
+    /// How many closed lines the dump has: 1 to 1,024.
     pub fn count(&self) -> u16
         ensures value { result ≡ self.now.head.lines }
         ensures few { result ≤ 1024 }
@@ -196,7 +188,7 @@ impl DumpStream {
         self.head.lines
     }
 
-    /// Reads the next closed line.
+    /// Reads the next closed line; `next` has been called less than `count` times. Refused, there is no stream any more.
     pub fn next<R: BufRead>(
         self,
         alloc: Global,
@@ -219,7 +211,7 @@ impl DumpStream {
         Ok((found.closed, next))
     }
 
-    /// Reads `end`, and that nothing stands behind it.
+    /// Reads `end`, and that nothing stands behind it; `next` has been called `count` times. Refused as above.
     pub fn end<R: BufRead>(self, reader: &mut R) -> Result<(), StreamFault>
         requires { self.closed ≡ self.head.lines }
         ensures ok { OnOk result ((text : List ℕ) (lines : List ClosedLine) → HasRead text lines self (R.remaining reader.old)

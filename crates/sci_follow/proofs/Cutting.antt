@@ -8,7 +8,7 @@ use Rattle.sci_follow.specs.declared.logs.Log.{Log}
 use Rattle.sci_follow.specs.declared.logs.LogFault.{LogFault}
 use Rattle.sci_follow.specs.declared.parts.LineReason.{LineReason}
 use Rattle.sci_follow.specs.Logs.{Feeds, Ends}
-use Rattle.sci_follow.specs.Reasons.{EndsWhy, FaultsWhy, IsWhy, StopsWhy, WouldTell, due_of}
+use Rattle.sci_follow.specs.Reasons.{EndsWhy, FaultsWhy, IsWhy, StopsWhy, due_of, would_tell}
 use Rattle.sci_follow.specs.Streams.{Cuts, FeedsTo, Reaches, FollowsAll, StopsWith, without_end}
 use Rattle.sci_follow.proofs.Lacking.{fed_tells}
 
@@ -76,7 +76,7 @@ pub without_why : (a : Option (List ℕ)) (e : LogFault) (why : Option LineReaso
 without_why a e why h = IfSome_then a h (untold e why)
 
 pub stops_here : (a b : Option (List ℕ)) (log : Log) (e : LogFault) (why : Option LineReason) (n : ℕ) (line : List ℕ) → Stands a b log n → IfSome b (λ xs. line ≡ take_through 10 xs) → 0 < length line
-    → Feeds n (without_end line) log (Err e) → WouldTell e (due_of log) (without_end line) why → IfSome a (StopsWhy e why)
+    → Feeds n (without_end line) log (Err e) → why ≡ would_tell e (due_of log) (without_end line) → IfSome a (StopsWhy e why)
 stops_here None b log e why n line h took some fed told = tt
 stops_here (Some input) b log e why n line h took some fed told =
     let (lines, rest, is, reached, count) = h in

@@ -5,3 +5,4 @@ pub mod Names
 pub mod Cutting
 pub mod Lacking
 pub mod Values
+pub mod Seeing

@@ -16,7 +16,7 @@ use Rattle.sci_core.specs.Shape.{line_of}
 use Rattle.sci_core.specs.Stage.{pending_of, stage_of, outline_of}
 use Rattle.sci_core.specs.Table.{row_of}
 use Rattle.sci_core.proofs.Laying.{whole_step}
-use Rattle.sci_follow.specs.LineText.{coded, tag_of}
+use Rattle.sci_follow.specs.Names.{coded, tag_of}
 
 pub change_at : (o : Outline) (stage : Stage) (p : Pending) (me : ℕ) (e : Event) → stage ≡ stage_of p → ((l : Line) → o ≡ outline_of (row_of me (pending_of stage l) e)) → o.change ≡ (row_of me p e).change
 change_at o stage p me e is each = ap (λ (x : Outline). x.change) (each (line_of p))

@@ -1,308 +1,275 @@
--- The text of a line of a log: what it tells. This project's profile.
-use Rattle.std.specs.Prelude.{ℕ, Bool, true, false, List, [], ◌∷◌, Option, Some, None, codes, if◌then◌else◌}
-use Rattle.sci_words.specs.declared.tags.Kind.{Kind}
-use Rattle.sci_words.specs.declared.tags.Tag.{Tag}
-use Rattle.sci_words.specs.declared.refusals.WordRefusal.{WordRefusal}
-use Rattle.sci_words.specs.declared.layouts.Layout.TheVariants.{Two}
-use Rattle.sci_words.specs.Codes.{tag_in}
-use Rattle.sci_words.specs.Refused.{tag_refusal_in}
+-- The text of a line of a log: what it tells, or the first part that isn't there. This project's profile.
+use Rattle.std.specs.Prelude.{◌≡◌, ℕ, zero, suc, Bool, true, false, List, [], ◌∷◌, length, Option, Some, None, Result, Ok, Err, codes}
 use Rattle.sci_core.specs.declared.lines.Line.{Line}
 use Rattle.sci_core.specs.declared.events.Event.{Event}
 use Rattle.sci_script.specs.declared.commands.Size.{Size}
-use Rattle.sci_dump.specs.Reading.{◌>>=◌, behind, word_at, value_at, values_at, capped_at}
+use Rattle.sci_dump.specs.Reading.{behind, word_at, number_at, capped_at}
 use Rattle.sci_follow.specs.declared.entries.Claim.{Claim}
+use Rattle.sci_follow.specs.declared.parts.Lack.{Lack}
+use Rattle.sci_follow.specs.declared.parts.Part.{Part}
 use Rattle.sci_follow.specs.declared.told.Asks.{Asks}
 use Rattle.sci_follow.specs.declared.told.Found.{Found}
 use Rattle.sci_follow.specs.declared.told.Told.{Told}
 use Rattle.sci_follow.specs.declared.told.Noted.{Noted}
+use Rattle.sci_follow.specs.Names.{bare_event_at, found_at, other_asks_at, own_asks_at}
 
--- this where the text goes on so, or else what else it may be
-abbrev pub either : {A : Type 0} → A → Option (List ℕ) → Option (A × List ℕ) → Option (A × List ℕ)
-either x (Some rest) other = Some (x, rest)
-either x None other = other
+-- this part isn't there, but this text
+abbrev pub lack : Part → List ℕ → Lack
+lack wanted text = record { wanted = wanted; left = length text }
 
-abbrev pub first_of : {A : Type 0} → Option A → Option A → Option A
-first_of (Some x) other = Some x
-first_of None other = other
+-- one part after another: each gives a value and the text behind it, or the first lack
+infixl 10 ◌>>=◌
+abbrev pub ◌>>=◌ : {A B : Type 0} → Result A Lack → (A → Result B Lack) → Result B Lack
+(Ok x) >>= f = f x
+(Err e) >>= f = Err e
 
--- nothing is left
-abbrev pub is_ended : List ℕ → Bool
-is_ended [] = true
-is_ended (b ∷ bs) = false
+-- what a function returned, seen by view, is what reading gives
+abbrev pub Gives : {X Y : Type 0} → (X → Y) → Result X Lack → Result Y Lack → Type 0
+Gives view (Ok x) read = read ≡ Ok (view x)
+Gives view (Err e) read = read ≡ Err e
 
--- an event on memory's word
-unfoldable pub memory_event_at : List ℕ → Option (Event × List ℕ)
-memory_event_at text = either Event.PrependValid (behind (codes "PrependValid ") text)
-    (either Event.ReturnMemory (behind (codes "ReturnMemory ") text)
-    (either Event.PrependGone (behind (codes "PrependGone ") text)
-    (either Event.HomeWrite (behind (codes "HomeWrite ") text)
-    (either Event.FreshToGone (behind (codes "FreshToGone ") text) None))))
+-- this part, as it was read here
+abbrev pub wants : {A : Type 0} → Part → List ℕ → Option A → Result A Lack
+wants part text (Some x) = Ok x
+wants part text None = Err (lack part text)
 
--- an event on memory's word, of a head that leaves
-unfoldable pub leaving_event_at : List ℕ → Option (Event × List ℕ)
-leaving_event_at text = either Event.PassOn (behind (codes "PassOn ") text)
-    (either Event.ReturnHomeFresh (behind (codes "ReturnHomeFresh ") text)
-    (either Event.ReturnHomeDirty (behind (codes "ReturnHomeDirty ") text) None))
+-- what stands behind this, where it stands here, or else the other
+abbrev pub onward : {A B : Type 0} → Option A → (A → Result B Lack) → Result B Lack → Result B Lack
+onward (Some x) more other = more x
+onward None more other = other
 
--- an event on the own tag, or on one that a step keeps
-unfoldable pub own_event_at : List ℕ → Option (Event × List ℕ)
-own_event_at text = either Event.Look (behind (codes "Look ") text)
-    (either Event.Settle (behind (codes "Settle ") text)
-    (either Event.Unhold (behind (codes "Unhold ") text)
-    (either Event.Advance (behind (codes "Advance ") text)
-    (either Event.Clear (behind (codes "Clear ") text)
-    (either Event.Rolled (behind (codes "Rolled ") text) None)))))
+-- these bytes, which are this part
+unfoldable pub label_at : Part → List ℕ → List ℕ → Result (List ℕ) Lack
+label_at part bytes text = wants part text (behind bytes text)
 
-unfoldable pub step_event_at : List ℕ → Option (Event × List ℕ)
-step_event_at text = either Event.Converted (behind (codes "Converted ") text)
-    (either Event.Unconverted (behind (codes "Unconverted ") text)
-    (either Event.ReturnCopy (behind (codes "ReturnCopy ") text)
-    (either Event.Stay (behind (codes "Stay ") text)
-    (either Event.ReEnter (behind (codes "ReEnter ") text)
-    (either Event.Left (behind (codes "Left ") text) None)))))
+abbrev pub space_at : List ℕ → Result (List ℕ) Lack
+space_at text = label_at Part.Space (codes " ") text
 
--- an event without an argument
-unfoldable pub bare_event_at : List ℕ → Option (Event × List ℕ)
-bare_event_at text = first_of (own_event_at text) (first_of (memory_event_at text) (first_of (step_event_at text) (leaving_event_at text)))
+-- this word, and a space
+unfoldable pub word_and_space_at : Part → List ℕ → List ℕ → Result (List ℕ) Lack
+word_and_space_at part bytes text = do
+  text ← label_at part bytes text
+  space_at text
 
--- a node's number; one that no memory has stands for the last
-unfoldable pub node_at : List ℕ → Option (ℕ × List ℕ)
-node_at text = capped_at 65534 text
+-- nothing more
+unfoldable pub end_at : List ℕ → Result (Unit {0}) Lack
+end_at [] = Ok tt
+end_at (b ∷ bs) = Err (lack Part.End (b ∷ bs))
 
--- a line's number, likewise
-unfoldable pub line_at : List ℕ → Option (ℕ × List ℕ)
-line_at text = capped_at 65535 text
+-- a number of any length; one above `most` stands for that
+unfoldable pub count_at : Part → ℕ → List ℕ → Result (ℕ × List ℕ) Lack
+count_at part most text = wants part text (capped_at most text)
 
--- a node
-unfoldable pub some_node_at : List ℕ → Option (Option ℕ × List ℕ)
-some_node_at text = do
-  found ← node_at text
-  Some (Some found.0, found.1)
+-- a node's number, a line's: one that no memory has stands for the last
+abbrev pub node_at : List ℕ → Result (ℕ × List ℕ) Lack
+node_at text = count_at Part.NodeNumber 65534 text
+
+abbrev pub line_at : List ℕ → Result (ℕ × List ℕ) Lack
+line_at text = count_at Part.LineNumber 65535 text
+
+-- a space, or what else may stand in its place, and a number below 2 ^ 64
+unfoldable pub value_at : Part → List ℕ → Result (ℕ × List ℕ) Lack
+value_at part text = do
+  text ← label_at part (codes " ") text
+  wants Part.Value text (number_at text)
+
+-- so many of them
+unfoldable pub values_at : ℕ → List ℕ → Result (List ℕ × List ℕ) Lack
+values_at zero text = Ok ([], text)
+values_at (suc k) text = do
+  value ← value_at Part.SpacedValue text
+  values ← values_at k value.1
+  Ok (value.0 ∷ values.0, values.1)
+
+-- a stamp and the words of a line, to the end
+unfoldable pub content_at : Part → List ℕ → Result Line Lack
+content_at part text = do
+  stamp ← value_at part text
+  words ← values_at 8 stamp.1
+  end ← end_at words.1
+  Ok (record { words = words.0; stamp = stamp.0 })
+
+-- the bracket behind an argument, and a space
+unfoldable pub closed_at : List ℕ → Result (List ℕ) Lack
+closed_at text = word_and_space_at Part.Bracket (codes ")") text
 
 -- a link: a node, or `none`
-unfoldable pub link_at : List ℕ → Option (Option ℕ × List ℕ)
-link_at text = either None (behind (codes "none") text) (some_node_at text)
+unfoldable pub some_node_at : List ℕ → Result (Option ℕ × List ℕ) Lack
+some_node_at text = do
+  node ← count_at Part.Link 65534 text
+  Ok (Some node.0, node.1)
 
--- a link, and the bracket behind it
-unfoldable pub closed_link_at : List ℕ → Option (Option ℕ × List ℕ)
-closed_link_at text = do
+unfoldable pub link_at : List ℕ → Result (Option ℕ × List ℕ) Lack
+link_at text = onward (behind (codes "none") text) (λ rest. Ok (None, rest)) (some_node_at text)
+
+-- `(LINK) `
+unfoldable pub bracketed_link_at : List ℕ → Result (Option ℕ × List ℕ) Lack
+bracketed_link_at text = do
+  text ← label_at Part.Opened (codes "(") text
   link ← link_at text
-  text ← behind (codes ") ") link.1
-  Some (link.0, text)
+  text ← closed_at link.1
+  Ok (link.0, text)
 
--- a tag with the name of a kind that tells whether an entry follows, or of one that doesn't
-abbrev pub sample : Kind → Bool → Tag
-sample kind is_followed = record { kind = kind; held = false; forw = if is_followed then Some 0 else None; back = None }
+-- an event that asks for this tag, of that node or its own: `TAG) `
+unfoldable pub tag_told_at : Asks → Option ℕ → List ℕ → Result (Told × List ℕ) Lack
+tag_told_at asks whose text = do
+  found ← wants Part.Tag text (found_at text)
+  text ← closed_at found.1
+  Ok (Told.On asks whose found.0, text)
 
-unfoldable pub settled_name_at : List ℕ → Option (Tag × List ℕ)
-settled_name_at text = either (sample Kind.Fresh true) (behind (codes "HEAD_FRESH") text)
-    (either (sample Kind.Fresh false) (behind (codes "ONLY_FRESH") text)
-    (either (sample Kind.Dirty true) (behind (codes "HEAD_DIRTY") text)
-    (either (sample Kind.Dirty false) (behind (codes "ONLY_DIRTY") text)
-    (either (sample Kind.Valid true) (behind (codes "MID_VALID") text)
-    (either (sample Kind.Valid false) (behind (codes "TAIL_VALID") text) None)))))
+-- behind the name of an event: of one that asks for nothing
+unfoldable pub bare_told_at : Event → List ℕ → Result (Told × List ℕ) Lack
+bare_told_at event text = do
+  text ← space_at text
+  Ok (Told.Event event, text)
 
-unfoldable pub other_name_at : List ℕ → Option (Tag × List ℕ)
-other_name_at text = either (sample Kind.Roll false) (behind (codes "ROLL") text)
-    (either (sample Kind.Purged false) (behind (codes "PURGED") text)
-    (either (sample Kind.Purging false) (behind (codes "PURGING") text)
-    (either (sample Kind.Convert false) (behind (codes "CONVERT") text)
-    (either (sample Kind.Leaving false) (behind (codes "LEAVING") text)
-    (either (sample Kind.Queued false) (behind (codes "QUEUED") text)
-    (either (sample Kind.Invalid false) (behind (codes "INVALID") text) None))))))
+-- of one that asks for the own tag: `(TAG) `
+unfoldable pub own_told_at : Asks → List ℕ → Result (Told × List ℕ) Lack
+own_told_at asks text = do
+  text ← label_at Part.Opened (codes "(") text
+  tag_told_at asks None text
 
--- a tag's name
-unfoldable pub name_at : List ℕ → Option (Found × List ℕ)
-name_at text = do
-  found ← first_of (settled_name_at text) (other_name_at text)
-  Some (Found.Named found.0, found.1)
-
--- the tag with this code in layout 2
-abbrev pub coded : Option WordRefusal → Tag → Option Tag
-coded None tag = Some tag
-coded (Some e) tag = None
-
-abbrev pub tag_of : ℕ → Option Tag
-tag_of word = coded (tag_refusal_in Two word) (tag_in Two word)
-
--- a tag's code in 16 digits
-unfoldable pub exact_at : List ℕ → Option (Found × List ℕ)
-exact_at text = do
-  word ← word_at text
-  tag ← tag_of word.0
-  Some (Found.Exactly tag, word.1)
-
--- the tag that is asked for
-unfoldable pub found_at : List ℕ → Option (Found × List ℕ)
-found_at text = first_of (name_at text) (exact_at text)
-
--- which event on the own tag, which on another's
-unfoldable pub own_asks_at : List ℕ → Option (Asks × List ℕ)
-own_asks_at text = either Asks.Hold (behind (codes "Hold(") text)
-    (either Asks.Convert (behind (codes "Convert(") text)
-    (either Asks.BeginPurge (behind (codes "BeginPurge(") text)
-    (either Asks.Roll (behind (codes "Roll(") text)
-    (either Asks.Leave (behind (codes "Leave(") text) None))))
-
-unfoldable pub other_asks_at : List ℕ → Option (Asks × List ℕ)
-other_asks_at text = either Asks.AttachFresh (behind (codes "AttachFresh(") text)
-    (either Asks.AttachDirty (behind (codes "AttachDirty(") text)
-    (either Asks.PurgeOne (behind (codes "PurgeOne(") text)
-    (either Asks.TellSuccessor (behind (codes "TellSuccessor(") text)
-    (either Asks.TellPredecessor (behind (codes "TellPredecessor(") text)
-    (either Asks.Adopt (behind (codes "Adopt(") text)
-    (either Asks.Promote (behind (codes "Promote(") text) None))))))
-
--- the tag that is asked for, and the bracket behind it
-unfoldable pub closed_tag_at : List ℕ → Option (Found × List ℕ)
-closed_tag_at text = do
-  found ← found_at text
-  text ← behind (codes ") ") found.1
-  Some (found.0, text)
-
--- an event that asks for the own tag: `EVENT(TAG)`
-unfoldable pub own_tag_at : List ℕ → Option (Told × List ℕ)
-own_tag_at text = do
-  asks ← own_asks_at text
-  found ← closed_tag_at asks.1
-  Some (Told.On asks.0 None found.0, found.1)
-
--- a node's number, and a space
-unfoldable pub spaced_node_at : List ℕ → Option (ℕ × List ℕ)
-spaced_node_at text = do
+-- of one that asks for another node's tag: `(N TAG) `
+unfoldable pub whose_at : List ℕ → Result (ℕ × List ℕ) Lack
+whose_at text = do
+  text ← label_at Part.Opened (codes "(") text
   node ← node_at text
-  text ← behind (codes " ") node.1
-  Some (node.0, text)
+  text ← space_at node.1
+  Ok (node.0, text)
 
--- an event that asks for another node's tag: `EVENT(N TAG)`
-unfoldable pub on_other_at : Asks → List ℕ → Option (Told × List ℕ)
-on_other_at asks text = do
-  node ← spaced_node_at text
-  found ← closed_tag_at node.1
-  Some (Told.On asks (Some node.0) found.0, found.1)
+unfoldable pub other_told_at : Asks → List ℕ → Result (Told × List ℕ) Lack
+other_told_at asks text = do
+  node ← whose_at text
+  tag_told_at asks (Some node.0) node.1
 
-unfoldable pub other_tag_at : List ℕ → Option (Told × List ℕ)
-other_tag_at text = do
-  asks ← other_asks_at text
-  on_other_at asks.0 asks.1
-
--- `Queue(LINK)`, `Requeue(LINK)`
-unfoldable pub queue_at : List ℕ → Option (Event × List ℕ)
+-- `Queue(LINK) `, `Requeue(LINK) `
+unfoldable pub queue_at : List ℕ → Result (Told × List ℕ) Lack
 queue_at text = do
-  text ← behind (codes "Queue(") text
-  link ← closed_link_at text
-  Some (Event.Queue link.0, link.1)
+  link ← bracketed_link_at text
+  Ok (Told.Event (Event.Queue link.0), link.1)
 
-unfoldable pub requeue_at : List ℕ → Option (Event × List ℕ)
+unfoldable pub requeue_at : List ℕ → Result (Told × List ℕ) Lack
 requeue_at text = do
-  text ← behind (codes "Requeue(") text
-  link ← closed_link_at text
-  Some (Event.Requeue link.0, link.1)
+  link ← bracketed_link_at text
+  Ok (Told.Event (Event.Requeue link.0), link.1)
 
--- `Written(none)`, `Written(words V V V V V V V V)`
-unfoldable pub written_words_at : List ℕ → Option (Event × List ℕ)
-written_words_at text = do
-  text ← behind (codes "Written(words") text
+-- `Written(none) `, `Written(words V V V V V V V V) `
+unfoldable pub new_words_at : List ℕ → Result (Option (List ℕ) × List ℕ) Lack
+new_words_at text = do
+  text ← label_at Part.NoneOrWords (codes "words") text
   words ← values_at 8 text
-  text ← behind (codes ") ") words.1
-  Some (Event.Written (Some words.0), text)
+  Ok (Some words.0, words.1)
 
-unfoldable pub written_at : List ℕ → Option (Event × List ℕ)
-written_at text = either (Event.Written None) (behind (codes "Written(none) ") text) (written_words_at text)
+unfoldable pub maybe_words_at : List ℕ → Result (Option (List ℕ) × List ℕ) Lack
+maybe_words_at text = onward (behind (codes "none") text) (λ rest. Ok (None, rest)) (new_words_at text)
 
--- an event that asks for no tag
-unfoldable pub event_at : List ℕ → Option (Event × List ℕ)
-event_at text = first_of (bare_event_at text) (first_of (queue_at text) (first_of (written_at text) (requeue_at text)))
+unfoldable pub written_at : List ℕ → Result (Told × List ℕ) Lack
+written_at text = do
+  text ← label_at Part.Opened (codes "(") text
+  words ← maybe_words_at text
+  text ← closed_at words.1
+  Ok (Told.Event (Event.Written words.0), text)
 
-unfoldable pub whole_event_at : List ℕ → Option (Told × List ℕ)
-whole_event_at text = do
-  event ← event_at text
-  Some (Told.Event event.0, event.1)
+-- an event that is told with its link or its words
+unfoldable pub long_told_at : List ℕ → Result (Told × List ℕ) Lack
+long_told_at text = onward (behind (codes "Queue") text) queue_at
+    (onward (behind (codes "Written") text) written_at
+    (onward (behind (codes "Requeue") text) requeue_at (Err (lack Part.Event text))))
 
 -- what an event is told as, and a space
-unfoldable pub told_at : List ℕ → Option (Told × List ℕ)
-told_at text = first_of (other_tag_at text) (first_of (own_tag_at text) (whole_event_at text))
+unfoldable pub told_at : List ℕ → Result (Told × List ℕ) Lack
+told_at text = onward (bare_event_at text) (λ event. bare_told_at event.0 event.1)
+    (onward (own_asks_at text) (λ asks. own_told_at asks.0 asks.1)
+    (onward (other_asks_at text) (λ asks. other_told_at asks.0 asks.1) (long_told_at text)))
 
--- the line that was answered, to the end
-unfoldable pub answered_at : List ℕ → Option Claim
+-- `Done`, or `Done S V V V V V V V V`, to the end
+abbrev pub answered_at : List ℕ → Result Claim Lack
 answered_at text = do
-  stamp ← value_at text
-  words ← values_at 8 stamp.1
-  if is_ended words.1 then Some (Claim.Answered (record { words = words.0; stamp = stamp.0 })) else None
+  line ← content_at Part.EndOrValue text
+  Ok (Claim.Answered line)
 
--- the word that was found, to the end
-unfoldable pub missed_at : List ℕ → Option Claim
-missed_at text = do
-  text ← behind (codes "Missed ") text
-  word ← word_at text
-  if is_ended word.1 then Some (Claim.Missed word.0) else None
+unfoldable pub done_at : List ℕ → Result Claim Lack
+done_at [] = Ok Claim.Done
+done_at (b ∷ bs) = answered_at (b ∷ bs)
 
--- `Done`, or `Done STAMP V V V V V V V V`, to the end
-unfoldable pub done_at : List ℕ → Option Claim
-done_at text = do
-  text ← behind (codes "Done") text
-  if is_ended text then Some Claim.Done else answered_at text
-
-unfoldable pub busy_at : List ℕ → Option Claim
+-- `Busy`, to the end
+unfoldable pub busy_at : List ℕ → Result Claim Lack
 busy_at text = do
-  text ← behind (codes "Busy") text
-  if is_ended text then Some Claim.Busy else None
+  end ← end_at text
+  Ok Claim.Busy
 
--- how it ended: done, missed or busy
-unfoldable pub claim_at : List ℕ → Option Claim
-claim_at text = first_of (done_at text) (first_of (missed_at text) (busy_at text))
+-- ` WORD`, the word that was found, to the end
+unfoldable pub missed_at : List ℕ → Result Claim Lack
+missed_at text = do
+  text ← space_at text
+  word ← wants Part.Word text (word_at text)
+  end ← end_at word.1
+  Ok (Claim.Missed word.0)
 
 -- an exchange that asks for the tag that stands can't miss: a miss tells the tag that was asked for in digits
-abbrev pub is_told_enough : Told → Claim → Bool
-is_told_enough (Told.On asks whose (Found.Named tag)) (Claim.Missed word) = false
-is_told_enough told claim = true
+abbrev pub may_miss : Told → Bool
+may_miss (Told.On asks whose (Found.Named tag)) = false
+may_miss told = true
 
--- `node N`
-unfoldable pub acting_at : List ℕ → Option (ℕ × List ℕ)
-acting_at text = do
-  text ← behind (codes "node ") text
-  node_at text
+unfoldable pub may_missed_at : Bool → List ℕ → Result Claim Lack
+may_missed_at true text = do
+  text ← label_at Part.Outcome (codes "Missed") text
+  missed_at text
+may_missed_at false text = Err (lack Part.Hit text)
 
--- ` line L `
-unfoldable pub on_line_at : List ℕ → Option (ℕ × List ℕ)
-on_line_at text = do
-  text ← behind (codes " line ") text
-  line ← line_at text
-  text ← behind (codes " ") line.1
-  Some (line.0, text)
+-- how this event ended: done, missed or busy
+unfoldable pub claim_at : Told → List ℕ → Result Claim Lack
+claim_at told text = onward (behind (codes "Done") text) done_at (onward (behind (codes "Busy") text) busy_at (may_missed_at (may_miss told) text))
+
+-- a word and a number, each with a space behind it
+unfoldable pub numbered_at : Part → List ℕ → Part → ℕ → List ℕ → Result (ℕ × List ℕ) Lack
+numbered_at first bytes part most text = do
+  text ← word_and_space_at first bytes text
+  number ← count_at part most text
+  text ← space_at number.1
+  Ok (number.0, text)
+
+-- `node N `, `line L `
+abbrev pub acting_at : List ℕ → Result (ℕ × List ℕ) Lack
+acting_at text = numbered_at Part.Node (codes "node") Part.NodeNumber 65534 text
+
+abbrev pub on_line_at : List ℕ → Result (ℕ × List ℕ) Lack
+on_line_at text = numbered_at Part.OnLine (codes "line") Part.LineNumber 65535 text
 
 -- `EVENT OUTCOME`, of this node on this line
-unfoldable pub ended_at : ℕ → ℕ → List ℕ → Option Noted
+unfoldable pub ended_at : ℕ → ℕ → List ℕ → Result Noted Lack
 ended_at node line text = do
   told ← told_at text
-  claim ← claim_at told.1
-  if is_told_enough told.0 claim then Some (record { node = node; line = line; told = told.0; claim = claim }) else None
+  claim ← claim_at told.0 told.1
+  Ok (record { node = node; line = line; told = told.0; claim = claim })
 
-unfoldable pub placed_at : ℕ → List ℕ → Option Noted
+unfoldable pub placed_at : ℕ → List ℕ → Result Noted Lack
 placed_at node text = do
   line ← on_line_at text
   ended_at node line.0 line.1
 
 -- `node N line L EVENT OUTCOME`
-unfoldable pub noted_at : List ℕ → Option Noted
+unfoldable pub noted_at : List ℕ → Result Noted Lack
 noted_at text = do
   node ← acting_at text
   placed_at node.0 node.1
 
--- `memory NODES LINES`; a number that is too large stays too large
-unfoldable pub memory_at : List ℕ → Option Size
+-- how many nodes a memory has, or lines; a number that is too large stays too large
+abbrev pub size_part : Part
+size_part = Part.Number 1 1024
+
+-- `memory NODES LINES`
+unfoldable pub memory_at : List ℕ → Result Size Lack
 memory_at text = do
-  text ← behind (codes "memory ") text
-  nodes ← capped_at 65535 text
-  text ← behind (codes " ") nodes.1
-  lines ← capped_at 65535 text
-  if is_ended lines.1 then Some (record { nodes = nodes.0; lines = lines.0 }) else None
+  nodes ← numbered_at Part.Memory (codes "memory") size_part 65535 text
+  lines ← count_at size_part 65535 nodes.1
+  end ← end_at lines.1
+  Ok (record { nodes = nodes.0; lines = lines.0 })
 
 -- `open L S V V V V V V V V`
-unfoldable pub opening_at : List ℕ → Option (ℕ × Line)
+unfoldable pub opening_at : List ℕ → Result (ℕ × Line) Lack
 opening_at text = do
-  text ← behind (codes "open ") text
+  text ← word_and_space_at Part.Open (codes "open") text
   line ← line_at text
-  stamp ← value_at line.1
-  words ← values_at 8 stamp.1
-  if is_ended words.1 then Some (line.0, record { words = words.0; stamp = stamp.0 }) else None
+  content ← content_at Part.SpacedValue line.1
+  Ok (line.0, content)

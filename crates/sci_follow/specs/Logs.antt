@@ -1,11 +1,12 @@
 -- A log's text, line by line, as a run of the table. This project's profile.
-use Rattle.std.specs.Prelude.{◌≡◌, ◌≤◌, ◌<◌, ℕ, Bool, true, false, List, Option, Some, None, Result, Ok, Err}
+use Rattle.std.specs.Prelude.{◌≡◌, ◌≤◌, ◌<◌, ℕ, Bool, true, false, List, Result, Ok, Err}
 use Rattle.sci_core.specs.declared.lines.Line.{Line}
 use Rattle.sci_core.specs.State.{State}
 use Rattle.sci_script.specs.declared.commands.Size.{Size}
 use Rattle.sci_script.specs.Size.{IsSize}
 use Rattle.sci_script.specs.Words.{is_skipped}
 use Rattle.sci_follow.specs.declared.lines.Follower.{Follower}
+use Rattle.sci_follow.specs.declared.parts.Lack.{Lack}
 use Rattle.sci_follow.specs.declared.told.Noted.{Noted}
 use Rattle.sci_follow.specs.declared.logs.Log.{Log}
 use Rattle.sci_follow.specs.declared.logs.LogFault.{LogFault}
@@ -14,11 +15,11 @@ use Rattle.sci_follow.specs.Told.{IsNotedIn, TakesTold}
 use Rattle.sci_follow.specs.LineText.{memory_at, noted_at, opening_at}
 
 -- a first line, as it was read: lines of zeros that nobody has used
-abbrev pub Begins : ℕ → Option Size → Result Log LogFault → Type 0
-Begins n (Some size) (Ok (Log.Opening f)) = IsSize size × (f.size ≡ size) × AreUnused size.nodes size.lines f.lines.items
-Begins n (Some size) (Err LogFault.OutOfMemory) = Unit {0}
-Begins n (Some size) (Err (LogFault.BadNumber k)) = (k ≡ n) × (IsSize size → ⊥)
-Begins n None (Err (LogFault.BadLine k)) = k ≡ n
+abbrev pub Begins : ℕ → Result Size Lack → Result Log LogFault → Type 0
+Begins n (Ok size) (Ok (Log.Opening f)) = IsSize size × (f.size ≡ size) × AreUnused size.nodes size.lines f.lines.items
+Begins n (Ok size) (Err LogFault.OutOfMemory) = Unit {0}
+Begins n (Ok size) (Err (LogFault.BadNumber k)) = (k ≡ n) × (IsSize size → ⊥)
+Begins n (Err lack) (Err (LogFault.BadLine k)) = k ≡ n
 Begins n read r = ⊥
 
 -- an opening: the line, if it is there, opens anew
@@ -29,17 +30,17 @@ Opens n f o (Err (LogFault.BadNumber k)) = (k ≡ n) × (f.size.lines ≤ o.0)
 Opens n f o r = ⊥
 
 -- an event, as it was read: it happens, and the line answers so; or no lawful line does
-abbrev pub Notes : ℕ → Follower → Option Noted → Result Log LogFault → Type 0
-Notes n f (Some noted) (Ok (Log.Running g)) = IsNotedIn f.size noted × (g.size ≡ f.size) × TakesTold f.size.nodes (lines_of f) noted (Ok tt) (lines_of g)
-Notes n f (Some noted) (Err (LogFault.Departs k why)) = (k ≡ n) × IsNotedIn f.size noted × (t : ℕ → State) × TakesTold f.size.nodes (lines_of f) noted (Err why) t
-Notes n f (Some noted) (Err (LogFault.BadNumber k)) = (k ≡ n) × (IsNotedIn f.size noted → ⊥)
-Notes n f None (Err (LogFault.BadLine k)) = k ≡ n
+abbrev pub Notes : ℕ → Follower → Result Noted Lack → Result Log LogFault → Type 0
+Notes n f (Ok noted) (Ok (Log.Running g)) = IsNotedIn f.size noted × (g.size ≡ f.size) × TakesTold f.size.nodes (lines_of f) noted (Ok tt) (lines_of g)
+Notes n f (Ok noted) (Err (LogFault.Departs k why)) = (k ≡ n) × IsNotedIn f.size noted × (t : ℕ → State) × TakesTold f.size.nodes (lines_of f) noted (Err why) t
+Notes n f (Ok noted) (Err (LogFault.BadNumber k)) = (k ≡ n) × (IsNotedIn f.size noted → ⊥)
+Notes n f (Err lack) (Err (LogFault.BadLine k)) = k ≡ n
 Notes n f read r = ⊥
 
 -- a line behind the first: openings come before events
-abbrev pub Continues : ℕ → Follower → Option (ℕ × Line) → Option Noted → Result Log LogFault → Type 0
-Continues n f (Some o) noted r = Opens n f o r
-Continues n f None noted r = Notes n f noted r
+abbrev pub Continues : ℕ → Follower → Result (ℕ × Line) Lack → Result Noted Lack → Result Log LogFault → Type 0
+Continues n f (Ok o) noted r = Opens n f o r
+Continues n f (Err lack) noted r = Notes n f noted r
 
 -- line n that says something
 abbrev pub Reads : ℕ → List ℕ → Log → Result Log LogFault → Type 0

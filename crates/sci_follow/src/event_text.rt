@@ -1,220 +1,190 @@
 //! The event that a line of a log tells of, with what it asks for.
 
-ghost use Rattle.std.specs.Prelude.{◌≡◌, ◌<◌, IfSome};
-ghost use Rattle.sci_dump.specs.Reading.{Reads};
-ghost use Rattle.sci_follow.specs.LineText.{event_at, line_at, closed_link_at, closed_tag_at, link_at, node_at, on_other_at, other_tag_at, own_tag_at, queue_at, requeue_at, some_node_at, spaced_node_at, told_at, whole_event_at, written_at, written_words_at};
+ghost use Rattle.std.specs.Prelude.{◌≡◌};
+ghost use Rattle.sci_follow.specs.LineText.{Gives, bare_told_at, bracketed_link_at, link_at, long_told_at, maybe_words_at, new_words_at, other_told_at, own_told_at, queue_at, requeue_at, some_node_at, tag_told_at, told_at, whose_at, written_at};
 
 use crate::event_names::{bare_event, other_asks, own_asks};
+use crate::fields::{closed, count, label, space, values};
+use crate::parts::{Lack, Part};
 use crate::tag_text::asked;
-use crate::told::{Asks, Found, Told};
+use crate::told::{Asks, Told};
 use sci_core::Event;
-use sci_dump::fields::{behind, capped, values};
-use sci_words::{LineNo, NodeId};
-
-/// A node's number; one that no memory has stands for the last.
-#[tactic(auto, unfolding(crate::specs::LineText::node_at))]
-pub(crate) fn node(text: &[u8]) -> Option<(NodeId, &[u8])>
-    ensures { Reads (λ x. (x.0, x.1.now)) result (node_at text.now) }
-{
-    let (found, rest) = capped(65534, text)?;
-    Some((NodeId::new(found).unwrap(), rest))
-}
-
-/// A line's number, likewise.
-#[tactic(auto, unfolding(crate::specs::LineText::line_at))]
-pub(crate) fn line(text: &[u8]) -> Option<(LineNo, &[u8])>
-    ensures { Reads (λ x. (x.0, x.1.now)) result (line_at text.now) }
-{
-    capped(65535, text)
-}
+use sci_dump::fields::behind;
+use sci_words::NodeId;
 
 /// A node.
 #[tactic(auto, unfolding(crate::specs::LineText::some_node_at))]
-fn some_node(text: &[u8]) -> Option<(Option<NodeId>, &[u8])>
-    ensures { Reads (λ x. (x.0, x.1.now)) result (some_node_at text.now) }
+fn some_node(text: &[u8]) -> Result<(Option<NodeId>, &[u8]), Lack>
+    ensures { Gives (λ x. (x.0, x.1.now)) result (some_node_at text.now) }
 {
-    match node(text) {
-        Some((node, rest)) => Some((Some(node), rest)),
-        None => None,
-    }
+    let (node, rest) = count(Part::Link, 65534, text)?;
+    Ok((Some(NodeId::new(node).unwrap()), rest))
 }
 
 /// A link: a node, or `none`.
 #[tactic(auto, unfolding(crate::specs::LineText::link_at))]
-pub(crate) fn link(text: &[u8]) -> Option<(Option<NodeId>, &[u8])>
-    ensures { Reads (λ x. (x.0, x.1.now)) result (link_at text.now) }
+fn link(text: &[u8]) -> Result<(Option<NodeId>, &[u8]), Lack>
+    ensures { Gives (λ x. (x.0, x.1.now)) result (link_at text.now) }
 {
     if let Some(rest) = behind(b"none", text) {
-        return Some((None, rest));
+        return Ok((None, rest));
     }
     some_node(text)
 }
 
-/// A link, and the bracket behind it.
-#[tactic(auto, unfolding(crate::specs::LineText::closed_link_at))]
-fn closed_link(text: &[u8]) -> Option<(Option<NodeId>, &[u8])>
-    ensures { Reads (λ x. (x.0, x.1.now)) result (closed_link_at text.now) }
+/// `(LINK) `.
+#[tactic(auto, unfolding(crate::specs::LineText::bracketed_link_at))]
+fn bracketed_link(text: &[u8]) -> Result<(Option<NodeId>, &[u8]), Lack>
+    ensures { Gives (λ x. (x.0, x.1.now)) result (bracketed_link_at text.now) }
 {
+    let text = label(Part::Opened, b"(", text)?;
     match link(text) {
-        Some((link, rest)) => match behind(b") ", rest) {
-            Some(rest) => Some((link, rest)),
-            None => None,
-        },
-        None => None,
+        Ok((link, text)) => {
+            let rest = closed(text)?;
+            Ok((link, rest))
+        }
+        Err(lack) => Err(lack),
     }
 }
 
-/// `Queue(LINK)`.
-#[tactic(auto, unfolding(crate::specs::LineText::queue_at))]
-fn queue(text: &[u8]) -> Option<(Event, &[u8])>
-    ensures { Reads (λ x. (x.0, x.1.now)) result (queue_at text.now) }
-{
-    let text = behind(b"Queue(", text)?;
-    match closed_link(text) {
-        Some((link, rest)) => Some((Event::Queue(link), rest)),
-        None => None,
-    }
-}
-
-/// `Requeue(LINK)`.
-#[tactic(auto, unfolding(crate::specs::LineText::requeue_at))]
-fn requeue(text: &[u8]) -> Option<(Event, &[u8])>
-    ensures { Reads (λ x. (x.0, x.1.now)) result (requeue_at text.now) }
-{
-    let text = behind(b"Requeue(", text)?;
-    match closed_link(text) {
-        Some((link, rest)) => Some((Event::Requeue(link), rest)),
-        None => None,
-    }
-}
-
-/// `Written(words V V V V V V V V)`.
-#[tactic(auto, unfolding(crate::specs::LineText::written_words_at))]
-fn written_words(text: &[u8]) -> Option<(Event, &[u8])>
-    ensures { Reads (λ x. (x.0, x.1.now)) result (written_words_at text.now) }
-{
-    let text = behind(b"Written(words", text)?;
-    let (words, text) = values(text)?;
-    let rest = behind(b") ", text)?;
-    Some((Event::Written(Some(words)), rest))
-}
-
-/// The same, or `Written(none)`.
-#[tactic(auto, unfolding(crate::specs::LineText::written_at))]
-fn written(text: &[u8]) -> Option<(Event, &[u8])>
-    ensures { Reads (λ x. (x.0, x.1.now)) result (written_at text.now) }
-{
-    if let Some(rest) = behind(b"Written(none) ", text) {
-        return Some((Event::Written(None), rest));
-    }
-    written_words(text)
-}
-
-/// An event that asks for no tag.
-#[tactic(auto, unfolding(crate::specs::LineText::event_at))]
-fn event(text: &[u8]) -> Option<(Event, &[u8])>
-    ensures { Reads (λ x. (x.0, x.1.now)) result (event_at text.now) }
-{
-    if let Some(found) = bare_event(text) {
-        return Some(found);
-    }
-    if let Some(found) = queue(text) {
-        return Some(found);
-    }
-    if let Some(found) = written(text) {
-        return Some(found);
-    }
-    requeue(text)
-}
-
-/// The same, as it is told.
-#[tactic(auto, unfolding(crate::specs::LineText::whole_event_at))]
-fn whole_event(text: &[u8]) -> Option<(Told, &[u8])>
-    ensures { Reads (λ x. (x.0, x.1.now)) result (whole_event_at text.now) }
-{
-    match event(text) {
-        Some((event, rest)) => Some((Told::Event(event), rest)),
-        None => None,
-    }
-}
-
-/// The tag that is asked for, and the bracket behind it.
-#[tactic(auto, unfolding(crate::specs::LineText::closed_tag_at))]
-fn closed_tag(text: &[u8]) -> Option<(Found, &[u8])>
-    ensures { Reads (λ x. (x.0, x.1.now)) result (closed_tag_at text.now) }
+/// An event that asks for this tag, of that node or its own: `TAG) `.
+#[tactic(auto, unfolding(crate::specs::LineText::tag_told_at))]
+fn tag_told(asks: Asks, whose: Option<NodeId>, text: &[u8]) -> Result<(Told, &[u8]), Lack>
+    ensures { Gives (λ x. (x.0, x.1.now)) result (tag_told_at asks whose text.now) }
 {
     match asked(text) {
-        Some((found, rest)) => match behind(b") ", rest) {
-            Some(rest) => Some((found, rest)),
-            None => None,
-        },
-        None => None,
+        Some((found, rest)) => {
+            let rest = closed(rest)?;
+            Ok((Told::On { asks, whose, found }, rest))
+        }
+        None => Err(Lack::new(Part::Tag, text)),
     }
 }
 
-/// An event that asks for the own tag: `EVENT(TAG)`.
-#[tactic(auto, unfolding(crate::specs::LineText::own_tag_at))]
-fn own_tag(text: &[u8]) -> Option<(Told, &[u8])>
-    ensures { Reads (λ x. (x.0, x.1.now)) result (own_tag_at text.now) }
+/// Behind the name of an event that asks for nothing.
+#[tactic(auto, unfolding(crate::specs::LineText::bare_told_at))]
+fn bare_told(event: Event, text: &[u8]) -> Result<(Told, &[u8]), Lack>
+    ensures { Gives (λ x. (x.0, x.1.now)) result (bare_told_at event text.now) }
 {
-    let (asks, text) = own_asks(text)?;
-    let whose = None;
-    match closed_tag(text) {
-        Some((found, rest)) => Some((Told::On { asks, whose, found }, rest)),
-        None => None,
+    let rest = space(text)?;
+    Ok((Told::Event(event), rest))
+}
+
+/// Of one that asks for the own tag: `(TAG) `.
+#[tactic(auto, unfolding(crate::specs::LineText::own_told_at))]
+fn own_told(asks: Asks, text: &[u8]) -> Result<(Told, &[u8]), Lack>
+    ensures { Gives (λ x. (x.0, x.1.now)) result (own_told_at asks text.now) }
+{
+    let text = label(Part::Opened, b"(", text)?;
+    tag_told(asks, None, text)
+}
+
+/// The node whose tag is asked for, behind a bracket.
+#[tactic(auto, unfolding(crate::specs::LineText::whose_at))]
+fn whose(text: &[u8]) -> Result<(NodeId, &[u8]), Lack>
+    ensures { Gives (λ x. (x.0, x.1.now)) result (whose_at text.now) }
+{
+    let text = label(Part::Opened, b"(", text)?;
+    let (node, text) = count(Part::NodeNumber, 65534, text)?;
+    let rest = space(text)?;
+    Ok((NodeId::new(node).unwrap(), rest))
+}
+
+/// Of one that asks for another node's tag: `(N TAG) `.
+#[tactic(auto, unfolding(crate::specs::LineText::other_told_at))]
+fn other_told(asks: Asks, text: &[u8]) -> Result<(Told, &[u8]), Lack>
+    ensures { Gives (λ x. (x.0, x.1.now)) result (other_told_at asks text.now) }
+{
+    match whose(text) {
+        Ok((node, text)) => tag_told(asks, Some(node), text),
+        Err(lack) => Err(lack),
     }
 }
 
-/// A node's number, and a space.
-#[tactic(auto, unfolding(crate::specs::LineText::spaced_node_at))]
-fn spaced_node(text: &[u8]) -> Option<(NodeId, &[u8])>
-    ensures { Reads (λ x. (x.0, x.1.now)) result (spaced_node_at text.now) }
+/// Behind `Queue`: `(LINK) `.
+#[tactic(auto, unfolding(crate::specs::LineText::queue_at))]
+fn queue(text: &[u8]) -> Result<(Told, &[u8]), Lack>
+    ensures { Gives (λ x. (x.0, x.1.now)) result (queue_at text.now) }
 {
-    match node(text) {
-        Some((node, rest)) => match behind(b" ", rest) {
-            Some(rest) => Some((node, rest)),
-            None => None,
-        },
-        None => None,
+    match bracketed_link(text) {
+        Ok((link, rest)) => Ok((Told::Event(Event::Queue(link)), rest)),
+        Err(lack) => Err(lack),
     }
 }
 
-/// What an event that asks for another node's tag is told as: `N TAG)`.
-#[tactic(auto, unfolding(crate::specs::LineText::on_other_at))]
-fn on_other(asks: Asks, text: &[u8]) -> Option<(Told, &[u8])>
-    ensures { Reads (λ x. (x.0, x.1.now)) result (on_other_at asks text.now) }
+/// Behind `Requeue`, likewise.
+#[tactic(auto, unfolding(crate::specs::LineText::requeue_at))]
+fn requeue(text: &[u8]) -> Result<(Told, &[u8]), Lack>
+    ensures { Gives (λ x. (x.0, x.1.now)) result (requeue_at text.now) }
 {
-    match spaced_node(text) {
-        Some((node, rest)) => match closed_tag(rest) {
-            Some((found, rest)) => {
-                let whose = Some(node);
-                Some((Told::On { asks, whose, found }, rest))
-            }
-            None => None,
-        },
-        None => None,
+    match bracketed_link(text) {
+        Ok((link, rest)) => Ok((Told::Event(Event::Requeue(link)), rest)),
+        Err(lack) => Err(lack),
     }
 }
 
-/// An event that asks for another node's tag: `EVENT(N TAG)`.
-#[tactic(auto, unfolding(crate::specs::LineText::other_tag_at))]
-fn other_tag(text: &[u8]) -> Option<(Told, &[u8])>
-    ensures { Reads (λ x. (x.0, x.1.now)) result (other_tag_at text.now) }
+/// `words V V V V V V V V`.
+#[tactic(auto, unfolding(crate::specs::LineText::new_words_at))]
+fn new_words(text: &[u8]) -> Result<(Option<[u64; 8]>, &[u8]), Lack>
+    ensures { Gives (λ x. (x.0, x.1.now)) result (new_words_at text.now) }
 {
-    let (asks, text) = other_asks(text)?;
-    on_other(asks, text)
+    let text = label(Part::NoneOrWords, b"words", text)?;
+    let (words, rest) = values(text)?;
+    Ok((Some(words), rest))
+}
+
+/// The same, or `none`.
+#[tactic(auto, unfolding(crate::specs::LineText::maybe_words_at))]
+fn maybe_words(text: &[u8]) -> Result<(Option<[u64; 8]>, &[u8]), Lack>
+    ensures { Gives (λ x. (x.0, x.1.now)) result (maybe_words_at text.now) }
+{
+    if let Some(rest) = behind(b"none", text) {
+        return Ok((None, rest));
+    }
+    new_words(text)
+}
+
+/// Behind `Written`: `(none) `, or `(words V V V V V V V V) `.
+#[tactic(auto, unfolding(crate::specs::LineText::written_at))]
+fn written(text: &[u8]) -> Result<(Told, &[u8]), Lack>
+    ensures { Gives (λ x. (x.0, x.1.now)) result (written_at text.now) }
+{
+    let text = label(Part::Opened, b"(", text)?;
+    let (words, text) = maybe_words(text)?;
+    let rest = closed(text)?;
+    Ok((Told::Event(Event::Written(words)), rest))
+}
+
+/// An event that is told with its link or its words.
+#[tactic(auto, unfolding(crate::specs::LineText::long_told_at))]
+fn long_told(text: &[u8]) -> Result<(Told, &[u8]), Lack>
+    ensures { Gives (λ x. (x.0, x.1.now)) result (long_told_at text.now) }
+{
+    if let Some(rest) = behind(b"Queue", text) {
+        return queue(rest);
+    }
+    if let Some(rest) = behind(b"Written", text) {
+        return written(rest);
+    }
+    if let Some(rest) = behind(b"Requeue", text) {
+        return requeue(rest);
+    }
+    Err(Lack::new(Part::Event, text))
 }
 
 /// What an event is told as, and a space.
 #[tactic(auto, unfolding(crate::specs::LineText::told_at))]
-pub(crate) fn told_event(text: &[u8]) -> Option<(Told, &[u8])>
-    ensures { Reads (λ x. (x.0, x.1.now)) result (told_at text.now) }
+pub(crate) fn told_event(text: &[u8]) -> Result<(Told, &[u8]), Lack>
+    ensures { Gives (λ x. (x.0, x.1.now)) result (told_at text.now) }
 {
-    if let Some(found) = other_tag(text) {
-        return Some(found);
+    if let Some((event, rest)) = bare_event(text) {
+        return bare_told(event, rest);
     }
-    if let Some(found) = own_tag(text) {
-        return Some(found);
+    if let Some((asks, rest)) = own_asks(text) {
+        return own_told(asks, rest);
     }
-    whole_event(text)
+    if let Some((asks, rest)) = other_asks(text) {
+        return other_told(asks, rest);
+    }
+    long_told(text)
 }

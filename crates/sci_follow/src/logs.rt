@@ -1,6 +1,6 @@
 //! A log, line by line.
 
-ghost use Rattle.std.specs.Prelude.{◌≡◌, ◌↔◌, ◌≤◌, IsTrue, Some};
+ghost use Rattle.std.specs.Prelude.{◌≡◌, ◌↔◌, ◌≤◌, IsTrue, Ok};
 ghost use Rattle.sci_script.specs.Size.{IsSize};
 ghost use Rattle.sci_follow.specs.declared.logs.LogFault.TheVariants.{OutOfMemory};
 ghost use Rattle.sci_follow.specs.LineText.{memory_at, noted_at, opening_at};
@@ -67,7 +67,7 @@ fn is_size(size: Size) -> bool
 fn begin(alloc: Global, number: u64, line: &[u8]) -> Result<Log, LogFault>
     ensures { Begins number (memory_at line.now) result }
 {
-    let Some(size) = read_memory(line) else {
+    let Ok(size) = read_memory(line) else {
         return Err(LogFault::BadLine(number));
     };
     if !is_size(size) {
@@ -95,7 +95,7 @@ fn open_line(
 }
 
 /// Whether the nodes of what is told are there.
-pub(crate) fn is_told_in(nodes: u16, told: &Told) -> bool
+fn is_told_in(nodes: u16, told: &Told) -> bool
     ensures { result ≡ is_told_in nodes told.now }
 {
     match told {
@@ -116,7 +116,7 @@ fn is_in(size: Size, noted: &Noted) -> bool
 
 /// An event that was read.
 fn follow_noted(number: u64, mut follower: Follower, noted: &Noted) -> Result<Log, LogFault>
-    ensures { Notes number follower (Some noted.now) result }
+    ensures { Notes number follower (Ok noted.now) result }
 {
     if !is_in(follower.size(), noted) {
         return Err(LogFault::BadNumber(number));
@@ -132,8 +132,8 @@ fn follow_line(number: u64, follower: Follower, line: &[u8]) -> Result<Log, LogF
     ensures { Notes number follower (noted_at line.now) result }
 {
     match read_entry(line) {
-        Some(noted) => follow_noted(number, follower, &noted),
-        None => Err(LogFault::BadLine(number)),
+        Ok(noted) => follow_noted(number, follower, &noted),
+        Err(_) => Err(LogFault::BadLine(number)),
     }
 }
 
@@ -142,15 +142,15 @@ fn go_on(alloc: Global, number: u64, follower: Follower, line: &[u8]) -> Result<
     ensures { Continues number follower (opening_at line.now) (noted_at line.now) result }
 {
     match read_opening(line) {
-        Some((opened, content)) => open_line(alloc, number, follower, opened, content),
-        None => follow_line(number, follower, line),
+        Ok((opened, content)) => open_line(alloc, number, follower, opened, content),
+        Err(_) => follow_line(number, follower, line),
     }
 }
 
 impl Log {
-    /// The log with one line of text more, which has this number and no line feed. Refusals: 16 where it is no line of a log or
-    /// stands where it may not; 17 where it names a node or a line that isn't there; 7. Where no lawful line answers as it says,
-    /// Departs with its number and why.
+    /// The log with one line of text more, which has this number and no line feed. Refusals, with its number: 16, BadLine, where it is
+    /// no line of a log or stands where it may not; 17, BadNumber, where it is one, but of a node or a line that isn't there, or of
+    /// no memory of 1 to 1,024 nodes and lines; 7, OutOfMemory. Where no lawful line answers as it says, Departs with its number and why.
     pub fn feed(self, alloc: Global, number: u64, line: &[u8]) -> Result<Log, LogFault>
         ensures { Feeds number line.now self result }
     {

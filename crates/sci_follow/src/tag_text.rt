@@ -2,7 +2,7 @@
 
 ghost use Rattle.std.specs.Prelude.{◌≡◌, IfSome};
 ghost use Rattle.sci_dump.specs.Reading.{Reads};
-ghost use Rattle.sci_follow.specs.LineText.{exact_at, first_of, found_at, name_at, other_name_at, sample, settled_name_at, tag_of};
+ghost use Rattle.sci_follow.specs.Names.{exact_at, first_of, found_at, name_at, other_name_at, sample, settled_name_at, tag_of};
 
 use crate::told::Found;
 use sci_dump::fields::{behind, word};
@@ -22,7 +22,7 @@ fn sample(kind: Kind, is_followed: bool) -> Tag
 }
 
 /// The name of a settled tag, which tells whether an entry follows.
-#[tactic(auto, unfolding(crate::specs::LineText::settled_name_at))]
+#[tactic(auto, unfolding(crate::specs::Names::settled_name_at))]
 fn settled_name(text: &[u8]) -> Option<(Tag, &[u8])>
     ensures { Reads (λ x. (x.0, x.1.now)) result (settled_name_at text.now) }
 {
@@ -48,7 +48,7 @@ fn settled_name(text: &[u8]) -> Option<(Tag, &[u8])>
 }
 
 /// The name of another tag.
-#[tactic(auto, unfolding(crate::specs::LineText::other_name_at))]
+#[tactic(auto, unfolding(crate::specs::Names::other_name_at))]
 fn other_name(text: &[u8]) -> Option<(Tag, &[u8])>
     ensures { Reads (λ x. (x.0, x.1.now)) result (other_name_at text.now) }
 {
@@ -87,7 +87,7 @@ fn any_name(text: &[u8]) -> Option<(Tag, &[u8])>
 }
 
 /// A tag's name.
-#[tactic(auto, unfolding(crate::specs::LineText::name_at))]
+#[tactic(auto, unfolding(crate::specs::Names::name_at))]
 fn name(text: &[u8]) -> Option<(Found, &[u8])>
     ensures { Reads (λ x. (x.0, x.1.now)) result (name_at text.now) }
 {
@@ -109,7 +109,7 @@ fn tag(word: u64) -> Option<Tag>
 }
 
 /// A tag's code in 16 digits.
-#[tactic(auto, unfolding(crate::specs::LineText::exact_at))]
+#[tactic(auto, unfolding(crate::specs::Names::exact_at))]
 fn exact(text: &[u8]) -> Option<(Found, &[u8])>
     ensures { Reads (λ x. (x.0, x.1.now)) result (exact_at text.now) }
 {
@@ -121,7 +121,7 @@ fn exact(text: &[u8]) -> Option<(Found, &[u8])>
 }
 
 /// The tag that is asked for.
-#[tactic(auto, unfolding(crate::specs::LineText::found_at))]
+#[tactic(auto, unfolding(crate::specs::Names::found_at))]
 pub(crate) fn asked(text: &[u8]) -> Option<(Found, &[u8])>
     ensures { Reads (λ x. (x.0, x.1.now)) result (found_at text.now) }
 {

@@ -1,5 +1,7 @@
 //! Why a dump or a history is refused: of each text the line and the words, over both sides of each range.
 
+mod growths;
+
 use crate::checks::same_at;
 use sci_reasons::{RowFault, why_dump, why_history};
 use std::alloc::{AllocError, Global};
@@ -21,31 +23,37 @@ const DUMPS: &[(&str, &str)] = &[
     ("dump 2 2 1\n", "1: scidump 1 or 2 wanted"),
     ("scidump 2 2\n", "1: 4 words wanted, 3 found"),
     ("scidump 2 2  1\n", "1: 4 words wanted, 5 found"),
-    ("scidump 0 2 1\n", "1: word 2: a number from 1 to 2 wanted"),
-    ("scidump 3 2 1\n", "1: word 2: a number from 1 to 2 wanted"),
+    (
+        "scidump 0 2 1\n",
+        "1: word 2: a number from 1 to 2 wanted, 0 found",
+    ),
+    (
+        "scidump 3 2 1\n",
+        "1: word 2: a number from 1 to 2 wanted, 3 found",
+    ),
     (
         "scidump 1 65 1\n",
-        "1: word 3: a number from 1 to 64 wanted",
+        "1: word 3: a number from 1 to 64 wanted, 65 found",
     ),
     (
         "scidump 2 0 1\n",
-        "1: word 3: a number from 1 to 1024 wanted",
+        "1: word 3: a number from 1 to 1024 wanted, 0 found",
     ),
     (
         "scidump 2 1025 1\n",
-        "1: word 3: a number from 1 to 1024 wanted",
+        "1: word 3: a number from 1 to 1024 wanted, 1025 found",
     ),
     (
         "scidump 2 1024 0\n",
-        "1: word 4: a number from 1 to 1024 wanted",
+        "1: word 4: a number from 1 to 1024 wanted, 0 found",
     ),
     (
         "scidump 2 1024 1025\n",
-        "1: word 4: a number from 1 to 1024 wanted",
+        "1: word 4: a number from 1 to 1024 wanted, 1025 found",
     ),
     (
         "scidump 2 02 1\n",
-        "1: word 3: a number from 1 to 1024 wanted",
+        "1: word 3: a number from 1 to 1024 wanted, 02 found",
     ),
     ("scidump 2 2 1", "1: a line feed wanted at its end"),
     ("scidump 2 2 1\n", "2: an early end: line 0 wanted"),
@@ -53,7 +61,7 @@ const DUMPS: &[(&str, &str)] = &[
     ("scidump 2 2 1\nend\n", "2: line 0 wanted"),
     (
         "scidump 2 2 1\nline 1 0000000000020001 0 0 0 0 0 0 0 0 0\n",
-        "2: word 2: 0 wanted",
+        "2: word 2: 0 wanted, 1 found",
     ),
     (
         "scidump 2 2 1\nline 0 000000000000000 0 0 0 0 0 0 0 0 0\n",
@@ -65,15 +73,15 @@ const DUMPS: &[(&str, &str)] = &[
     ),
     (
         "scidump 2 2 1\nline 0 ffffffffffffffff 0 0 0 0 0 0 0 0 0\n",
-        "2: word 3: a memory word of the layout wanted",
+        "2: word 3: a memory word of the layout wanted, ffffffffffffffff found",
     ),
     (
         "scidump 2 2 1\nline 0 0000000000020001 18446744073709551616 0 0 0 0 0 0 0 0\n",
-        "2: word 4: a number from 0 to 18446744073709551615 wanted",
+        "2: word 4: a number from 0 to 18446744073709551615 wanted, 18446744073709551616 found",
     ),
     (
         "scidump 2 2 1\nline 0 0000000000020001 0 0 0 0 0 0 0 0 x\n",
-        "2: word 12: a number from 0 to 18446744073709551615 wanted",
+        "2: word 12: a number from 0 to 18446744073709551615 wanted, x found",
     ),
     (
         "scidump 2 2 1\nline 0 0000000000020001 0 0 0 0 0 0 0 0\n",
@@ -97,19 +105,19 @@ const DUMPS: &[(&str, &str)] = &[
     ),
     (
         "scidump 2 3 1\nline 0 0000000000020001 0 0 0 0 0 0 0 0 0\ntag 0 3 00000001ffff0007 0 0 0 0 0 0 0 0 0\n",
-        "3: word 3: a number from 0 to 2 wanted",
+        "3: word 3: a number from 0 to 2 wanted, 3 found",
     ),
     (
         "scidump 2 3 1\nline 0 0000000000020001 0 0 0 0 0 0 0 0 0\ntag 0 1 00000001ffff0007 0 0 0 0 0 0 0 0 0\ntag 0 1 0000000200000007 0 0 0 0 0 0 0 0 0\n",
-        "4: word 3: 2 wanted",
+        "4: word 3: 2 wanted, 1 found",
     ),
     (
         "scidump 2 3 1\nline 0 0000000000020001 0 0 0 0 0 0 0 0 0\ntag 1 0 00000001ffff0007 0 0 0 0 0 0 0 0 0\n",
-        "3: word 2: 0 wanted",
+        "3: word 2: 0 wanted, 1 found",
     ),
     (
         "scidump 2 3 1\nline 0 0000000000020001 0 0 0 0 0 0 0 0 0\ntag 0 0 0000000000000000 0 0 0 0 0 0 0 0 0\n",
-        "3: word 4: a tag of the layout wanted, and no Invalid one",
+        "3: word 4: a tag of the layout that isn't Invalid wanted, 0000000000000000 found",
     ),
     (
         "scidump 2 2 1\nline 0 0000000000020001 0 0 0 0 0 0 0 0 0\ntag 0 0 00000001ffff0007 0 0 0 0 0 0 0 0 0\ntag 0 1 0000ffff00000002 0 0 0 0 0 0 0 0 0\ntag 0 2\n",
@@ -128,26 +136,38 @@ const DUMPS: &[(&str, &str)] = &[
         "4: nothing wanted behind end",
     ),
     (
+        "scidump 2 2 1\nline 0 0000000000020001 0 0 0 0 0 0 0 0 0\nend 1\n",
+        "3: 1 word wanted, 2 found",
+    ),
+    (
+        "scidump 2  1\n",
+        "1: word 3: a number from 1 to 1024 wanted, nothing found",
+    ),
+    (
+        "scidump 2 2 100000000000000000000\n",
+        "1: word 4: a number from 1 to 1024 wanted, 21 bytes found",
+    ),
+    (
         "scidump 2 2 1\r\nline 0 0000000000020001 0 0 0 0 0 0 0 0 0\nend\n",
-        "1: word 4: a number from 1 to 1024 wanted",
+        "1: word 4: a number from 1 to 1024 wanted, 1\\r found",
     ),
 ];
 
 const HISTORIES: &[(&str, &str)] = &[
     ("", "1: an early end: scihistory 1 wanted"),
     ("scidump 2 1 1\n", "1: scihistory 1 wanted"),
-    ("scihistory 2 1 1\n", "1: word 2: 1 wanted"),
+    ("scihistory 2 1 1\n", "1: word 2: 1 wanted, 2 found"),
     (
         "scihistory 1 0 1\n",
-        "1: word 3: a number from 1 to 1024 wanted",
+        "1: word 3: a number from 1 to 1024 wanted, 0 found",
     ),
     (
         "scihistory 1 1025 1\n",
-        "1: word 3: a number from 1 to 1024 wanted",
+        "1: word 3: a number from 1 to 1024 wanted, 1025 found",
     ),
     (
         "scihistory 1 1 1025\n",
-        "1: word 4: a number from 1 to 1024 wanted",
+        "1: word 4: a number from 1 to 1024 wanted, 1025 found",
     ),
     ("scihistory 1 1 1\nclosed 0\n", "2: line 0 wanted"),
     (
@@ -160,7 +180,7 @@ const HISTORIES: &[(&str, &str)] = &[
     ),
     (
         "scihistory 1 1 1\nline 0 0 0 0 0 0 0 0 0 0\nclosed 1 0 0 0 0 0 0 0 0 0\n",
-        "3: word 2: 0 wanted",
+        "3: word 2: 0 wanted, 1 found",
     ),
     (
         "scihistory 1 1 2\nline 0 0 0 0 0 0 0 0 0 0\nclosed 0 0 0 0 0 0 0 0 0 0\nend\n",
@@ -172,11 +192,11 @@ const HISTORIES: &[(&str, &str)] = &[
     ),
     (
         "scihistory 1 2 1\nline 0 0 0 0 0 0 0 0 0 0\nclosed 0 0 0 0 0 0 0 0 0 0\nread 1 0 0 0 0 0 0 0 0 0\nread 2 0 0 0 0 0 0 0 0 0\n",
-        "5: word 2: 1 wanted",
+        "5: word 2: 1 wanted, 2 found",
     ),
     (
         "scihistory 1 2 1\nline 0 0 0 0 0 0 0 0 0 0\nclosed 0 0 0 0 0 0 0 0 0 0\nread 1 0 0 0 0 0 0 0 0 0\npassed 0 0 0 0 0 0 0 0 0 0\n",
-        "5: word 2: 1 wanted",
+        "5: word 2: 1 wanted, 0 found",
     ),
     (
         "scihistory 1 2 1\nline 0 0 0 0 0 0 0 0 0 0\nclosed 0 1 0 0 0 0 0 0 0 0\nwrote 0 1 0 0 0 0 0 0 0 0\n",
@@ -184,11 +204,11 @@ const HISTORIES: &[(&str, &str)] = &[
     ),
     (
         "scihistory 1 2 1\nline 0 0 0 0 0 0 0 0 0 0\nclosed 0 1 0 0 0 0 0 0 0 0\nwrote 0 1 0 0 0 0 0 0 0 0 under 0 0 0 0 0 0 0 0\n",
-        "4: word 12: over wanted",
+        "4: word 12: over wanted, under found",
     ),
     (
         "scihistory 1 2 1\nline 0 0 0 0 0 0 0 0 0 0\nclosed 0 1 0 0 0 0 0 0 0 0\nwrote 0 1 0 0 0 0 0 0 0 0 over 0 0 0 0 0 0 0 -1\n",
-        "4: word 20: a number from 0 to 18446744073709551615 wanted",
+        "4: word 20: a number from 0 to 18446744073709551615 wanted, -1 found",
     ),
     (
         "scihistory 1 2 1\nline 0 0 0 0 0 0 0 0 0 0\nclosed 0 1 0 0 0 0 0 0 0 0\nwrote 1 1 0 0 0 0 0 0 0 0 over 0 0 0 0 0 0 0 0\nend\n",

@@ -6,6 +6,6 @@ mod reasons;
 mod rows;
 mod why;
 
-pub use places::{Due, Format, Stage};
-pub use reasons::{RowFault, RowReason};
+pub use places::{Due, HistoryPlace, Stage};
+pub use reasons::RowFault;
 pub use why::{why_dump, why_history, why_row};

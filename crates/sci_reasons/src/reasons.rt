@@ -1,53 +1,110 @@
 //! Why a line of text is refused, in words.
 
 use crate::places::Due;
-use thiserror::Error;
+use crate::rows::Field;
+use sci_dump::ROW_LIMIT;
+use std::ascii::escape_default;
+use std::fmt;
 
-/// A line of text that is refused, counted from 1, and why.
-#[derive(Clone, Copy, Debug, PartialEq, Eq, Drop, Error)]
-#[error("{reason}")]
+/// A line of text that is refused where these lines are due. It is shown as why that is.
+#[derive(Debug, PartialEq, Eq, Drop)]
 pub struct RowFault {
+    /// Which it is, counted from 1.
     pub line: u64,
-    pub reason: RowReason,
+    /// Its bytes, through its line feed; of a longer line the first 1,024; none at the end of the text.
+    pub text: Vec<u8>,
+    pub due: Due,
 }
 
 /// Why a line of text is refused. A word of it is counted from 1.
-#[derive(Clone, Copy, Debug, PartialEq, Eq, Drop, Error)]
-pub enum RowReason {
-    /// The text ends, and one of these lines is due.
-    #[error("an early end: {0} wanted")]
-    End(Due),
+#[derive(Clone, Copy, Drop)]
+pub enum RowReason<'a> {
+    /// The text ends.
+    End,
     /// It begins otherwise than the lines that are due.
-    #[error("{0} wanted")]
-    Other(Due),
+    Other,
     /// It stands behind `end`.
-    #[error("nothing wanted behind end")]
     Behind,
     /// It is longer than any row.
-    #[error("fewer than 1024 bytes wanted")]
     Long,
     /// No line feed ends it.
-    #[error("a line feed wanted at its end")]
     Cut,
     /// How many words the line has, its name among them, and how many stand there.
-    #[error("{wanted} words wanted, {found} found")]
-    Words { wanted: usize, found: usize },
-    /// This word is no number from `low` to `high`, or not spelled as one.
-    #[error("word {word}: a number from {low} to {high} wanted")]
-    Number { word: usize, low: u64, high: u64 },
-    /// This word is another than the one number that may stand there.
-    #[error("word {word}: {wanted} wanted")]
-    Another { word: usize, wanted: u64 },
-    /// This word isn't 16 digits.
-    #[error("word {word}: 16 hexadecimal digits in lower case wanted, {found} bytes found")]
-    Digits { word: usize, found: usize },
-    /// The digits of this word are no code of a memory word.
-    #[error("word {0}: a memory word of the layout wanted")]
-    Memory(usize),
-    /// The digits of this word are no code of a tag, or of an Invalid one.
-    #[error("word {0}: a tag of the layout wanted, and no Invalid one")]
-    Tag(usize),
-    /// This word is another than `over`.
-    #[error("word {0}: over wanted")]
-    Over(usize),
+    Words {
+        wanted: usize,
+        found: usize,
+    },
+    /// This word isn't what is wanted.
+    Word {
+        place: usize,
+        wanted: Field,
+        found: &'a [u8],
+    },
+    /// This word isn't 16 digits, but so many bytes.
+    Digits {
+        place: usize,
+        found: usize,
+    },
+}
+
+impl RowFault {
+    fn reason(&self) -> RowReason<'_> {
+        if self.due.is_done() {
+            return RowReason::Behind;
+        }
+        let text = match self.text.as_slice() {
+            [] => return RowReason::End,
+            [text @ .., b'\n'] => text,
+            text => text,
+        };
+        match self.due.row(text) {
+            // of a longer line only a front is there
+            Some(_) if text.len() >= ROW_LIMIT => RowReason::Long,
+            Some(row) => row.fault(text).unwrap_or(RowReason::Cut),
+            None => RowReason::Other,
+        }
+    }
+}
+
+/// The word that was found, with escapes for what can't be printed; of one that is longer than a number can be, how many bytes it has.
+fn write_found<W: fmt::Write>(f: &mut fmt::Formatter<W>, word: &[u8]) -> fmt::Result {
+    match word.len() {
+        0 => return f.write_str("nothing found"),
+        1..=20 => {}
+        length => return write!(f, "{length} bytes found"),
+    }
+    for byte in word {
+        let shown = escape_default(*byte);
+        write!(f, "{shown}")?;
+    }
+    f.write_str(" found")
+}
+
+impl fmt::Display for RowFault {
+    fn fmt<W: fmt::Write>(&self, f: &mut fmt::Formatter<W>) -> fmt::Result {
+        let due = self.due;
+        match self.reason() {
+            RowReason::End => write!(f, "an early end: {due} wanted"),
+            RowReason::Other => write!(f, "{due} wanted"),
+            RowReason::Behind => f.write_str("nothing wanted behind end"),
+            RowReason::Long => f.write_str("fewer than 1024 bytes wanted"),
+            RowReason::Cut => f.write_str("a line feed wanted at its end"),
+            RowReason::Words { wanted: 1, found } => write!(f, "1 word wanted, {found} found"),
+            RowReason::Words { wanted, found } => write!(f, "{wanted} words wanted, {found} found"),
+            RowReason::Word {
+                place,
+                wanted,
+                found,
+            } => {
+                write!(f, "word {place}: {wanted} wanted, ")?;
+                write_found(f, found)
+            }
+            RowReason::Digits { place, found } => {
+                write!(
+                    f,
+                    "word {place}: 16 hexadecimal digits in lower case wanted, {found} bytes found"
+                )
+            }
+        }
+    }
 }

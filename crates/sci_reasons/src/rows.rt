@@ -3,6 +3,7 @@
 use crate::reasons::RowReason;
 use sci_dump::fields::{number, word};
 use sci_words::{Kind, Layout, layout1, read_mem, read_tag};
+use std::fmt;
 
 /// The words of a line of text: its name is the first.
 fn word_of(text: &[u8], place: usize) -> Option<&[u8]> {
@@ -25,6 +26,14 @@ fn number_of(word: &[u8]) -> Option<u64> {
 /// The number that the word at this place is.
 pub fn number_in(text: &[u8], place: usize) -> Option<u64> {
     number_of(word_of(text, place)?)
+}
+
+/// The layout that the first line of a dump tells.
+pub fn layout_in(text: &[u8]) -> Layout {
+    match number_in(text, 1) {
+        Some(1) => Layout::One,
+        _ => Layout::Two,
+    }
 }
 
 /// A line of text.
@@ -61,7 +70,7 @@ pub enum Row {
 
 /// What is wanted as a word.
 #[derive(Clone, Copy, Drop)]
-enum Field {
+pub enum Field {
     /// The name of the line.
     Name,
     /// A number from the first to the second.
@@ -118,15 +127,16 @@ impl Row {
     }
 
     /// Why a line of text isn't this one, if it isn't.
-    pub(crate) fn fault(self, text: &[u8]) -> Option<RowReason> {
+    pub(crate) fn fault(self, text: &[u8]) -> Option<RowReason<'_>> {
         let (wanted, found) = (self.words(), text.split(|byte| *byte == b' ').count());
         if wanted != found {
             return Some(RowReason::Words { wanted, found });
         }
         for place in 0..wanted {
             let word = word_of(text, place).unwrap_or(b"");
-            if let Some(reason) = self.field(place).fault(place + 1, word) {
-                return Some(reason);
+            let field = self.field(place);
+            if !field.takes(word) {
+                return Some(field.fault(place + 1, word));
             }
         }
         None
@@ -153,44 +163,53 @@ fn is_tag(layout: Layout, code: u64) -> bool {
     }
 }
 
-/// The word isn't from low to high.
-fn out_of(word: usize, low: u64, high: u64) -> RowReason {
-    if low == high {
-        RowReason::Another { word, wanted: low }
-    } else {
-        RowReason::Number { word, low, high }
+/// The code that a word is.
+fn code_of(found: &[u8]) -> Option<u64> {
+    match word(found) {
+        Some((code, [])) => Some(code),
+        _ => None,
     }
 }
 
 impl Field {
-    /// Why these digits are no code of what is wanted.
-    fn code_fault(self, place: usize, code: u64) -> Option<RowReason> {
+    /// Whether this word is what is wanted.
+    fn takes(self, found: &[u8]) -> bool {
         match self {
-            Field::Memory(layout) if !is_memory(layout, code) => Some(RowReason::Memory(place)),
-            Field::Tag(layout) if !is_tag(layout, code) => Some(RowReason::Tag(place)),
-            _ => None,
+            Field::Name => true,
+            Field::Number(low, high) => {
+                number_of(found).is_some_and(|value| low <= value && value <= high)
+            }
+            Field::Memory(layout) => code_of(found).is_some_and(|code| is_memory(layout, code)),
+            Field::Tag(layout) => code_of(found).is_some_and(|code| is_tag(layout, code)),
+            Field::Over => found == b"over".as_slice(),
         }
     }
 
-    /// Why this word, which is counted so, isn't what is wanted, if it isn't.
-    fn fault(self, place: usize, found: &[u8]) -> Option<RowReason> {
+    /// Why this word, which is counted so, isn't what is wanted.
+    fn fault(self, place: usize, found: &[u8]) -> RowReason<'_> {
         match self {
-            Field::Name => None,
-            Field::Over => match found {
-                b"over" => None,
-                _ => Some(RowReason::Over(place)),
+            Field::Memory(_) | Field::Tag(_) if code_of(found).is_none() => RowReason::Digits {
+                place,
+                found: found.len(),
             },
-            Field::Number(low, high) => match number_of(found) {
-                Some(value) if low <= value && value <= high => None,
-                _ => Some(out_of(place, low, high)),
+            wanted => RowReason::Word {
+                place,
+                wanted,
+                found,
             },
-            Field::Memory(_) | Field::Tag(_) => match word(found) {
-                Some((code, [])) => self.code_fault(place, code),
-                _ => Some(RowReason::Digits {
-                    word: place,
-                    found: found.len(),
-                }),
-            },
+        }
+    }
+}
+
+impl fmt::Display for Field {
+    fn fmt<W: fmt::Write>(&self, f: &mut fmt::Formatter<W>) -> fmt::Result {
+        match *self {
+            Field::Name => f.write_str("a name"),
+            Field::Number(low, high) if low == high => write!(f, "{low}"),
+            Field::Number(low, high) => write!(f, "a number from {low} to {high}"),
+            Field::Memory(_) => f.write_str("a memory word of the layout"),
+            Field::Tag(_) => f.write_str("a tag of the layout that isn't Invalid"),
+            Field::Over => f.write_str("over"),
         }
     }
 }

@@ -1,74 +1,70 @@
 //! Why a text is refused, at the line that its reader refuses.
 
-ghost use Rattle.std.specs.Prelude.{◌≡◌, IfOk};
-ghost use Rattle.sci_dump.specs.Reading.{dump_of};
+ghost use Rattle.std.specs.Prelude.{◌≡◌, List, IfOk, IfErr, OnOk};
+ghost use Rattle.sci_core.specs.Closed.{ClosedLine};
+ghost use Rattle.sci_dump.specs.Streams.{StopsBehind};
 ghost use Rattle.sci_histories.specs.Reading.{history_of};
-ghost use Rattle.sci_reasons.specs.Reasons.{IsWhy};
+ghost use Rattle.sci_reasons.specs.Reasons.{fault_of, IsDump, IsWhy, IsWhyDump};
 
-use crate::places::{Due, Format, Stage};
-use crate::reasons::{RowFault, RowReason};
-use sci_dump::{DumpRefusal, DumpRow, ROW_LIMIT, read_dump};
+use crate::places::{Due, HistoryPlace};
+use crate::reasons::RowFault;
+use sci_dump::{DumpRefusal, DumpRow, DumpStream, ROW_LIMIT, StreamFault};
 use sci_histories::read_history;
 use std::alloc::{AllocError, Global};
 
-/// Why a line of text is refused where these are due; whether a line feed ends it.
-fn fault(due: Due, text: &[u8], is_ended: bool) -> RowReason {
-    if due.stage == Stage::Done {
-        return RowReason::Behind;
+/// Reads a text as a dump, to its end or the row at fault.
+fn read_through(alloc: Global, text: &[u8]) -> Result<(), StreamFault>
+    ensures ok { OnOk result (IsDump text.now) }
+    ensures err { IfErr result (λ e. (lines : List ClosedLine) × StopsBehind e text.now lines) }
+{
+    let mut reader = text;
+    let mut stream = DumpStream::open(alloc, &mut reader)?;
+    for _ in 0..stream.count() {
+        let (_, next) = stream.next(alloc, &mut reader)?;
+        stream = next;
     }
-    if text.is_empty() && !is_ended {
-        return RowReason::End(due);
-    }
-    match due.row(text) {
-        // of a longer line only a front may be there
-        Some(_) if due.format == Format::Dump && text.len() >= ROW_LIMIT => RowReason::Long,
-        Some(row) => row.fault(text).unwrap_or(RowReason::Cut),
-        None => RowReason::Other(due),
-    }
-}
-
-/// Why a text of this format is refused at this line, in front of which it is none.
-fn why_line(format: Format, text: &[u8], line: u64) -> RowReason {
-    let feeds = text.iter().filter(|byte| **byte == b'\n').count();
-    let mut due = Due::new(format);
-    let mut number = 0u64;
-    for row in text.split(|byte| *byte == b'\n') {
-        number = number.saturating_add(1);
-        if number == line {
-            return fault(due, row, number <= feeds as u64);
-        }
-        due = due.behind(row);
-    }
-    RowReason::End(due)
+    stream.end(&mut reader)
 }
 
 /// Why a line of text is refused where it stands in a dump, in words.
-pub fn why_row(row: &DumpRow) -> RowFault
-    ensures { result.line ≡ row.now.number }
+pub fn why_row(row: DumpRow) -> RowFault
+    ensures { result ≡ fault_of row }
 {
-    let due = Due::at(row.place);
-    let reason = match row.text.as_slice() {
-        [text @ .., b'\n'] => fault(due, text, true),
-        text => fault(due, text, false),
-    };
     RowFault {
         line: row.number,
-        reason,
+        text: row.text,
+        due: Due::Dump(row.place),
     }
 }
 
-/// Why a text is refused as a dump, in words. None where it isn't refused 21; else of the line of that refusal. Refusal 7 alone.
+/// Why a text is refused as a dump, in words. None where it isn't refused 21; else of the row at fault. Refusal 7 alone.
 pub fn why_dump(alloc: Global, text: &[u8]) -> Result<Option<RowFault>, AllocError>
-    ensures { IfOk result (IsWhy (dump_of text.now)) }
+    ensures { IfOk result (IsWhyDump text.now) }
 {
-    match read_dump(alloc, text) {
-        Ok(_) => Ok(None),
-        Err(DumpRefusal::OutOfMemory) => Err(AllocError),
-        Err(DumpRefusal::DumpFault(line)) => {
-            let reason = why_line(Format::Dump, text, line);
-            Ok(Some(RowFault { line, reason }))
-        }
+    match read_through(alloc, text) {
+        Ok(()) => Ok(None),
+        Err(StreamFault::DumpFault(row)) => Ok(Some(why_row(row))),
+        // bytes at hand are always read
+        Err(StreamFault::OutOfMemory | StreamFault::CannotRead) => Err(AllocError),
     }
+}
+
+/// Why a text is refused as a history at this line, in front of which it is none.
+fn why_line(alloc: Global, text: &[u8], line: u64) -> Result<RowFault, AllocError>
+    ensures { IfOk result (λ fault. fault.line ≡ line) }
+{
+    let mut place = HistoryPlace::new();
+    let mut rest = text;
+    for _ in 1..line {
+        let row = rest.split(|byte| *byte == b'\n').next().unwrap_or(b"");
+        place = place.behind(row);
+        rest = &rest[rest.len().min(row.len().saturating_add(1))..];
+    }
+    let row = rest.split(|byte| *byte == b'\n').next().unwrap_or(b"");
+    let count = rest.len().min(row.len().saturating_add(1)).min(ROW_LIMIT);
+    let text = rest[..count].to_vec(alloc)?;
+    let due = Due::History(place);
+    Ok(RowFault { line, text, due })
 }
 
 /// Why a text is refused as a history, in words. None where it isn't refused 21; else of the line of that refusal. Refusal 7 alone.
@@ -78,9 +74,6 @@ pub fn why_history(alloc: Global, text: &[u8]) -> Result<Option<RowFault>, Alloc
     match read_history(alloc, text) {
         Ok(_) => Ok(None),
         Err(DumpRefusal::OutOfMemory) => Err(AllocError),
-        Err(DumpRefusal::DumpFault(line)) => {
-            let reason = why_line(Format::History, text, line);
-            Ok(Some(RowFault { line, reason }))
-        }
+        Err(DumpRefusal::DumpFault(line)) => Ok(Some(why_line(alloc, text, line)?)),
     }
 }

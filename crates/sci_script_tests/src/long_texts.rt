@@ -77,3 +77,13 @@ fn a_long_text_arrives(rt: HostRuntime) -> Result<(), Fail> {
     }
     check_on_all(&rt, rt.alloc(), &"a long text", &script, None, &text)
 }
+
+/// As many bytes as a page of the longest script has in one piece, and more.
+#[test]
+fn a_long_piece_arrives(rt: HostRuntime) -> Result<(), Fail> {
+    let piece = vec![in rt.alloc(); b'#'; 1_100_000]?;
+    let mut out = Vec::new(rt.alloc());
+    assert!(rt; put(&mut out, &piece).is_ok());
+    assert!(rt; out.as_slice() == piece.as_slice());
+    Ok(())
+}

@@ -11,7 +11,7 @@ use Rattle.sci_core.specs.State.{State, opened}
 use Rattle.sci_core.specs.Whole.{WholeLine, state_of, opened_whole}
 use Rattle.sci_core.specs.declared.keeps.AnyWords.{AnyWords}
 use Rattle.sci_core.proofs.States.{opened_state}
-use Rattle.sci_dump.specs.Reading.{◌>>=◌, behind}
+use Rattle.sci_dump.specs.Reading.{behind}
 use Rattle.sci_dump.specs.ReadBack.{IsContent}
 use Rattle.sci_script.specs.declared.commands.Opening.{Opening}
 use Rattle.sci_script.specs.declared.commands.Size.{Size}
@@ -23,8 +23,10 @@ use Rattle.sci_follow.specs.declared.entries.Deviation.{Deviation}
 use Rattle.sci_follow.specs.declared.lines.Follower.{Follower}
 use Rattle.sci_follow.specs.declared.logs.Log.{Log}
 use Rattle.sci_follow.specs.declared.logs.LogFault.{LogFault}
+use Rattle.sci_follow.specs.declared.parts.Lack.{Lack}
+use Rattle.sci_follow.specs.declared.parts.Part.{Part}
 use Rattle.sci_follow.specs.declared.told.Noted.{Noted}
-use Rattle.sci_follow.specs.LineText.{acting_at, memory_at, noted_at, opening_at}
+use Rattle.sci_follow.specs.LineText.{◌>>=◌, acting_at, label_at, lack, memory_at, noted_at, numbered_at, opening_at, size_part, wants, word_and_space_at}
 use Rattle.sci_follow.specs.Logs.{Begins, Continues, Ends, Feeds, FeedsBy, Notes, Opens, Reads}
 use Rattle.sci_follow.specs.Steps.{AreUnused, Reopens, lines_of, unused, whole_at}
 use Rattle.sci_follow.specs.Streams.{Cuts, FaultsWith, FeedsTo, FollowsAll, Reaches, StopsWith, without_end}
@@ -38,9 +40,13 @@ use Rattle.sci_serve.proofs.OwnLines.{first_through, rest_through, whole_line}
 
 -- ---- what a line that was read begins with
 
-some_of : {A B : Type 0} (r : Option A) (f : A → Option B) (y : B) → (r >>= f) ≡ Some y → (x : A) × (r ≡ Some x)
-some_of (Some x) f y h = (x, refl)
-some_of None f y h = absurd (let e = h in cc)
+ok_of : {A B : Type 0} (r : Result A Lack) (f : A → Result B Lack) (y : B) → (r >>= f) ≡ Ok y → (x : A) × (r ≡ Ok x)
+ok_of (Ok x) f y h = (x, refl)
+ok_of (Err e) f y h = absurd (let e = h in cc)
+
+some_of : {A : Type 0} (part : Part) (text : List ℕ) (read : Option A) (x : A) → wants part text read ≡ Ok x → (y : A) × (read ≡ Some y)
+some_of part text (Some y) x h = (y, refl)
+some_of part text None x h = absurd (let e = h in cc)
 
 if_none : {A : Type 0} (b : Bool) (x : A) → b ≡ false → ◌≡◌ {A = Option A} (if b then Some x else None) None
 if_none b x h = rw h refl
@@ -55,35 +61,43 @@ front_of front text rest h = elim (cases_Bool (bytes_eq (take (length front) tex
   | inr other ↦ absurd (let e = sym (if_none (bytes_eq (take (length front) text) front) (drop (length front) text) other) ∙ h in cc)
 ]
 
-noted_front : (text : List ℕ) (r : Noted) → noted_at text ≡ Some r → (more : List ℕ) × (text ≡ codes "node " ++ more)
-unfolding noted_at acting_at
-noted_front text r h =
-    let (node, acts) = some_of (acting_at text) _ r h in
-    let (rest, begins) = some_of (behind (codes "node ") text) _ node acts in front_of (codes "node ") text rest begins
+word_front : (part : Part) (bytes text place : List ℕ) → word_and_space_at part bytes text ≡ Ok place → (more : List ℕ) × (text ≡ bytes ++ more)
+unfolding word_and_space_at label_at
+word_front part bytes text place h =
+    let (rest, is) = ok_of (label_at part bytes text) _ place h in
+    let (front, begins) = some_of part text (behind bytes text) rest is in front_of bytes text front begins
 
-opening_front : (text : List ℕ) (o : ℕ × Line) → opening_at text ≡ Some o → (more : List ℕ) × (text ≡ codes "open " ++ more)
+numbered_front : (first : Part) (bytes : List ℕ) (part : Part) (most : ℕ) (text : List ℕ) (x : ℕ × List ℕ) → numbered_at first bytes part most text ≡ Ok x → (more : List ℕ) × (text ≡ bytes ++ more)
+unfolding numbered_at
+numbered_front first bytes part most text x h = let (place, is) = ok_of (word_and_space_at first bytes text) _ x h in word_front first bytes text place is
+
+noted_front : (text : List ℕ) (r : Noted) → noted_at text ≡ Ok r → (more : List ℕ) × (text ≡ codes "node" ++ more)
+unfolding noted_at
+noted_front text r h = let (node, acts) = ok_of (acting_at text) _ r h in numbered_front Part.Node (codes "node") Part.NodeNumber 65534 text node acts
+
+opening_front : (text : List ℕ) (o : ℕ × Line) → opening_at text ≡ Ok o → (more : List ℕ) × (text ≡ codes "open" ++ more)
 unfolding opening_at
-opening_front text o h = let (rest, begins) = some_of (behind (codes "open ") text) _ o h in front_of (codes "open ") text rest begins
+opening_front text o h = let (rest, begins) = ok_of (word_and_space_at Part.Open (codes "open") text) _ o h in word_front Part.Open (codes "open") text rest begins
 
-memory_front : (text : List ℕ) (size : Size) → memory_at text ≡ Some size → (more : List ℕ) × (text ≡ codes "memory " ++ more)
+memory_front : (text : List ℕ) (size : Size) → memory_at text ≡ Ok size → (more : List ℕ) × (text ≡ codes "memory" ++ more)
 unfolding memory_at
-memory_front text size h = let (rest, begins) = some_of (behind (codes "memory ") text) _ size h in front_of (codes "memory ") text rest begins
+memory_front text size h = let (nodes, begins) = ok_of (numbered_at Part.Memory (codes "memory") size_part 65535 text) _ size h in numbered_front Part.Memory (codes "memory") size_part 65535 text nodes begins
 
-noted_says : (text : List ℕ) (r : Noted) → noted_at text ≡ Some r → is_skipped text ≡ false
+noted_says : (text : List ℕ) (r : Noted) → noted_at text ≡ Ok r → is_skipped text ≡ false
 noted_says text r h = let (more, is) = noted_front text r h in ap is_skipped is
 
-opening_says : (text : List ℕ) (o : ℕ × Line) → opening_at text ≡ Some o → is_skipped text ≡ false
+opening_says : (text : List ℕ) (o : ℕ × Line) → opening_at text ≡ Ok o → is_skipped text ≡ false
 opening_says text o h = let (more, is) = opening_front text o h in ap is_skipped is
 
-memory_says : (text : List ℕ) (size : Size) → memory_at text ≡ Some size → is_skipped text ≡ false
+memory_says : (text : List ℕ) (size : Size) → memory_at text ≡ Ok size → is_skipped text ≡ false
 memory_says text size h = let (more, is) = memory_front text size h in ap is_skipped is
 
-node_opens : (more : List ℕ) → opening_at (codes "node " ++ more) ≡ None
-unfolding opening_at behind
-node_opens more = refl
+node_opens : (more : List ℕ) → (l : Lack) × (opening_at (codes "node" ++ more) ≡ Err l)
+unfolding opening_at word_and_space_at label_at behind
+node_opens more = (lack Part.Open (codes "node" ++ more), refl)
 
-noted_opens : (text : List ℕ) (r : Noted) → noted_at text ≡ Some r → opening_at text ≡ None
-noted_opens text r h = let (more, is) = noted_front text r h in ap opening_at is ∙ node_opens more
+noted_opens : (text : List ℕ) (r : Noted) → noted_at text ≡ Ok r → (l : Lack) × (opening_at text ≡ Err l)
+noted_opens text r h = let (more, is) = noted_front text r h in subst (λ (t : List ℕ). (l : Lack) × (opening_at t ≡ Err l)) (sym is) (node_opens more)
 
 -- ---- no fault
 
@@ -184,33 +198,33 @@ fed_so n line log r says h = subst (λ (b : Bool). FeedsBy b n line log r) (sym 
 
 -- a line that tells what is answered so
 module _ (size : Size) (r : Noted) (more : List Noted) (Q : (ℕ → State) → Type 0) (f : Follower) (same : f.size ≡ size) (inside : IsNotedIn size r) (leads : Leads size.nodes (lines_of f) (r ∷ more) Q) where
-  notes_fault : (n : ℕ) (e : LogFault) → Notes n f (Some r) (Err e) → IsMemory e
+  notes_fault : (n : ℕ) (e : LogFault) → Notes n f (Ok r) (Err e) → IsMemory e
   notes_fault n LogFault.OutOfMemory h = refl
   notes_fault n (LogFault.Departs k why) (at, there, after, takes) = absurd (leads.1 why after (subst (λ (z : Size). TakesTold z.nodes (lines_of f) r (Err why) after) same takes))
   notes_fault n (LogFault.BadNumber k) (at, out) = absurd (out (subst (λ (z : Size). IsNotedIn z r) (sym same) inside))
   notes_fault n (LogFault.BadLine k) h = absurd h
   notes_fault n LogFault.CannotRead h = absurd h
 
-  notes_on : (n : ℕ) (mid : Log) → Notes n f (Some r) (Ok mid) → Holds size (λ lines. Leads size.nodes lines more Q) mid
+  notes_on : (n : ℕ) (mid : Log) → Notes n f (Ok r) (Ok mid) → Holds size (λ lines. Leads size.nodes lines more Q) mid
   notes_on n (Log.Running g) (there, kept, takes) = (kept ∙ same, leads.2 (lines_of g) (subst (λ (z : Size). TakesTold z.nodes (lines_of f) r (Ok tt) (lines_of g)) same takes))
   notes_on n (Log.Opening g) h = absurd h
   notes_on n Log.New h = absurd h
 
-told_passes : (size : Size) (line : List ℕ) (r : Noted) (more : List Noted) (Q : (ℕ → State) → Type 0) (log : Log) → noted_at line ≡ Some r → IsNotedIn size r → Holds size (λ lines. Leads size.nodes lines (r ∷ more) Q) log
+told_passes : (size : Size) (line : List ℕ) (r : Noted) (more : List Noted) (Q : (ℕ → State) → Type 0) (log : Log) → noted_at line ≡ Ok r → IsNotedIn size r → Holds size (λ lines. Leads size.nodes lines (r ∷ more) Q) log
     → Passes line log (Holds size (λ lines. Leads size.nodes lines more Q))
 told_passes size line r more Q Log.New reads inside h = absurd h
 told_passes size line r more Q (Log.Opening f) reads inside (same, leads) =
-    let noted : (n : ℕ) (x : Result Log LogFault) → Feeds n line (Log.Opening f) x → Notes n f (Some r) x = λ n x h.
-    subst (λ (o : Option Noted). Notes n f o x) reads (subst (λ (o : Option (ℕ × Line)). Continues n f o (noted_at line) x) (noted_opens line r reads) (read_so n line (Log.Opening f) x (noted_says line r reads) h)) in
+    let noted : (n : ℕ) (x : Result Log LogFault) → Feeds n line (Log.Opening f) x → Notes n f (Ok r) x = λ n x h.
+    subst (λ (o : Result Noted Lack). Notes n f o x) reads (subst (λ (o : Result (ℕ × Line) Lack). Continues n f o (noted_at line) x) (noted_opens line r reads).1 (read_so n line (Log.Opening f) x (noted_says line r reads) h)) in
     ((λ n e h. notes_fault size r more Q f same inside leads n e (noted n (Err e) h)), (λ n mid h. notes_on size r more Q f same inside leads n mid (noted n (Ok mid) h)))
 told_passes size line r more Q (Log.Running f) reads inside (same, leads) =
-    let noted : (n : ℕ) (x : Result Log LogFault) → Feeds n line (Log.Running f) x → Notes n f (Some r) x = λ n x h.
-    subst (λ (o : Option Noted). Notes n f o x) reads (read_so n line (Log.Running f) x (noted_says line r reads) h) in
+    let noted : (n : ℕ) (x : Result Log LogFault) → Feeds n line (Log.Running f) x → Notes n f (Ok r) x = λ n x h.
+    subst (λ (o : Result Noted Lack). Notes n f o x) reads (read_so n line (Log.Running f) x (noted_says line r reads) h) in
     ((λ n e h. notes_fault size r more Q f same inside leads n e (noted n (Err e) h)), (λ n mid h. notes_on size r more Q f same inside leads n mid (noted n (Ok mid) h)))
 
 -- and it is taken
 notes_so : (size : Size) (r : Noted) (more : List Noted) (Q : (ℕ → State) → Type 0) (f : Follower) (n : ℕ) → IsNotedIn size r → f.size ≡ size → Leads size.nodes (lines_of f) (r ∷ more) Q → AreKept f
-    → (g : Follower) × Notes n f (Some r) (Ok (Log.Running g)) × AreKept g
+    → (g : Follower) × Notes n f (Ok r) (Ok (Log.Running g)) × AreKept g
 notes_so size r more Q f n inside same leads kept =
     let (after, takes) = leads.0 in
     let here : IsNotedIn f.size r = subst (λ (z : Size). IsNotedIn z r) (sym same) inside in
@@ -219,20 +233,20 @@ notes_so size r more Q f n inside same leads kept =
     let (g, size_same, now, to) = takes_on f r after kept (ltb-true r.node f.size.nodes node) (ltb-true r.line f.size.lines line) (subst (λ (z : Size). TakesTold z.nodes (lines_of f) r (Ok tt) after) (sym same) takes) in
     (g, (here, size_same, to), now)
 
-told_taken : (size : Size) (line : List ℕ) (r : Noted) (more : List Noted) (Q : (ℕ → State) → Type 0) (log : Log) → noted_at line ≡ Some r → IsNotedIn size r → Holds size (λ lines. Leads size.nodes lines (r ∷ more) Q) log
+told_taken : (size : Size) (line : List ℕ) (r : Noted) (more : List Noted) (Q : (ℕ → State) → Type 0) (log : Log) → noted_at line ≡ Ok r → IsNotedIn size r → Holds size (λ lines. Leads size.nodes lines (r ∷ more) Q) log
     → IsKept log → IsTaken line log
 told_taken size line r more Q Log.New reads inside h kept = absurd h
 told_taken size line r more Q (Log.Opening f) reads inside (same, leads) kept = λ n.
     let (g, notes, now) = notes_so size r more Q f n inside same leads kept in (
       Log.Running g,
       fed_so n line (Log.Opening f) (Ok (Log.Running g)) (noted_says line r reads)
-          (subst (λ (o : Option (ℕ × Line)). Continues n f o (noted_at line) (Ok (Log.Running g))) (sym (noted_opens line r reads)) (subst (λ (o : Option Noted). Notes n f o (Ok (Log.Running g))) (sym reads) notes)),
+          (subst (λ (o : Result (ℕ × Line) Lack). Continues n f o (noted_at line) (Ok (Log.Running g))) (sym (noted_opens line r reads).1) (subst (λ (o : Result Noted Lack). Notes n f o (Ok (Log.Running g))) (sym reads) notes)),
       now,
     )
 told_taken size line r more Q (Log.Running f) reads inside (same, leads) kept = λ n.
     let (g, notes, now) = notes_so size r more Q f n inside same leads kept in (
       Log.Running g,
-      fed_so n line (Log.Running f) (Ok (Log.Running g)) (noted_says line r reads) (subst (λ (o : Option Noted). Notes n f o (Ok (Log.Running g))) (sym reads) notes),
+      fed_so n line (Log.Running f) (Ok (Log.Running g)) (noted_says line r reads) (subst (λ (o : Result Noted Lack). Notes n f o (Ok (Log.Running g))) (sym reads) notes),
       now,
     )
 
@@ -297,15 +311,15 @@ module _ (size : Size) (content : ℕ → Line) (o : Opening) (there : o.line < 
     ]),
   )
 
-opening_passes : (size : Size) (content : ℕ → Line) (o : Opening) (line : List ℕ) (log : Log) → o.line < size.lines → opening_at line ≡ Some (o.line, o.content) → IsOpening size content log → Passes line log (IsOpening size (with_opening content o))
+opening_passes : (size : Size) (content : ℕ → Line) (o : Opening) (line : List ℕ) (log : Log) → o.line < size.lines → opening_at line ≡ Ok (o.line, o.content) → IsOpening size content log → Passes line log (IsOpening size (with_opening content o))
 opening_passes size content o line Log.New there reads h = absurd h
 opening_passes size content o line (Log.Running f) there reads h = absurd h
 opening_passes size content o line (Log.Opening f) there reads (same, unused_so) =
     let opens : (n : ℕ) (x : Result Log LogFault) → Feeds n line (Log.Opening f) x → Opens n f (o.line, o.content) x = λ n x h.
-    subst (λ (r : Option (ℕ × Line)). Continues n f r (noted_at line) x) reads (read_so n line (Log.Opening f) x (opening_says line (o.line, o.content) reads) h) in
+    subst (λ (r : Result (ℕ × Line) Lack). Continues n f r (noted_at line) x) reads (read_so n line (Log.Opening f) x (opening_says line (o.line, o.content) reads) h) in
     ((λ n e h. opens_fault size content o there f same unused_so n e (opens n (Err e) h)), (λ n mid h. opens_on size content o there f same unused_so n mid (opens n (Ok mid) h)))
 
-opening_taken : (size : Size) (content : ℕ → Line) (o : Opening) (line : List ℕ) (log : Log) → o.line < size.lines → opening_at line ≡ Some (o.line, o.content) → IsOpening size content log → IsKept log → IsTaken line log
+opening_taken : (size : Size) (content : ℕ → Line) (o : Opening) (line : List ℕ) (log : Log) → o.line < size.lines → opening_at line ≡ Ok (o.line, o.content) → IsOpening size content log → IsKept log → IsTaken line log
 opening_taken size content o line Log.New there reads h kept = absurd h
 opening_taken size content o line (Log.Running f) there reads h kept = absurd h
 opening_taken size content o line (Log.Opening f) there reads (same, unused_so) kept = λ n.
@@ -313,7 +327,7 @@ opening_taken size content o line (Log.Opening f) there reads (same, unused_so) 
     let (g, size_same, now, reopens) = reopens_on f o.line o.content kept here in (
       Log.Opening g,
       fed_so n line (Log.Opening f) (Ok (Log.Opening g)) (opening_says line (o.line, o.content) reads)
-          (subst (λ (r : Option (ℕ × Line)). Continues n f r (noted_at line) (Ok (Log.Opening g))) (sym reads) (here, size_same, reopens)),
+          (subst (λ (r : Result (ℕ × Line) Lack). Continues n f r (noted_at line) (Ok (Log.Opening g))) (sym reads) (here, size_same, reopens)),
       now,
     )
 
@@ -352,14 +366,14 @@ openings_fed size (o ∷ openings) content text n log (there, (said, ended, plai
 -- ---- the first line
 
 module _ (size : Size) (is : IsSize size) where
-  begins_fault : (n : ℕ) (e : LogFault) → Begins n (Some size) (Err e) → IsMemory e
+  begins_fault : (n : ℕ) (e : LogFault) → Begins n (Ok size) (Err e) → IsMemory e
   begins_fault n LogFault.OutOfMemory h = refl
   begins_fault n (LogFault.BadNumber k) (at, out) = absurd (out is)
   begins_fault n (LogFault.BadLine k) h = absurd h
   begins_fault n (LogFault.Departs k why) h = absurd h
   begins_fault n LogFault.CannotRead h = absurd h
 
-  begins_on : (n : ℕ) (mid : Log) → Begins n (Some size) (Ok mid) → IsOpening size (λ line. zeros) mid
+  begins_on : (n : ℕ) (mid : Log) → Begins n (Ok size) (Ok mid) → IsOpening size (λ line. zeros) mid
   unfolding content_of
   begins_on n Log.New h = absurd h
   begins_on n (Log.Running f) h = absurd h
@@ -368,9 +382,9 @@ module _ (size : Size) (is : IsSize size) where
     (λ line low. ap (λ (w : WholeLine AnyWords). state_of w) (unused_so line no_line low) ∙ opened_state {K = AnyWords} (whole_at f.lines.items line).keep line size.nodes zeros),
   )
 
-  memory_passes : (line : List ℕ) → memory_at line ≡ Some size → Passes line Log.New (IsOpening size (λ line. zeros))
+  memory_passes : (line : List ℕ) → memory_at line ≡ Ok size → Passes line Log.New (IsOpening size (λ line. zeros))
   memory_passes line reads =
-      let begins : (n : ℕ) (x : Result Log LogFault) → Feeds n line Log.New x → Begins n (Some size) x = λ n x h. subst (λ (r : Option Size). Begins n r x) reads (read_so n line Log.New x (memory_says line size reads) h) in
+      let begins : (n : ℕ) (x : Result Log LogFault) → Feeds n line Log.New x → Begins n (Ok size) x = λ n x h. subst (λ (r : Result Size Lack). Begins n r x) reads (read_so n line Log.New x (memory_says line size reads) h) in
       ((λ n e h. begins_fault n e (begins n (Err e) h)), (λ n mid h. begins_on n mid (begins n (Ok mid) h)))
 
   pub head_fine : (line : List ℕ) (openings : List Opening) (text : List ℕ) → IsReadAs memory_at line size → AreOpenings size openings
@@ -380,11 +394,11 @@ module _ (size : Size) (is : IsSize size) where
       subst (λ (t : List ℕ). NoFault t 1 Log.New) (ap (λ (l : List ℕ). l ++ rest) (sym ended) ∙ sym (append_assoc line (flat_map opening_line openings) text))
       (line_first said rest 1 Log.New (IsOpening size (λ line. zeros)) plain (memory_passes said reads) (λ k mid next. openings_fine size openings (λ line. zeros) text k mid are next later))
 
-  memory_taken : (line : List ℕ) → memory_at line ≡ Some size → IsTaken line Log.New
+  memory_taken : (line : List ℕ) → memory_at line ≡ Ok size → IsTaken line Log.New
   memory_taken line reads = λ n.
       let (f, same, unused_so, kept) = begins_with size is in (
         Log.Opening f,
-        fed_so n line Log.New (Ok (Log.Opening f)) (memory_says line size reads) (subst (λ (r : Option Size). Begins n r (Ok (Log.Opening f))) (sym reads) (is, same, unused_so)),
+        fed_so n line Log.New (Ok (Log.Opening f)) (memory_says line size reads) (subst (λ (r : Result Size Lack). Begins n r (Ok (Log.Opening f))) (sym reads) (is, same, unused_so)),
         kept,
       )
 

@@ -1,5 +1,5 @@
 -- A line of a log, as a run writes it, is read as what it tells.
-use Rattle.std.proofs.Common.{◌≡◌, ℕ, zero, suc, ◌+◌, ◌/◌, ◌%◌, ◌<◌, ◌≤◌, ◌^◌, Bool, true, false, eqb, ltb, leb, List, [], ◌∷◌, ◌++◌, length, take, drop, codes, decimal, flat_map, Option, Some, None, refl, sym, ap, subst, ◌∙◌, append_assoc, append-nil, arith, inl, inr, lt-ltb, le-leb, ne_eqb, if◌then◌else◌}
+use Rattle.std.proofs.Common.{◌≡◌, ℕ, zero, suc, ◌+◌, ◌/◌, ◌%◌, ◌<◌, ◌≤◌, ◌^◌, Bool, true, false, eqb, ltb, leb, List, [], ◌∷◌, ◌++◌, length, take, drop, codes, decimal, flat_map, All, Option, Some, None, Result, Ok, refl, sym, ap, subst, ◌∙◌, append_assoc, append-nil, arith, inl, inr, lt-ltb, le-leb, ne_eqb, if◌then◌else◌}
 use Rattle.std.specs.Fmt.{digit_glyph, digits, digits_onto}
 use Rattle.std.specs.Str.{bytes_eq}
 use Rattle.std.proofs.lemmas.Bool.{and_left, cases_Bool}
@@ -15,15 +15,18 @@ use Rattle.sci_script.specs.declared.watching.Load.{Load}
 use Rattle.sci_script.specs.declared.watching.Passed.{Passed}
 use Rattle.sci_script.specs.Size.{IsSize}
 use Rattle.sci_dump.specs.ReadBack.{IsContent}
-use Rattle.sci_dump.specs.Reading.{◌>>=◌, behind, word_at, value_at, values_at, capped_at}
+use Rattle.sci_dump.specs.Reading.{behind, number_at, word_at}
 use Rattle.sci_dump.specs.Text.{hexadecimal, values_text}
-use Rattle.sci_dump.proofs.FieldsBack.{NoDigit, then_read, behind_own, value_own, values_own, word_own, capped_own}
+use Rattle.sci_dump.proofs.FieldsBack.{NoDigit, behind_own, capped_own, number_own, word_own}
 use Rattle.sci_follow.specs.declared.entries.Claim.{Claim}
+use Rattle.sci_follow.specs.declared.parts.Lack.{Lack}
+use Rattle.sci_follow.specs.declared.parts.Part.{Part}
 use Rattle.sci_follow.specs.declared.told.Asks.{Asks}
 use Rattle.sci_follow.specs.declared.told.Found.{Found}
 use Rattle.sci_follow.specs.declared.told.Told.{Told}
 use Rattle.sci_follow.specs.declared.told.Noted.{Noted}
-use Rattle.sci_follow.specs.LineText.{acting_at, bare_event_at, busy_at, claim_at, closed_link_at, closed_tag_at, done_at, either, ended_at, event_at, first_of, found_at, is_ended, is_told_enough, leaving_event_at, line_at, link_at, memory_at, memory_event_at, missed_at, name_at, node_at, noted_at, on_line_at, on_other_at, opening_at, other_asks_at, other_name_at, other_tag_at, own_asks_at, own_event_at, own_tag_at, placed_at, queue_at, requeue_at, settled_name_at, some_node_at, spaced_node_at, step_event_at, told_at, whole_event_at, written_at, written_words_at}
+use Rattle.sci_follow.specs.LineText.{◌>>=◌, acting_at, bare_told_at, bracketed_link_at, busy_at, claim_at, closed_at, content_at, count_at, done_at, end_at, ended_at, label_at, line_at, link_at, long_told_at, may_missed_at, maybe_words_at, memory_at, missed_at, new_words_at, node_at, noted_at, numbered_at, on_line_at, opening_at, other_told_at, own_told_at, placed_at, queue_at, requeue_at, size_part, some_node_at, space_at, tag_told_at, told_at, value_at, values_at, wants, whose_at, word_and_space_at, written_at}
+use Rattle.sci_follow.specs.Names.{bare_event_at, found_at, leaving_event_at, memory_event_at, name_at, other_asks_at, other_name_at, own_asks_at, own_event_at, settled_name_at, step_event_at}
 use Rattle.sci_trace.specs.Entries.{entry_place, exchange_line, log_head, look_line, opening_line, outcome_text}
 use Rattle.sci_trace.specs.Events.{argument_text, event_name, written_text}
 use Rattle.sci_trace.specs.Words.{found_text, link_word, of_text}
@@ -31,17 +34,30 @@ use Rattle.sci_serve.proofs.Plain.{decimal_plain, plain_join}
 use Rattle.sci_serve.proofs.PlainLines.{argument_plain, name_plain, outcome_plain, place_plain, values_plain}
 use Rattle.sci_serve.specs.ReadBack.{AreWords, IsBehind, IsLink, IsOfOther, IsOfOwn, IsReadAs, MayEnd, claim_of, named, on_tag, told_of, whose}
 
-small_number : (n : ℕ) → n ≤ 65535 → n < 2 ^ 64
-small_number n small = omega (arith, small)
+-- a part is read, and then the rest
+then_ok : {A B : Type 0} (r : Result A Lack) (f : A → Result B Lack) (x : A) (y : Result B Lack) → r ≡ Ok x → f x ≡ y → (r >>= f) ≡ y
+then_ok r f x y is next = rw is next
 
--- a node's number, and a line's
-node_own : (node : ℕ) (rest : List ℕ) → node < 65535 → NoDigit rest → node_at (decimal node ++ rest) ≡ Some (node, rest)
-unfolding node_at
-node_own node rest small none = capped_own 65534 node rest (small_number node (omega (arith, small))) (omega (arith, small)) none
+label_own : (part : Part) (bytes rest : List ℕ) → label_at part bytes (bytes ++ rest) ≡ Ok rest
+unfolding label_at
+label_own part bytes rest = ap (wants part (bytes ++ rest)) (behind_own bytes rest)
 
-line_own : (line : ℕ) (rest : List ℕ) → line < 65536 → NoDigit rest → line_at (decimal line ++ rest) ≡ Some (line, rest)
-unfolding line_at
-line_own line rest small none = capped_own 65535 line rest (small_number line (omega (arith, small))) (omega (arith, small)) none
+word_own_space : (part : Part) (bytes rest : List ℕ) → word_and_space_at part bytes (bytes ++ (codes " " ++ rest)) ≡ Ok rest
+unfolding word_and_space_at
+word_own_space part bytes rest =
+    then_ok (label_at part bytes (bytes ++ (codes " " ++ rest))) (λ text. space_at text) (codes " " ++ rest) (Ok rest) (label_own part bytes (codes " " ++ rest)) (label_own Part.Space (codes " ") rest)
+
+count_own : (part : Part) (most n : ℕ) (rest : List ℕ) → most ≤ 65535 → n ≤ most → NoDigit rest → count_at part most (decimal n ++ rest) ≡ Ok (n, rest)
+unfolding count_at
+count_own part most n rest few small none = ap (wants part (decimal n ++ rest)) (capped_own most n rest (omega (arith, few, small)) small none)
+
+numbered_own : (first : Part) (bytes : List ℕ) (part : Part) (most n : ℕ) (text : List ℕ) → most ≤ 65535 → n ≤ most → numbered_at first bytes part most (bytes ++ (codes " " ++ (decimal n ++ (codes " " ++ text)))) ≡ Ok (n, text)
+unfolding numbered_at
+numbered_own first bytes part most n text few small =
+    let rest = decimal n ++ (codes " " ++ text) in
+    then_ok (word_and_space_at first bytes (bytes ++ (codes " " ++ rest))) (λ text. count_at part most text >>= λ number. space_at number.1 >>= λ text. Ok (number.0, text)) rest (Ok (n, text)) (word_own_space first bytes rest)
+    (then_ok (count_at part most rest) (λ number. space_at number.1 >>= λ text. Ok (number.0, text)) (n, codes " " ++ text) (Ok (n, text)) (count_own part most n (codes " " ++ text) few small refl)
+    (then_ok (space_at (codes " " ++ text)) (λ text. Ok (n, text)) text (Ok (n, text)) (label_own Part.Space (codes " ") text) refl))
 
 -- `node N line L `, and what stands behind it
 place_front : (node line : ℕ) (text : List ℕ) → entry_place node line ++ text ≡ codes "node " ++ (decimal node ++ (codes " line " ++ (decimal line ++ (codes " " ++ text))))
@@ -49,26 +65,14 @@ place_front node line text =
     append_assoc (codes "node " ++ decimal node ++ codes " line " ++ decimal line) (codes " ") text ∙ append_assoc (codes "node " ++ decimal node ++ codes " line ") (decimal line) (codes " " ++ text)
     ∙ append_assoc (codes "node " ++ decimal node) (codes " line ") (decimal line ++ (codes " " ++ text))
 
-line_read : (line : ℕ) (text : List ℕ) → line < 65536 → on_line_at (codes " line " ++ (decimal line ++ (codes " " ++ text))) ≡ Some (line, text)
-unfolding on_line_at
-line_read line text small =
-    then_read (behind (codes " line ") (codes " line " ++ (decimal line ++ (codes " " ++ text)))) (λ text. line_at text >>= λ line. behind (codes " ") line.1 >>= λ text. Some (line.0, text)) (decimal line ++ (codes " " ++ text)) (Some (line, text))
-    (behind_own (codes " line ") (decimal line ++ (codes " " ++ text)))
-    (then_read (line_at (decimal line ++ (codes " " ++ text))) (λ line. behind (codes " ") line.1 >>= λ text. Some (line.0, text)) (line, codes " " ++ text) (Some (line, text)) (line_own line (codes " " ++ text) small refl)
-    (then_read (behind (codes " ") (codes " " ++ text)) (λ text. Some (line, text)) text (Some (line, text)) (behind_own (codes " ") text) refl))
-
-acts : (node : ℕ) (rest : List ℕ) → node < 65535 → NoDigit rest → acting_at (codes "node " ++ (decimal node ++ rest)) ≡ Some (node, rest)
-unfolding acting_at
-acts node rest small none =
-    then_read (behind (codes "node ") (codes "node " ++ (decimal node ++ rest))) node_at (decimal node ++ rest) (Some (node, rest)) (behind_own (codes "node ") (decimal node ++ rest)) (node_own node rest small none)
-
 placed : (node line : ℕ) (text : List ℕ) → node < 65535 → line < 65536 → noted_at (entry_place node line ++ text) ≡ ended_at node line text
 unfolding noted_at placed_at
 placed node line text n l =
-    let rest = codes " line " ++ (decimal line ++ (codes " " ++ text)) in
+    let rest = codes "line" ++ (codes " " ++ (decimal line ++ (codes " " ++ text))) in
     ap noted_at (place_front node line text)
-    ∙ then_read (acting_at (codes "node " ++ (decimal node ++ rest))) (λ node. placed_at node.0 node.1) (node, rest) (ended_at node line text) (acts node rest n refl)
-    (then_read (on_line_at rest) (λ line. ended_at node line.0 line.1) (line, text) (ended_at node line text) (line_read line text l) refl)
+    ∙ then_ok (acting_at (codes "node" ++ (codes " " ++ (decimal node ++ (codes " " ++ rest))))) (λ node. placed_at node.0 node.1) (node, rest) (ended_at node line text)
+    (numbered_own Part.Node (codes "node") Part.NodeNumber 65534 node rest (omega arith) (omega (arith, n)))
+    (then_ok (on_line_at rest) (λ line. ended_at node line.0 line.1) (line, text) (ended_at node line text) (numbered_own Part.OnLine (codes "line") Part.LineNumber 65535 line text (omega arith) (omega (arith, l))) refl)
 
 -- how it ended, behind a space
 abbrev ending : Ending → List ℕ
@@ -76,12 +80,18 @@ ending Ending.Done = codes "Done"
 ending (Ending.Missed word) = codes "Missed " ++ hexadecimal 16 word
 ending Ending.Busy = codes "Busy"
 
-ending_read : (told : Told) (e : Ending) → MayEnd told e → claim_at (ending e) ≡ Some (claim_of e)
-unfolding claim_at done_at missed_at busy_at behind
+-- the word that was found
+word_read : (word : ℕ) → word < 2 ^ 64 → missed_at (codes " " ++ hexadecimal 16 word) ≡ Ok (Claim.Missed word)
+unfolding missed_at end_at label_at behind
+word_read word small =
+    ap (λ (r : Option (ℕ × List ℕ)). wants Part.Word (hexadecimal 16 word) r >>= λ word. end_at word.1 >>= λ end. Ok (Claim.Missed word.0))
+    (ap word_at (sym (append-nil (hexadecimal 16 word))) ∙ word_own word [] small)
+
+ending_read : (told : Told) (e : Ending) → MayEnd told e → claim_at told (ending e) ≡ Ok (claim_of e)
+unfolding claim_at done_at busy_at may_missed_at end_at label_at behind
 ending_read told Ending.Done may = refl
-ending_read told (Ending.Missed word) may =
-    ap (λ (r : Option (ℕ × List ℕ)). first_of (r >>= λ word. if is_ended word.1 then Some (Claim.Missed word.0) else None) (busy_at (codes "Missed " ++ hexadecimal 16 word)))
-    (ap word_at (sym (append-nil (hexadecimal 16 word))) ∙ word_own word [] may.1)
+ending_read (Told.Event event) (Ending.Missed word) may = word_read word may.1
+ending_read (Told.On asks whose found) (Ending.Missed word) may = absurd (let no = may.0 in cc)
 ending_read told Ending.Busy may = refl
 
 ending_behind : (front : List ℕ) (e : Ending) → front ++ outcome_text e ≡ front ++ (codes " " ++ ending e)
@@ -89,25 +99,14 @@ ending_behind front Ending.Done = refl
 ending_behind front (Ending.Missed word) = refl
 ending_behind front Ending.Busy = refl
 
-told_enough : (told : Told) (e : Ending) → MayEnd told e → is_told_enough told (claim_of e) ≡ true
-told_enough (Told.Event event) Ending.Done may = refl
-told_enough (Told.Event event) (Ending.Missed word) may = refl
-told_enough (Told.Event event) Ending.Busy may = refl
-told_enough (Told.On asks whose (Found.Named tag)) Ending.Done may = refl
-told_enough (Told.On asks whose (Found.Named tag)) (Ending.Missed word) may = absurd (let no = may.0 in cc)
-told_enough (Told.On asks whose (Found.Named tag)) Ending.Busy may = refl
-told_enough (Told.On asks whose (Found.Exactly tag)) Ending.Done may = refl
-told_enough (Told.On asks whose (Found.Exactly tag)) (Ending.Missed word) may = refl
-told_enough (Told.On asks whose (Found.Exactly tag)) Ending.Busy may = refl
-
 abbrev pub noted : ℕ → ℕ → Told → Claim → Noted
 noted node line told claim = record { node = node; line = line; told = told; claim = claim }
 
-ended : (node line : ℕ) (text : List ℕ) (told : Told) (e : Ending) → told_at text ≡ Some (told, ending e) → MayEnd told e → ended_at node line text ≡ Some (noted node line told (claim_of e))
+ended : (node line : ℕ) (text : List ℕ) (told : Told) (e : Ending) → told_at text ≡ Ok (told, ending e) → MayEnd told e → ended_at node line text ≡ Ok (noted node line told (claim_of e))
 unfolding ended_at
 ended node line text told e reads may =
-    then_read (told_at text) (λ told. claim_at told.1 >>= λ claim. if is_told_enough told.0 claim then Some (record { node = node; line = line; told = told.0; claim = claim }) else None) (told, ending e) (Some (noted node line told (claim_of e))) reads
-    (then_read (claim_at (ending e)) (λ claim. if is_told_enough told claim then Some (record { node = node; line = line; told = told; claim = claim }) else None) (claim_of e) (Some (noted node line told (claim_of e))) (ending_read told e may) (rw (told_enough told e may) refl))
+    then_ok (told_at text) (λ told. claim_at told.0 told.1 >>= λ claim. Ok (record { node = node; line = line; told = told.0; claim = claim })) (told, ending e) (Ok (noted node line told (claim_of e))) reads
+    (then_ok (claim_at told (ending e)) (λ claim. Ok (record { node = node; line = line; told = told; claim = claim })) (claim_of e) (Ok (noted node line told (claim_of e))) (ending_read told e may) refl)
 
 -- a number begins with a digit
 abbrev BeginsWithDigit : List ℕ → Type 0
@@ -147,40 +146,51 @@ no_name node rest =
     let differs : bytes_eq (take 4 (b ∷ (more ++ rest))) (codes "none") ≡ false = and_left (eqb b 110) (bytes_eq (take 3 (more ++ rest)) (codes "one")) (ne_eqb b 110 (λ e. absurd (omega (arith, e, small)))) in
     ap (λ (l : List ℕ). behind (codes "none") (l ++ rest)) is ∙ if_not (bytes_eq (take 4 (b ∷ (more ++ rest))) (codes "none")) (drop 4 (b ∷ (more ++ rest))) differs
 
--- a link, and the bracket behind it
-abbrev closing : Option (Option ℕ × List ℕ) → Option (Option ℕ × List ℕ)
-closing found = found >>= λ link. behind (codes ") ") link.1 >>= λ text. Some (link.0, text)
+-- a link in its brackets
+closed_own : (rest : List ℕ) → closed_at (codes ") " ++ rest) ≡ Ok rest
+unfolding closed_at
+closed_own rest = word_own_space Part.Bracket (codes ")") rest
 
-link_read : (link : Option ℕ) (rest : List ℕ) → IsLink link → closed_link_at (link_word link ++ (codes ") " ++ rest)) ≡ Some (link, rest)
-unfolding closed_link_at link_at some_node_at behind
-link_read None rest h = refl
-link_read (Some node) rest h =
-    let text = decimal node ++ (codes ") " ++ rest) in
-    ap (λ (r : Option (List ℕ)). closing (either None r (some_node_at text))) (no_name node (codes ") " ++ rest))
-    ∙ ap (λ (r : Option (ℕ × List ℕ)). closing (r >>= λ found. Some (Some found.0, found.1))) (node_own node (codes ") " ++ rest) h refl)
+some_read : (node : ℕ) (rest : List ℕ) → node < 65535 → some_node_at (decimal node ++ (codes ") " ++ rest)) ≡ Ok (Some node, codes ") " ++ rest)
+unfolding some_node_at
+some_read node rest small =
+    then_ok (count_at Part.Link 65534 (decimal node ++ (codes ") " ++ rest))) (λ node. Ok (Some node.0, node.1)) (node, codes ") " ++ rest) (Ok (Some node, codes ") " ++ rest)) (count_own Part.Link 65534 node (codes ") " ++ rest) (omega arith) (omega (arith, small)) refl) refl
+
+word_read_as : (link : Option ℕ) (rest : List ℕ) → IsLink link → link_at (link_word link ++ (codes ") " ++ rest)) ≡ Ok (link, codes ") " ++ rest)
+unfolding link_at behind
+word_read_as None rest h = refl
+word_read_as (Some node) rest h = rw (no_name node (codes ") " ++ rest)) (some_read node rest h)
+
+link_read : (link : Option ℕ) (rest : List ℕ) → IsLink link → bracketed_link_at (codes "(" ++ (link_word link ++ (codes ") " ++ rest))) ≡ Ok (link, rest)
+unfolding bracketed_link_at
+link_read link rest h =
+    let text = link_word link ++ (codes ") " ++ rest) in
+    then_ok (label_at Part.Opened (codes "(") (codes "(" ++ text)) (λ text. link_at text >>= λ link. closed_at link.1 >>= λ text. Ok (link.0, text)) text (Ok (link, rest)) (label_own Part.Opened (codes "(") text)
+    (then_ok (link_at text) (λ link. closed_at link.1 >>= λ text. Ok (link.0, text)) (link, codes ") " ++ rest) (Ok (link, rest)) (word_read_as link rest h)
+    (then_ok (closed_at (codes ") " ++ rest)) (λ text. Ok (link, text)) rest (Ok (link, rest)) (closed_own rest) refl))
 
 -- a tag's name, and the bracket behind it
-abbrev TagReads : List ℕ → Tag → Type 0
-TagReads rest tag = closed_tag_at (name_of tag ++ (codes ") " ++ rest)) ≡ Some (Found.Named (named tag), rest)
+abbrev TagReads : Asks → Option ℕ → List ℕ → Tag → Type 0
+TagReads asks whose rest tag = tag_told_at asks whose (name_of tag ++ (codes ") " ++ rest)) ≡ Ok (Told.On asks whose (Found.Named (named tag)), rest)
 
-kind_read : (rest : List ℕ) (k : Kind) (held : Bool) (forw back : Option ℕ) → TagReads rest (record { kind = k; held = held; forw = forw; back = back })
-unfolding closed_tag_at found_at name_at settled_name_at other_name_at behind
-kind_read rest Kind.Invalid held forw back = refl
-kind_read rest Kind.Queued held forw back = refl
-kind_read rest Kind.Fresh held None back = refl
-kind_read rest Kind.Fresh held (Some x) back = refl
-kind_read rest Kind.Dirty held None back = refl
-kind_read rest Kind.Dirty held (Some x) back = refl
-kind_read rest Kind.Convert held forw back = refl
-kind_read rest Kind.Purging held forw back = refl
-kind_read rest Kind.Leaving held forw back = refl
-kind_read rest Kind.Valid held None back = refl
-kind_read rest Kind.Valid held (Some x) back = refl
-kind_read rest Kind.Roll held forw back = refl
-kind_read rest Kind.Purged held forw back = refl
+kind_read : (asks : Asks) (whose : Option ℕ) (rest : List ℕ) (k : Kind) (held : Bool) (forw back : Option ℕ) → TagReads asks whose rest (record { kind = k; held = held; forw = forw; back = back })
+unfolding tag_told_at found_at name_at settled_name_at other_name_at closed_at word_and_space_at label_at behind
+kind_read asks whose rest Kind.Invalid held forw back = refl
+kind_read asks whose rest Kind.Queued held forw back = refl
+kind_read asks whose rest Kind.Fresh held None back = refl
+kind_read asks whose rest Kind.Fresh held (Some x) back = refl
+kind_read asks whose rest Kind.Dirty held None back = refl
+kind_read asks whose rest Kind.Dirty held (Some x) back = refl
+kind_read asks whose rest Kind.Convert held forw back = refl
+kind_read asks whose rest Kind.Purging held forw back = refl
+kind_read asks whose rest Kind.Leaving held forw back = refl
+kind_read asks whose rest Kind.Valid held None back = refl
+kind_read asks whose rest Kind.Valid held (Some x) back = refl
+kind_read asks whose rest Kind.Roll held forw back = refl
+kind_read asks whose rest Kind.Purged held forw back = refl
 
-tag_read : (found : Tag) (rest : List ℕ) → TagReads rest found
-tag_read found rest = kind_read rest found.kind found.held found.forw found.back
+tag_read : (asks : Asks) (whose : Option ℕ) (found : Tag) (rest : List ℕ) → TagReads asks whose rest found
+tag_read asks whose found rest = kind_read asks whose rest found.kind found.held found.forw found.back
 
 -- what stands behind an event's name, in front of a space and more
 abbrev behind_name : Option Load → Event → List ℕ → List ℕ
@@ -193,34 +203,31 @@ own_found (Some (Load.Mem mem)) h = (refl, refl)
 own_found (Some (Load.Tag node tag)) h = absurd h
 
 -- an event on the own tag
-abbrev own_told : Asks → Option (Found × List ℕ) → Option (Told × List ℕ)
-own_told asks found = found >>= λ found. Some (Told.On asks None found.0, found.1)
-
-own_event : (asks : Asks) (front : List ℕ) (load : Option Load) (found : Tag) (more : List ℕ) → IsOfOwn load → ((t : List ℕ) → told_at (front ++ t) ≡ first_of (own_told asks (closed_tag_at t)) (whole_event_at (front ++ t)))
-    → told_at (front ++ ((found_text load found ++ codes ")") ++ (codes " " ++ more))) ≡ Some (on_tag asks load found, more)
+own_event : (asks : Asks) (front : List ℕ) (load : Option Load) (found : Tag) (more : List ℕ) → IsOfOwn load → ((t : List ℕ) → told_at (front ++ t) ≡ tag_told_at asks None t)
+    → told_at (front ++ ((found_text load found ++ codes ")") ++ (codes " " ++ more))) ≡ Ok (on_tag asks load found, more)
 own_event asks front load found more own reads =
     let (text, node) = own_found load own in
     let rest = name_of found ++ (codes ") " ++ more) in
     let is : (found_text load found ++ codes ")") ++ (codes " " ++ more) ≡ rest =
     ap (λ (l : List ℕ). ((l ++ name_of found) ++ codes ")") ++ (codes " " ++ more)) text ∙ append_assoc (name_of found) (codes ")") (codes " " ++ more) in
-    ap (λ (l : List ℕ). told_at (front ++ l)) is ∙ reads rest
-    ∙ ap (λ (r : Option (Found × List ℕ)). first_of (own_told asks r) (whole_event_at (front ++ rest))) (tag_read found more)
-    ∙ ap (λ (n : Option ℕ). Some (Told.On asks n (Found.Named (named found)), more)) (sym node)
+    ap (λ (l : List ℕ). told_at (front ++ l)) is ∙ reads rest ∙ tag_read asks None found more
+    ∙ ap (λ (n : Option ℕ). Ok (Told.On asks n (Found.Named (named found)), more)) (sym node)
 
 -- an event on another node's tag
-other_read : (asks : Asks) (node : ℕ) (found : Tag) (more : List ℕ) → node < 65535 → on_other_at asks (decimal node ++ (codes " " ++ (name_of found ++ (codes ") " ++ more)))) ≡ Some (Told.On asks (Some node) (Found.Named (named found)), more)
-unfolding on_other_at spaced_node_at
+other_read : (asks : Asks) (node : ℕ) (found : Tag) (more : List ℕ) → node < 65535 → other_told_at asks (codes "(" ++ (decimal node ++ (codes " " ++ (name_of found ++ (codes ") " ++ more))))) ≡ Ok (Told.On asks (Some node) (Found.Named (named found)), more)
+unfolding other_told_at whose_at
 other_read asks node found more small =
     let rest = name_of found ++ (codes ") " ++ more) in
-    let front : spaced_node_at (decimal node ++ (codes " " ++ rest)) ≡ Some (node, rest) =
-    then_read (node_at (decimal node ++ (codes " " ++ rest))) (λ node. behind (codes " ") node.1 >>= λ text. Some (node.0, text)) (node, codes " " ++ rest) (Some (node, rest)) (node_own node (codes " " ++ rest) small refl)
-    (then_read (behind (codes " ") (codes " " ++ rest)) (λ text. Some (node, text)) rest (Some (node, rest)) (behind_own (codes " ") rest) refl) in
-    then_read (spaced_node_at (decimal node ++ (codes " " ++ rest))) (λ node. closed_tag_at node.1 >>= λ found. Some (Told.On asks (Some node.0) found.0, found.1)) (node, rest) (Some (Told.On asks (Some node) (Found.Named (named found)), more)) front
-    (then_read (closed_tag_at rest) (λ found. Some (Told.On asks (Some node) found.0, found.1)) (Found.Named (named found), more) (Some (Told.On asks (Some node) (Found.Named (named found)), more)) (tag_read found more) refl)
+    let text = decimal node ++ (codes " " ++ rest) in
+    let front : whose_at (codes "(" ++ text) ≡ Ok (node, rest) =
+    then_ok (label_at Part.Opened (codes "(") (codes "(" ++ text)) (λ text. node_at text >>= λ node. space_at node.1 >>= λ text. Ok (node.0, text)) text (Ok (node, rest)) (label_own Part.Opened (codes "(") text)
+    (then_ok (node_at text) (λ node. space_at node.1 >>= λ text. Ok (node.0, text)) (node, codes " " ++ rest) (Ok (node, rest)) (count_own Part.NodeNumber 65534 node (codes " " ++ rest) (omega arith) (omega (arith, small)) refl)
+    (then_ok (space_at (codes " " ++ rest)) (λ text. Ok (node, text)) rest (Ok (node, rest)) (label_own Part.Space (codes " ") rest) refl)) in
+    then_ok (whose_at (codes "(" ++ text)) (λ node. tag_told_at asks (Some node.0) node.1) (node, rest) (Ok (Told.On asks (Some node) (Found.Named (named found)), more)) front (tag_read asks (Some node) found more)
 
 other_event : (asks : Asks) (front : List ℕ) (load : Option Load) (found : Tag) (more : List ℕ) → IsOfOther load
-    → ((t : List ℕ) → told_at (front ++ t) ≡ first_of (on_other_at asks t) (first_of (own_tag_at (front ++ t)) (whole_event_at (front ++ t))))
-    → told_at (front ++ ((found_text load found ++ codes ")") ++ (codes " " ++ more))) ≡ Some (on_tag asks load found, more)
+    → ((t : List ℕ) → told_at (front ++ t) ≡ other_told_at asks (codes "(" ++ t))
+    → told_at (front ++ ((found_text load found ++ codes ")") ++ (codes " " ++ more))) ≡ Ok (on_tag asks load found, more)
 other_event asks front None found more other reads = absurd other
 other_event asks front (Some (Load.Own tag)) found more other reads = absurd other
 other_event asks front (Some (Load.Mem mem)) found more other reads = absurd other
@@ -228,40 +235,62 @@ other_event asks front (Some (Load.Tag node tag)) found more other reads =
     let rest = decimal node ++ (codes " " ++ (name_of found ++ (codes ") " ++ more))) in
     let is : (((decimal node ++ codes " ") ++ name_of found) ++ codes ")") ++ (codes " " ++ more) ≡ rest =
     append_assoc ((decimal node ++ codes " ") ++ name_of found) (codes ")") (codes " " ++ more) ∙ append_assoc (decimal node ++ codes " ") (name_of found) (codes ") " ++ more) ∙ append_assoc (decimal node) (codes " ") (name_of found ++ (codes ") " ++ more)) in
-    ap (λ (l : List ℕ). told_at (front ++ l)) is ∙ reads rest
-    ∙ ap (λ (r : Option (Told × List ℕ)). first_of r (first_of (own_tag_at (front ++ rest)) (whole_event_at (front ++ rest)))) (other_read asks node found more other)
+    ap (λ (l : List ℕ). told_at (front ++ l)) is ∙ reads rest ∙ other_read asks node found more other
 
 -- an event without a tag, in front of its argument
-abbrev told_event : Option (Event × List ℕ) → Option (Told × List ℕ)
-told_event event = event >>= λ event. Some (Told.Event event.0, event.1)
-
-queue_read : (forw : Option ℕ) (more : List ℕ) → IsLink forw → told_at (codes "Queue(" ++ ((link_word forw ++ codes ")") ++ (codes " " ++ more))) ≡ Some (Told.Event (Event.Queue forw), more)
-unfolding told_at other_tag_at other_asks_at own_tag_at own_asks_at whole_event_at event_at bare_event_at own_event_at memory_event_at step_event_at leaving_event_at queue_at requeue_at written_at written_words_at behind
+queue_read : (forw : Option ℕ) (more : List ℕ) → IsLink forw → told_at (codes "Queue(" ++ ((link_word forw ++ codes ")") ++ (codes " " ++ more))) ≡ Ok (Told.Event (Event.Queue forw), more)
+unfolding told_at bare_event_at own_event_at memory_event_at step_event_at leaving_event_at own_asks_at other_asks_at long_told_at queue_at requeue_at written_at maybe_words_at new_words_at bare_told_at own_told_at label_at behind
 queue_read forw more link =
-    let rest = link_word forw ++ (codes ") " ++ more) in
-    let text = codes "Queue(" ++ rest in
     ap (λ (l : List ℕ). told_at (codes "Queue(" ++ l)) (append_assoc (link_word forw) (codes ")") (codes " " ++ more))
-    ∙ ap (λ (r : Option (Option ℕ × List ℕ)). told_event (first_of (r >>= λ link. Some (Event.Queue link.0, link.1)) (first_of (written_at text) (requeue_at text)))) (link_read forw more link)
+    ∙ ap (λ (r : Result (Option ℕ × List ℕ) Lack). r >>= λ link. Ok (Told.Event (Event.Queue link.0), link.1)) (link_read forw more link)
 
-requeue_read : (forw : Option ℕ) (more : List ℕ) → IsLink forw → told_at (codes "Requeue(" ++ ((link_word forw ++ codes ")") ++ (codes " " ++ more))) ≡ Some (Told.Event (Event.Requeue forw), more)
-unfolding told_at other_tag_at other_asks_at own_tag_at own_asks_at whole_event_at event_at bare_event_at own_event_at memory_event_at step_event_at leaving_event_at queue_at requeue_at written_at written_words_at behind
+requeue_read : (forw : Option ℕ) (more : List ℕ) → IsLink forw → told_at (codes "Requeue(" ++ ((link_word forw ++ codes ")") ++ (codes " " ++ more))) ≡ Ok (Told.Event (Event.Requeue forw), more)
+unfolding told_at bare_event_at own_event_at memory_event_at step_event_at leaving_event_at own_asks_at other_asks_at long_told_at queue_at requeue_at written_at maybe_words_at new_words_at bare_told_at own_told_at label_at behind
 requeue_read forw more link =
-    let rest = link_word forw ++ (codes ") " ++ more) in
     ap (λ (l : List ℕ). told_at (codes "Requeue(" ++ l)) (append_assoc (link_word forw) (codes ")") (codes " " ++ more))
-    ∙ ap (λ (r : Option (Option ℕ × List ℕ)). told_event (r >>= λ link. Some (Event.Requeue link.0, link.1))) (link_read forw more link)
+    ∙ ap (λ (r : Result (Option ℕ × List ℕ) Lack). r >>= λ link. Ok (Told.Event (Event.Requeue link.0), link.1)) (link_read forw more link)
 
-words_read : (words : List ℕ) (more : List ℕ) → AreWords (Some words) → told_at (codes "Written(" ++ ((written_text (Some words) ++ codes ")") ++ (codes " " ++ more))) ≡ Some (Told.Event (Event.Written (Some words)), more)
-unfolding told_at other_tag_at other_asks_at own_tag_at own_asks_at whole_event_at event_at bare_event_at own_event_at memory_event_at step_event_at leaving_event_at queue_at requeue_at written_at written_words_at behind
+value_back : (part : Part) (v : ℕ) (rest : List ℕ) → v < 2 ^ 64 → NoDigit rest → value_at part (codes " " ++ (decimal v ++ rest)) ≡ Ok (v, rest)
+unfolding value_at
+value_back part v rest small none =
+    then_ok (label_at part (codes " ") (codes " " ++ (decimal v ++ rest))) (λ text. wants Part.Value text (number_at text)) (decimal v ++ rest) (Ok (v, rest)) (label_own part (codes " ") (decimal v ++ rest))
+    (ap (wants Part.Value (decimal v ++ rest)) (number_own v rest small none))
+
+no_digit_behind : (values rest : List ℕ) → NoDigit rest → NoDigit (values_text values ++ rest)
+no_digit_behind [] rest none = none
+no_digit_behind (v ∷ vs) rest none = refl
+
+values_back : (values rest : List ℕ) → All (λ v. v < 2 ^ 64) values → NoDigit rest → values_at (length values) (values_text values ++ rest) ≡ Ok (values, rest)
+unfolding values_at
+values_back [] rest small none = refl
+values_back (v ∷ vs) rest small none =
+    let first : v < 2 ^ 64 = small 0 v (omega arith) in
+    let others : All (λ v. v < 2 ^ 64) vs = λ i d lt. small (suc i) d (omega (arith, lt)) in
+    let more : List ℕ = values_text vs ++ rest in
+    let text : values_text (v ∷ vs) ++ rest ≡ codes " " ++ (decimal v ++ more) = append_assoc (codes " " ++ decimal v) (values_text vs) rest in
+    ap (values_at (length (v ∷ vs))) text
+    ∙ (then_ok (value_at Part.SpacedValue (codes " " ++ (decimal v ++ more))) (λ value. values_at (length vs) value.1 >>= λ values. Ok (value.0 ∷ values.0, values.1)) (v, more) (Ok (v ∷ vs, rest))
+    (value_back Part.SpacedValue v more first (no_digit_behind vs rest none))
+    (then_ok (values_at (length vs) more) (λ values. Ok (v ∷ values.0, values.1)) (vs, rest) (Ok (v ∷ vs, rest)) (values_back vs rest others none) refl))
+
+abbrev some_words : Result (List ℕ × List ℕ) Lack → Result (Option (List ℕ) × List ℕ) Lack
+some_words words = words >>= λ words. Ok (Some words.0, words.1)
+
+abbrev written_told : Result (List ℕ × List ℕ) Lack → Result (Told × List ℕ) Lack
+written_told words = some_words words >>= λ words. closed_at words.1 >>= λ text. Ok (Told.Event (Event.Written words.0), text)
+
+words_read : (words : List ℕ) (more : List ℕ) → AreWords (Some words) → told_at (codes "Written(" ++ ((written_text (Some words) ++ codes ")") ++ (codes " " ++ more))) ≡ Ok (Told.Event (Event.Written (Some words)), more)
+unfolding told_at bare_event_at own_event_at memory_event_at step_event_at leaving_event_at own_asks_at other_asks_at long_told_at queue_at requeue_at written_at maybe_words_at new_words_at bare_told_at own_told_at label_at behind
 words_read words more are =
     let behind_words = codes ") " ++ more in
     let rest = values_text words ++ behind_words in
-    let text = codes "Written(words" ++ rest in
-    let eight : values_at 8 rest ≡ Some (words, behind_words) = subst (λ (k : ℕ). values_at k rest ≡ Some (words, behind_words)) are.0 (values_own words behind_words are.1 refl) in
+    let eight : values_at 8 rest ≡ Ok (words, behind_words) = subst (λ (k : ℕ). values_at k rest ≡ Ok (words, behind_words)) are.0 (values_back words behind_words are.1 refl) in
     ap (λ (l : List ℕ). told_at (codes "Written(words" ++ l)) (append_assoc (values_text words) (codes ")") (codes " " ++ more))
-    ∙ ap (λ (r : Option (List ℕ × List ℕ)). told_event (first_of (r >>= λ words. behind (codes ") ") words.1 >>= λ text. Some (Event.Written (Some words.0), text)) (requeue_at text))) eight
+    ∙ ap written_told eight
+    ∙ then_ok (closed_at behind_words) (λ text. Ok (Told.Event (Event.Written (Some words)), text)) more (Ok (Told.Event (Event.Written (Some words)), more)) (closed_own more) refl
 
-told_read : (load : Option Load) (event : Event) (more : List ℕ) → IsBehind load event → told_at (event_name event ++ behind_name load event more) ≡ Some (told_of load event, more)
-unfolding told_at other_tag_at other_asks_at own_tag_at own_asks_at whole_event_at event_at bare_event_at own_event_at memory_event_at step_event_at leaving_event_at queue_at requeue_at written_at written_words_at behind
+told_read : (load : Option Load) (event : Event) (more : List ℕ) → IsBehind load event → told_at (event_name event ++ behind_name load event more) ≡ Ok (told_of load event, more)
+unfolding told_at bare_event_at own_event_at memory_event_at step_event_at leaving_event_at own_asks_at other_asks_at long_told_at queue_at requeue_at written_at maybe_words_at new_words_at bare_told_at own_told_at label_at behind closed_at word_and_space_at
 told_read load Event.Look more h = refl
 told_read load (Event.Queue forw) more h = queue_read forw more h
 told_read load (Event.Requeue forw) more h = requeue_read forw more h
@@ -301,10 +330,10 @@ told_read load Event.HomeWrite more h = refl
 
 -- an event with its outcome
 entry_read : (node line : ℕ) (load : Option Load) (event : Event) (e : Ending) → node < 65535 → line < 65536 → IsBehind load event → MayEnd (told_of load event) e
-    → noted_at (entry_place node line ++ (event_name event ++ (argument_text load event [] (codes ")") ++ outcome_text e))) ≡ Some (noted node line (told_of load event) (claim_of e))
+    → noted_at (entry_place node line ++ (event_name event ++ (argument_text load event [] (codes ")") ++ outcome_text e))) ≡ Ok (noted node line (told_of load event) (claim_of e))
 entry_read node line load event e n l is may =
     let text = event_name event ++ (argument_text load event [] (codes ")") ++ outcome_text e) in
-    let reads : told_at text ≡ Some (told_of load event, ending e) = ap (λ (t : List ℕ). told_at (event_name event ++ t)) (ending_behind (argument_text load event [] (codes ")")) e) ∙ told_read load event (ending e) is in
+    let reads : told_at text ≡ Ok (told_of load event, ending e) = ap (λ (t : List ℕ). told_at (event_name event ++ t)) (ending_behind (argument_text load event [] (codes ")")) e) ∙ told_read load event (ending e) is in
     placed node line text n l ∙ ended node line text (told_of load event) e reads may
 
 pub look_back : (node line : ℕ) → node < 65535 → line < 65536 → IsReadAs noted_at (look_line node line) (noted node line (Told.Event Event.Look) Claim.Done)
@@ -330,20 +359,18 @@ no_digit : (values : List ℕ) → NoDigit (values_text values)
 no_digit [] = refl
 no_digit (v ∷ vs) = refl
 
-opening_read : (number : ℕ) (content : Line) → number < 65536 → IsContent content → opening_at (codes "open " ++ (decimal number ++ values_text (content.stamp ∷ content.words))) ≡ Some (number, content)
-unfolding opening_at
+opening_read : (number : ℕ) (content : Line) → number < 65536 → IsContent content → opening_at (codes "open " ++ (decimal number ++ values_text (content.stamp ∷ content.words))) ≡ Ok (number, content)
+unfolding opening_at content_at end_at
 opening_read number content small is =
     let words = values_text content.words in
     let values = values_text (content.stamp ∷ content.words) in
-    let eight : values_at 8 words ≡ Some (content.words, []) =
-    subst (λ (k : ℕ). values_at k words ≡ Some (content.words, [])) is.eight (ap (values_at (length content.words)) (sym (append-nil words)) ∙ values_own content.words [] is.words refl) in
-    let stamp : value_at values ≡ Some (content.stamp, words) = value_own content.stamp words is.stamp (no_digit content.words) in
-    then_read (behind (codes "open ") (codes "open " ++ (decimal number ++ values))) (λ text. line_at text >>= λ line. value_at line.1 >>= λ stamp. values_at 8 stamp.1 >>= λ words. if is_ended words.1 then Some (line.0, record { words = words.0; stamp = stamp.0 }) else None)
-    (decimal number ++ values) (Some (number, content)) (behind_own (codes "open ") (decimal number ++ values))
-    (then_read (line_at (decimal number ++ values)) (λ line. value_at line.1 >>= λ stamp. values_at 8 stamp.1 >>= λ words. if is_ended words.1 then Some (line.0, record { words = words.0; stamp = stamp.0 }) else None)
-    (number, values) (Some (number, content)) (line_own number values small refl)
-    (then_read (value_at values) (λ stamp. values_at 8 stamp.1 >>= λ words. if is_ended words.1 then Some (number, record { words = words.0; stamp = stamp.0 }) else None) (content.stamp, words) (Some (number, content)) stamp
-    (then_read (values_at 8 words) (λ words. if is_ended words.1 then Some (number, record { words = words.0; stamp = content.stamp }) else None) (content.words, []) (Some (number, content)) eight refl)))
+    let eight : values_at 8 words ≡ Ok (content.words, []) =
+    subst (λ (k : ℕ). values_at k words ≡ Ok (content.words, [])) is.eight (ap (values_at (length content.words)) (sym (append-nil words)) ∙ values_back content.words [] is.words refl) in
+    let stamp : value_at Part.SpacedValue values ≡ Ok (content.stamp, words) = value_back Part.SpacedValue content.stamp words is.stamp (no_digit content.words) in
+    then_ok (word_and_space_at Part.Open (codes "open") (codes "open" ++ (codes " " ++ (decimal number ++ values)))) (λ text. line_at text >>= λ line. content_at Part.SpacedValue line.1 >>= λ content. Ok (line.0, content))
+    (decimal number ++ values) (Ok (number, content)) (word_own_space Part.Open (codes "open") (decimal number ++ values))
+    (then_ok (line_at (decimal number ++ values)) (λ line. content_at Part.SpacedValue line.1 >>= λ content. Ok (line.0, content)) (number, values) (Ok (number, content)) (count_own Part.LineNumber 65535 number values (omega arith) (omega (arith, small)) refl)
+    (rw stamp (rw eight refl)))
 
 pub opening_back : (opening : Opening) → opening.line < 65536 → IsContent opening.content → IsReadAs opening_at (opening_line opening) (opening.line, opening.content)
 opening_back opening small is =
@@ -351,19 +378,15 @@ opening_back opening small is =
     let front = codes "open " ++ decimal opening.line in
     (front ++ values, refl, plain_join front values (plain_join (codes "open ") (decimal opening.line) refl (decimal_plain opening.line)) (values_plain (opening.content.stamp ∷ opening.content.words)), opening_read opening.line opening.content small is)
 
-size_read : (size : Size) → IsSize size → memory_at (codes "memory " ++ (decimal size.nodes ++ (codes " " ++ decimal size.lines))) ≡ Some size
-unfolding memory_at
+size_read : (size : Size) → IsSize size → memory_at (codes "memory " ++ (decimal size.nodes ++ (codes " " ++ decimal size.lines))) ≡ Ok size
+unfolding memory_at end_at
 size_read size is =
     let few : size.nodes ≤ 1024 = is.few_nodes in
-    let lines : capped_at 65535 (decimal size.lines) ≡ Some (size.lines, []) =
-    ap (capped_at 65535) (sym (append-nil (decimal size.lines))) ∙ capped_own 65535 size.lines [] (omega (arith, is.few_lines)) (omega (arith, is.few_lines)) refl in
-    let last = codes " " ++ decimal size.lines in
-    then_read (behind (codes "memory ") (codes "memory " ++ (decimal size.nodes ++ last))) (λ text. capped_at 65535 text >>= λ nodes. behind (codes " ") nodes.1 >>= λ text. capped_at 65535 text >>= λ lines. if is_ended lines.1 then Some (record { nodes = nodes.0; lines = lines.0 }) else None)
-    (decimal size.nodes ++ last) (Some size) (behind_own (codes "memory ") (decimal size.nodes ++ last))
-    (then_read (capped_at 65535 (decimal size.nodes ++ last)) (λ nodes. behind (codes " ") nodes.1 >>= λ text. capped_at 65535 text >>= λ lines. if is_ended lines.1 then Some (record { nodes = nodes.0; lines = lines.0 }) else None)
-    (size.nodes, last) (Some size) (capped_own 65535 size.nodes last (omega (arith, few)) (omega (arith, few)) refl)
-    (then_read (behind (codes " ") last) (λ text. capped_at 65535 text >>= λ lines. if is_ended lines.1 then Some (record { nodes = size.nodes; lines = lines.0 }) else None) (decimal size.lines) (Some size) (behind_own (codes " ") (decimal size.lines))
-    (then_read (capped_at 65535 (decimal size.lines)) (λ lines. if is_ended lines.1 then Some (record { nodes = size.nodes; lines = lines.0 }) else None) (size.lines, []) (Some size) lines refl)))
+    let lines : count_at size_part 65535 (decimal size.lines) ≡ Ok (size.lines, []) =
+    ap (count_at size_part 65535) (sym (append-nil (decimal size.lines))) ∙ count_own size_part 65535 size.lines [] (omega arith) (omega (arith, is.few_lines)) refl in
+    then_ok (numbered_at Part.Memory (codes "memory") size_part 65535 (codes "memory" ++ (codes " " ++ (decimal size.nodes ++ (codes " " ++ decimal size.lines))))) (λ nodes. count_at size_part 65535 nodes.1 >>= λ lines. end_at lines.1 >>= λ end. Ok (record { nodes = nodes.0; lines = lines.0 }))
+    (size.nodes, decimal size.lines) (Ok size) (numbered_own Part.Memory (codes "memory") size_part 65535 size.nodes (decimal size.lines) (omega arith) (omega (arith, few)))
+    (then_ok (count_at size_part 65535 (decimal size.lines)) (λ lines. end_at lines.1 >>= λ end. Ok (record { nodes = size.nodes; lines = lines.0 })) (size.lines, []) (Ok size) lines refl)
 
 pub size_back : (size : Size) (openings : List Opening) → IsSize size → (line : List ℕ) × (log_head size openings ≡ line ++ flat_map opening_line openings) × IsReadAs memory_at line size
 size_back size openings is =

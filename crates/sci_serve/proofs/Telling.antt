@@ -1,5 +1,5 @@
 -- What is told of a dump's lines, one after another.
-use Rattle.std.proofs.Common.{◌≡◌, ℕ, ◌+◌, List, [], ◌∷◌, ◌++◌, length, take, Option, Ok, refl, sym, ap, ◌∙◌, subst, arith, inl, inr, length-append, append-nil, slice_index_or}
+use Rattle.std.proofs.Common.{◌≡◌, ℕ, ◌+◌, List, [], ◌∷◌, ◌++◌, length, take, Option, Ok, refl, sym, ap, ◌∙◌, subst, arith, inl, inr, length-append, append-nil, slice_index_or, None}
 use Rattle.std.specs.Prelude.{codes}
 use Rattle.std.specs.Io.KnownBytes.{Appends}
 use Rattle.std.proofs.KnownBytes.{Appends-trans}
@@ -7,7 +7,6 @@ use Rattle.std.proofs.lemmas.List.{get_or_append_left, take-append-le}
 use Rattle.std.proofs.lemmas.List.Elements.{All-push, All-nil}
 use Rattle.std.proofs.Math.Seq.{get_or-append_seam, take-append_seam, take-append-add}
 use Rattle.sci_core.specs.Closed.{ClosedLine, IsExactClosed}
-use Rattle.sci_script.specs.declared.refusals.ScriptRefusal.TheVariants.{OutOfMemory}
 use Rattle.sci_dump.specs.declared.checking.Rule.{Rule}
 use Rattle.sci_dump.specs.declared.checking.Verdict.{Verdict}
 use Rattle.sci_dump.specs.declared.checking.Verdict.TheVariants.{Lawful, Unlawful}
@@ -18,8 +17,10 @@ use Rattle.sci_dump.specs.Reading.{dump_of}
 use Rattle.sci_dump.specs.Rules.{KeepsEnding, BreaksFirst}
 use Rattle.sci_dump.specs.Streams.{lines_before_fault, StopsBehind}
 use Rattle.sci_serve.specs.declared.faults.SimFault.{SimFault}
+use Rattle.sci_serve.specs.declared.faults.SimFault.TheVariants.{CannotRead, CannotWrite, InputTooLong, Refused, NoDump, Unlawful as SaysNo, NoRun}
+use Rattle.sci_serve.specs.Explaining.{OfDump}
 use Rattle.sci_serve.specs.Verdicts.{list_of, AreListsOf, unlawful_line}
-use Rattle.sci_serve.specs.Large.{stream_fault_of, IsTold, Tells, FailsTelling, FailsConcluding, ChecksLarge, StopsLarge}
+use Rattle.sci_serve.specs.Large.{stream_fault_of, stream_reason_of, IsWhyStopped, IsTold, Tells, FailsTelling, FailsConcluding, ChecksLarge, StopsLarge}
 use Rattle.sci_serve.proofs.Listing.{lists_more}
 
 pub told_none : IsTold [] Lawful []
@@ -73,7 +74,23 @@ pub stream_stops : (e : StreamFault) (input text : List ℕ) (cs : List ClosedLi
     → Ends (stream_fault_of e) input old new
 stream_stops streams.OutOfMemory input text cs verdict old new sound h told appended = (text, (length cs, verdict, subst (λ (ds : List ClosedLine). IsTold ds verdict text) (sym sound) told), appended)
 stream_stops streams.CannotRead input text cs verdict old new sound h told appended = (text, (length cs, verdict, subst (λ (ds : List ClosedLine). IsTold ds verdict text) (sym sound) told), appended)
-stream_stops (streams.DumpFault row) input text cs verdict old new sound h told appended = (text, (h.0, verdict, subst (λ (ds : List ClosedLine). IsTold ds verdict text) (sym h.1) told), appended)
+stream_stops (streams.DumpFault row) input text cs verdict old new sound h told appended = (text, (h.0.0, verdict, subst (λ (ds : List ClosedLine). IsTold ds verdict text) (sym h.1) told), appended)
+
+-- and why
+pub stream_row : (e : StreamFault) (input : List ℕ) (cs : List ClosedLine) → StopsBehind e input cs → OfDump (stream_fault_of e) input (stream_reason_of e)
+stream_row streams.OutOfMemory input cs h = refl
+stream_row streams.CannotRead input cs h = refl
+stream_row (streams.DumpFault row) input cs h = (row, h.0, refl)
+
+-- no line of text is refused
+pub no_row : (e : SimFault) (input : List ℕ) → IsWhyStopped e None → OfDump e input None
+no_row CannotRead input why = refl
+no_row CannotWrite input why = refl
+no_row InputTooLong input why = refl
+no_row (Refused e) input why = refl
+no_row (NoDump n) input why = absurd (let e = why.1 in cc)
+no_row SaysNo input why = refl
+no_row (NoRun e) input why = refl
 
 -- a line isn't told
 pub tell_stops : (e : SimFault) (input text : List ℕ) (cs : List ClosedLine) (c : ClosedLine) (before : Verdict) (number : ℕ) (old mid new : Option (List ℕ)) → take (length cs) (lines_before_fault input) ≡ cs

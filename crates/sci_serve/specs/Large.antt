@@ -13,6 +13,7 @@ use Rattle.sci_dump.specs.Dumps.{DumpLines}
 use Rattle.sci_dump.specs.Reading.{dump_of}
 use Rattle.sci_dump.specs.Rules.{IsVerdictOf}
 use Rattle.sci_dump.specs.Streams.{lines_before_fault}
+use Rattle.sci_reasons.specs.Reasons.{fault_of}
 use Rattle.sci_reasons.specs.declared.reasons.RowFault.{RowFault}
 use Rattle.sci_serve.specs.declared.faults.SimFault.{SimFault}
 use Rattle.sci_serve.specs.declared.faults.SimFault.TheVariants.{CannotRead, CannotWrite, InputTooLong, Refused, NoDump, Unlawful as SaysNo, NoRun}
@@ -22,6 +23,10 @@ abbrev pub stream_fault_of : StreamFault → SimFault
 stream_fault_of streams.OutOfMemory = Refused OutOfMemory
 stream_fault_of (streams.DumpFault row) = NoDump row.number
 stream_fault_of streams.CannotRead = CannotRead
+
+abbrev pub stream_reason_of : StreamFault → Option RowFault
+stream_reason_of (streams.DumpFault row) = Some (fault_of row)
+stream_reason_of e = None
 
 -- each line's list line, up to the first line that is unlawful, and which rule that breaks
 abbrev pub IsToldOf : List ClosedLine → Verdict → List ℕ → Type 0

@@ -1,5 +1,5 @@
 -- What is read of the lines of a log that a run writes. This project's profile.
-use Rattle.std.specs.Prelude.{◌≡◌, ℕ, ◌<◌, ◌^◌, ◌==◌, ◌&&◌, not, Bool, true, false, List, ◌++◌, length, All, Option, Some, None, codes, is_some}
+use Rattle.std.specs.Prelude.{◌≡◌, ℕ, ◌<◌, ◌^◌, ◌==◌, ◌&&◌, not, Bool, true, false, List, ◌++◌, length, All, Option, Some, None, Result, Ok, codes, is_some}
 use Rattle.std.specs.List.{list_all}
 use Rattle.sci_words.specs.declared.tags.Kind.{Kind}
 use Rattle.sci_words.specs.declared.tags.Tag.{Tag}
@@ -12,7 +12,7 @@ use Rattle.sci_follow.specs.declared.told.Asks.{Asks}
 use Rattle.sci_follow.specs.declared.told.Found.{Found}
 use Rattle.sci_follow.specs.declared.told.Told.{Told}
 use Rattle.sci_follow.specs.declared.told.Noted.{Noted}
-use Rattle.sci_follow.specs.LineText.{sample}
+use Rattle.sci_follow.specs.Names.{sample}
 
 -- no byte of it is a line feed or a carriage return
 abbrev pub is_kept : ℕ → Bool
@@ -22,8 +22,8 @@ abbrev pub IsPlain : List ℕ → Type 0
 IsPlain bytes = list_all is_kept bytes ≡ true
 
 -- one line of text that is read as this
-abbrev pub IsReadAs : {A : Type 0} → (List ℕ → Option A) → List ℕ → A → Type 0
-IsReadAs read line told = (text : List ℕ) × (line ≡ text ++ codes "\n") × IsPlain text × (read text ≡ Some told)
+abbrev pub IsReadAs : {A E : Type 0} → (List ℕ → Result A E) → List ℕ → A → Type 0
+IsReadAs read line told = (text : List ℕ) × (line ≡ text ++ codes "\n") × IsPlain text × (read text ≡ Ok told)
 
 -- a tag with the name of this one
 abbrev pub is_followed : Kind → Option ℕ → Bool

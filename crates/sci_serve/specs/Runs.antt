@@ -1,5 +1,6 @@
 -- What a workload comes to, and what the command `run` writes of it. This project's profile.
 use Rattle.std.specs.Prelude.{◌≡◌, ℕ, ◌+◌, ◌*◌, ◌/◌, ◌%◌, ◌^◌, ◌≤◌, List, [], ◌++◌, length, codes, Some, Bool, IsUtf8, if◌then◌else◌}
+use Rattle.sci_core.specs.declared.receipts.Receipt.{Receipt}
 use Rattle.sci_core.specs.Closed.{ClosedLine}
 use Rattle.sci_script.specs.declared.refusals.ScriptRefusal.TheVariants.{OutOfMemory}
 use Rattle.sci_words.specs.declared.layouts.Layout.TheVariants.{Two}
@@ -7,8 +8,9 @@ use Rattle.sci_dump.specs.Text.{dump_text}
 use Rattle.sci_work.specs.declared.refusals.WorkRefusal.{WorkRefusal}
 use Rattle.sci_work.specs.Ended.{AreClosed, HaveNodes, IsCounted, IsCountSize, any_words}
 use Rattle.sci_work.specs.Plain.{plain}
-use Rattle.sci_work.specs.Ring.{FitsRing, IsRingRun}
-use Rattle.sci_work.specs.Stencil.{FitsStencil, IsStencilSize}
+use Rattle.sci_work.specs.Ring.{FitsRing, IsRingRun, ring_writes}
+use Rattle.sci_work.specs.Stencil.{FitsStencil, IsStencilSize, stencil_writes}
+use Rattle.sci_work.specs.Written.{AddsAlone, WritesAlone}
 use Rattle.sci_serve.specs.declared.settings.Settings.{Settings}
 use Rattle.sci_serve.specs.declared.settings.Settings.TheVariants.{Stencil, Ring, Count}
 use Rattle.sci_serve.specs.declared.faults.SimFault.{SimFault}
@@ -41,6 +43,13 @@ abbrev pub fits_of : Settings → ℕ → List ℕ → Type 0
 fits_of (Stencil nodes capacity phases cells dump) = FitsStencil cells phases
 fits_of (Ring lines capacity items dump) = FitsRing items lines
 fits_of (Count nodes adds capacity dump) = λ k. any_words
+
+-- what the receipts of a node on a line have as its writes: of a stencil the node's tiles phase by phase, of a ring node 0 the items and
+-- node 1 how many it has read, of a count the node's adds; and no others
+abbrev pub writes_of : Settings → ℕ → ℕ → List Receipt → Type 0
+writes_of (Stencil nodes capacity phases cells dump) = WritesAlone (stencil_writes cells phases nodes (length cells / 7))
+writes_of (Ring lines capacity items dump) = WritesAlone (ring_writes items lines)
+writes_of (Count nodes adds capacity dump) = AddsAlone adds
 
 -- the lines of these settings as their work leaves them
 abbrev pub AreLeftBy : Settings → List ClosedLine → Type 0

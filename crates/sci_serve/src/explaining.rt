@@ -1,8 +1,6 @@
 //! Why a text is refused, in words.
 ghost use Rattle.std.specs.Prelude.{IfOk};
-ghost use Rattle.sci_serve.specs.Explaining.{IsToldOf, OfSettings, OfRows};
-ghost use Rattle.sci_dump.specs.Reading.{dump_of};
-ghost use Rattle.sci_histories.specs.Reading.{history_of};
+ghost use Rattle.sci_serve.specs.Explaining.{IsToldOf, OfSettings, OfDump, OfHistory};
 
 use crate::faults::SimFault;
 use crate::reasons::explanation;
@@ -56,7 +54,7 @@ fn of_settings(
 
 /// Why a dump is refused so.
 fn of_dump(alloc: Global, fault: SimFault, input: &[u8]) -> Result<Option<RowFault>, AllocError>
-    ensures { IfOk result (OfRows fault (dump_of input.now)) }
+    ensures { IfOk result (OfDump fault input.now) }
 {
     match fault {
         SimFault::NoDump(_) => why_dump(alloc, input),
@@ -66,7 +64,7 @@ fn of_dump(alloc: Global, fault: SimFault, input: &[u8]) -> Result<Option<RowFau
 
 /// Why a history is refused so.
 fn of_history(alloc: Global, fault: SimFault, input: &[u8]) -> Result<Option<RowFault>, AllocError>
-    ensures { IfOk result (OfRows fault (history_of input.now)) }
+    ensures { IfOk result (OfHistory fault input.now) }
 {
     match fault {
         SimFault::NoDump(_) => why_history(alloc, input),

@@ -277,7 +277,8 @@ fn begun(gathered: Gathered, reads: usize) -> Result<Beginning, AllocError>
 }
 
 impl Beginning {
-    /// Reads an input until its first word is known. One that has neither ended nor told it within 2,097,152 reads can't be read.
+    /// Reads an input until its first word is known. Refusal 7: a growth of memory was refused; `CannotRead`: a read failed, but where
+    /// it was interrupted, or none of 2,097,152 reads ended the input or told the word. What was read is then gone.
     pub fn read<R: Read>(alloc: Global, reader: &mut R) -> Result<Beginning, SimFault>
         ensures kind { IfOk result (λ b. IfSome (R.remaining reader.old) (λ input. b.kind ≡ kind_of input)) }
         ensures kept { IfOk result (λ b. (gone : List ℕ) × Consumes (R.remaining reader.old) (R.remaining reader.new) (gone ++ b.front.items) × StandFor b.kind b.feeds gone) }

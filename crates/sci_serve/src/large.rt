@@ -5,7 +5,8 @@ ghost use Rattle.std.specs.Io.KnownBytes.{Appends, IsAtEnd};
 ghost use Rattle.sci_core.specs.Closed.{ClosedLine};
 ghost use Rattle.sci_dump.specs.declared.checking.Verdict.TheVariants.{Lawful};
 ghost use Rattle.sci_dump.specs.Streams.{HasRead};
-ghost use Rattle.sci_serve.specs.Large.{stream_fault_of, IsTold, Tells, FailsTelling, FailsConcluding, ChecksLarge, StopsLarge, IsWhyStopped};
+ghost use Rattle.sci_serve.specs.Explaining.{OfDump};
+ghost use Rattle.sci_serve.specs.Large.{stream_fault_of, stream_reason_of, IsTold, Tells, FailsTelling, FailsConcluding, ChecksLarge, StopsLarge, IsWhyStopped};
 
 use crate::faults::SimFault;
 use crate::verdicts::{push_list, unlawful_text};
@@ -20,11 +21,12 @@ use std::io::{BufRead, Write};
 /// The fault, and why a line of text is refused.
 fn told_of(fault: StreamFault) -> (SimFault, Option<RowFault>)
     ensures fault { result.0 ≡ stream_fault_of fault }
+    ensures row { result.1 ≡ stream_reason_of fault }
     ensures why { IsWhyStopped result.0 result.1 }
 {
     match fault {
         StreamFault::OutOfMemory => (SimFault::Refused(ScriptRefusal::OutOfMemory), None),
-        StreamFault::DumpFault(row) => (SimFault::NoDump(row.number), Some(why_row(&row))),
+        StreamFault::DumpFault(row) => (SimFault::NoDump(row.number), Some(why_row(row))),
         StreamFault::CannotRead => (SimFault::CannotRead, None),
     }
 }
@@ -102,6 +104,7 @@ fn check_lines<R: BufRead, W: Write>(
     ensures err { IfErr result (λ x. (input : List ℕ) → HasRead input [] first (R.remaining reader.old)
         → (written : List ℕ) × StopsLarge x.0 input written × Appends (W.contents writer.old) (W.contents writer.new) written) }
     ensures why { IfErr result (λ x. IsWhyStopped x.0 x.1) }
+    ensures row { IfErr result (λ x. (input : List ℕ) → HasRead input [] first (R.remaining reader.old) → OfDump x.0 input x.1) }
 {
     let mut stream = first;
     let mut verdict = Verdict::Lawful;
@@ -151,6 +154,8 @@ pub fn serve_check_large_told<R: BufRead, W: Write>(
     ensures err { IfErr result (λ x. IfSome (R.remaining reader.old) (λ input. (written : List ℕ) × StopsLarge x.0 input written
         × Appends (W.contents writer.old) (W.contents writer.new) written)) }
     ensures why { IfErr result (λ x. IsWhyStopped x.0 x.1) }
+    // as `explained` tells it
+    ensures row { IfErr result (λ x. IfSome (R.remaining reader.old) (λ input. OfDump x.0 input x.1)) }
 {
     let first = match DumpStream::open(alloc, reader) {
         Err(fault) => return Err(told_of(fault)),

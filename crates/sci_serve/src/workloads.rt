@@ -1,9 +1,10 @@
 //! Workloads, by their settings.
 
-ghost use Rattle.std.specs.Prelude.{◌≡◌, IfOk, IfErr};
-ghost use Rattle.sci_work.specs.Ended.{AreKept};
+ghost use Rattle.std.specs.Prelude.{◌≡◌, map, IfOk, IfErr};
+ghost use Rattle.sci_work.specs.Ended.{AreKept, lists_in};
+ghost use Rattle.sci_work.specs.Written.{AreWrittenAs};
 ghost use Rattle.sci_work.specs.declared.keeping.Keeping as keepings;
-ghost use Rattle.sci_serve.specs.Runs.{AreLeftBy, AreWithin, ComesInRun, fits_of, nodes_of, result_line};
+ghost use Rattle.sci_serve.specs.Runs.{AreLeftBy, AreWithin, ComesInRun, fits_of, nodes_of, result_line, writes_of};
 ghost use Rattle.sci_serve.specs.Worked.{worked_line};
 
 use crate::faults::SimFault;
@@ -36,6 +37,7 @@ pub(crate) fn run_workload<T: Threads + Wait + Sync, G: Gate>(
     ensures line { IfOk result (λ r. worked_line r.0 ≡ result_line settings.now) }
     ensures left { IfOk result (λ r. AreLeftBy settings.now r.1.lines.items) }
     ensures kept { keeping ≡ keepings.Keeping.All → IfOk result (λ r. AreKept keepings.Keeping.All (fits_of settings.now) (nodes_of settings.now) r.1) }
+    ensures wrote { IfOk result (λ r. AreWrittenAs (writes_of settings.now) (map lists_in r.1.receipts.items)) }
     ensures err { IfErr result ComesInRun }
 {
     match settings {

@@ -111,6 +111,22 @@ fn judged_slowly(rt: &impl Abort, alloc: Global, row: &Row) -> Result<(), AllocE
     Ok(())
 }
 
+/// The end of a text is read once, wherever it stands: at a terminal one key says it.
+#[test]
+fn ends_read_once(rt: HostRuntime) -> Result<(), AllocError> {
+    let text = SECOND_UNLAWFUL.as_bytes();
+    for end in 0..=text.len() {
+        let mut slow = Slow::new(&text[..end], false);
+        let mut reader = BufReader::with_capacity(rt.alloc(), 3, &mut slow).map_err(
+            |_| AllocError,
+        )?;
+        let _ = serve_check_large(rt.alloc(), &mut reader, &mut sink());
+        drop(reader);
+        same_at(&rt, &end, &slow.reads, &(end + 1));
+    }
+    Ok(())
+}
+
 #[test]
 fn judged_from_slow_readers(rt: HostRuntime) -> Result<(), AllocError> {
     for row in &ROWS {

@@ -141,7 +141,7 @@ const TEXTS: [(Text, SimFault, &str, &str); 9] = [
         Text::Dump,
         SimFault::NoDump(1),
         "scidump 2 0 1\n",
-        "word 3: a number from 1 to 1024 wanted",
+        "word 3: a number from 1 to 1024 wanted, 0 found",
     ),
     (
         Text::Dump,
@@ -153,7 +153,7 @@ const TEXTS: [(Text, SimFault, &str, &str); 9] = [
         Text::History,
         SimFault::NoDump(1),
         "scihistory 2 1 1\n",
-        "word 2: 1 wanted",
+        "word 2: 1 wanted, 2 found",
     ),
     (
         Text::History,

@@ -5,18 +5,21 @@ use Rattle.std.specs.Prelude.{All}
 use Rattle.std.specs.Global.{Vec}
 use mathlib.Core.Option.{some, some-injective, some-ne-none}
 use lib.ListN.{get_elem?}
+use Rattle.sci_core.specs.declared.keeps.Keeps as keeps
 use Rattle.sci_core.specs.declared.lines.Line.{Line}
 use Rattle.sci_core.specs.declared.receipts.Receipt.{Receipt}
 use Rattle.sci_core.specs.Closed.{ClosedLine, IsExactClosed, value_of}
 use Rattle.sci_core.specs.State.{blank}
 use Rattle.sci_port.proofs.Seated.{at_place}
 use Rattle.sci_fine.specs.declared.line.FineLine.{FineLine}
+use Rattle.sci_fine.specs.declared.seats.Seat.{Seat}
 use Rattle.sci_fine.specs.Banks.{IsLine}
 use Rattle.sci_fine.proofs.Elements.{inside, each_all}
 use Rattle.sci_work.specs.declared.keeping.ClosedMemory.{ClosedMemory}
 use Rattle.sci_work.specs.declared.keeping.Keeping.{Keeping}
-use Rattle.sci_work.specs.Ended.{AreClosed, AreClosedOf, AreHistories, AreHistoriesOn, AreKept, AreKeptOn, HaveNodes, IsHistoryOn, IsLineHistory, lists_in}
+use Rattle.sci_work.specs.Ended.{AreClosed, AreClosedOf, AreHistories, AreHistoriesOn, AreKept, AreKeptOn, AreOfHands, HaveNodes, IsHistoryOn, IsLineHistory, lists_in}
 use Rattle.sci_work.specs.Hands.{AtEach}
+use Rattle.sci_work.specs.Written.{AreWrittenAs}
 
 -- lines of one fact, numbered from 0
 pub closed_under : {K : Type 0} (fits : K → ℕ → List ℕ → Type 0) (nodes : ℕ) (keep : K) (count : ℕ) (lines : List (FineLine K)) (closed : List ClosedLine)
@@ -48,6 +51,10 @@ pub kept_by : {K : Type 0} (fits : K → ℕ → List ℕ → Type 0) (keeping :
 kept_by fits Keeping.All lines memory all nothing = all refl
 kept_by fits Keeping.Nothing lines memory all nothing = nothing refl
 
+pub own_by : {K : Type 0} {g : keeps.Ghosts K} (keeping : Keeping) (hands : List (Vec (Seat K g))) (memory : ClosedMemory) → (keeping ≡ Keeping.All → AreOfHands hands memory) → (keeping ≡ Keeping.Nothing → memory.receipts.items ≡ []) → AreOfHands hands memory
+own_by Keeping.All hands memory all nothing = all refl
+own_by Keeping.Nothing hands memory all nothing = λ line lists at. absurd (some-ne-none lists (sym (subst (λ (z : List (Vec (Vec Receipt))). get_elem? z line ≡ some lists) (nothing refl) at)))
+
 -- the history of a line of this number and of so many nodes, opened with zeros under this fact
 pub line_history : {K : Type 0} (fits : K → ℕ → List ℕ → Type 0) (nodes : ℕ) (keep : K) (number : ℕ) (l : FineLine K) (c : ClosedLine) (lists : List (List Receipt))
     → IsLine nodes keep number l → l.terms.opening ≡ blank → IsHistoryOn fits l c lists → IsLineHistory (fits keep number) nodes blank c lists
@@ -69,7 +76,7 @@ one_history fits nodes closed kept lines receipts one lists history =
     places (suc k) c l at told = absurd (some-ne-none c (sym at))
 
 -- what stands at a place of a mapped list comes of the element there
-read_from : {A B : Type 0} (f : A → B) (xs : List A) (k : ℕ) (y : B) → get_elem? (map f xs) k ≡ some y → (x : A) × (get_elem? xs k ≡ some x) × (f x ≡ y)
+pub read_from : {A B : Type 0} (f : A → B) (xs : List A) (k : ℕ) (y : B) → get_elem? (map f xs) k ≡ some y → (x : A) × (get_elem? xs k ≡ some x) × (f x ≡ y)
 read_from f [] k y at = absurd (some-ne-none y (sym at))
 read_from f (x ∷ xs) zero y at = (x, refl, some-injective (f x) y at)
 read_from f (x ∷ xs) (suc k) y at = read_from f xs k y at
@@ -85,3 +92,13 @@ kept_under fits Keeping.All nodes keep lines memory are zeros ended kept = recor
       subst (λ (z : List (List Receipt)). IsLineHistory (fits keep k) nodes blank c z) v.2 (line_history fits nodes keep k l.0 c (lists_in v.0) (are k l.0 l.1) (zeros k l.0 l.1) (kept.each k l.0 c v.0 l.1 at v.1));
 }
 kept_under fits Keeping.Nothing nodes keep lines memory are zeros ended kept = kept
+
+-- the lists of a memory, by what its hands' seats have
+pub written_by : {K : Type 0} {g : keeps.Ghosts K} (own : ℕ → ℕ → List Receipt → Type 0) (fits : K → ℕ → List ℕ → Type 0) (keeping : Keeping) (lines : List (FineLine K)) (hands : List (Vec (Seat K g))) (memory : ClosedMemory)
+    → (keeping ≡ Keeping.All → AtEach (λ node hand. AtEach (λ line s. own node line s.receipts.list) hand.items) hands) → AreKeptOn keeping fits lines memory → AreOfHands hands memory → AreWrittenAs own (map lists_in memory.receipts.items)
+written_by own fits Keeping.All lines hands memory all kept of = λ line ls at node list here.
+    let v = read_from lists_in memory.receipts.items line ls at in
+    let is = of line v.0 v.1 node list (subst (λ (z : List (List Receipt)). get_elem? z node ≡ some list) (sym v.2) here) in
+    subst (own node line) is.4 (all refl node is.0 is.1 line is.2 is.3)
+written_by own fits Keeping.Nothing lines hands memory all kept of = λ line ls at.
+    absurd (some-ne-none ls (sym (subst (λ (z : List (Vec (Vec Receipt))). get_elem? (map lists_in z) line ≡ some ls) kept at)))

@@ -6,13 +6,16 @@ use mathlib.Core.Option.{some, some-injective, some-ne-none}
 use lib.ListN.{get_elem?}
 use Rattle.atomic_table.proofs.Lists.{at_last, at_longer}
 use Rattle.sci_core.specs.declared.keeps.Keeps as keeps
+use Rattle.sci_port.specs.KeepsAll.{writes_in}
+use Rattle.sci_port.specs.ReceiptList.{ReceiptList}
 use Rattle.sci_fine.specs.declared.line.FineLine.{FineLine}
 use Rattle.sci_fine.specs.declared.seats.Seat.{Seat}
 use Rattle.sci_fine.specs.Seats.{AreIdleFrom, AreNew}
 use Rattle.sci_fine.proofs.Elements.{inside, at_end}
 use Rattle.sci_fine.proofs.KeptAll.{begins_kept}
 use Rattle.sci_work.specs.declared.keeping.Keeping.{Keeping}
-use Rattle.sci_work.specs.Hands.{AtEach, HoldEach, IsHandOf, IsIdleSeat}
+use Rattle.sci_work.specs.Hands.{AtEach, HasWrittenNothing, HoldEach, IsHandOf, IsIdleSeat, IsNewHand, IsNewSeat}
+use Rattle.sci_work.proofs.Seated.{at_more}
 
 same_tail : {A : Type 0} (x y : A) (xs ys : List A) → x ∷ xs ≡ y ∷ ys → xs ≡ ys
 same_tail x y xs ys e = cc
@@ -52,6 +55,16 @@ module _ {K : Type 0} {g : keeps.Ghosts K} where
   new_seats l seats idle new k s at =
       let i = idle k s at in let n = new k s at in let same : k + 0 ≡ k = omega arith in
       record { of = i.0; node_is = i.1 ∙ same; idle = i.2; kept = λ _. begins_kept s n.0 i.2 n.1 }
+
+  -- so they have written nothing
+  pub are_new : (l : FineLine K) (seats : List (Seat K g)) → AtEach (λ k s. IsIdleSeat Keeping.All k l s) seats → AreNew seats → AtEach (λ k s. IsNewSeat k l s) seats
+  are_new l seats idle new k s at = (idle k s at, ap (λ (r : ReceiptList). writes_in r.list) (new k s at).1)
+
+  pub no_new_hand : (node : ℕ) (seats : List (Seat K g)) → seats ≡ [] → IsNewHand [] node seats
+  no_new_hand node seats is = (no_hand node seats is, subst HasWrittenNothing (sym is) (λ k s at. absurd (some-ne-none s (sym at))))
+
+  pub new_hand_more : (lines : List (FineLine K)) (l : FineLine K) (node : ℕ) (hand more : List (Seat K g)) (s : Seat K g) → more ≡ hand ++ s ∷ [] → IsNewHand lines node hand → IsNewSeat node l s → IsNewHand (lines ++ l ∷ []) node more
+  new_hand_more lines l node hand more s is h new = (hand_more lines l node hand more s is h.0 new.0, at_more (λ k x. writes_in x.receipts.list ≡ []) hand more s is h.1 new.1)
 
   abbrev pub held : List (Vec (Seat K g)) → List (List (Seat K g))
   held hands = map (λ (h : Vec (Seat K g)). h.items) hands

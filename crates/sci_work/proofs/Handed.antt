@@ -15,14 +15,19 @@ use Rattle.sci_port.proofs.Seated.{at_place, read_at}
 use Rattle.sci_fine.specs.declared.line.FineLine.{FineLine}
 use Rattle.sci_fine.specs.declared.seats.Seat.{Seat}
 use Rattle.sci_fine.specs.Banks.{AreLines, AreSeatsAt, IsLine, seating_of}
+use Rattle.sci_fine.specs.Kept.{lists_of}
 use Rattle.sci_fine.specs.Seats.{AreNew}
 use Rattle.sci_fine.proofs.KeptBank.{AllKept}
 use Rattle.sci_work.specs.declared.keeping.Keeping.{Keeping}
 use Rattle.sci_work.specs.declared.programs.Program.{Program}
 use Rattle.sci_work.specs.Adding.{AreAdds}
-use Rattle.sci_work.specs.Hands.{AtEach, HoldEach, IsHandOf}
+use Rattle.sci_work.specs.Hands.{AtEach, HasWrittenNothing, HoldEach, IsHandOf}
 use Rattle.sci_work.specs.Programs.{HasWritten, Suits}
-use Rattle.sci_work.specs.Starts.{HasAddedAll, HasWrittenNothing}
+use Rattle.sci_work.specs.Ring.{ring_writes}
+use Rattle.sci_work.specs.Starts.{HasWrittenAll}
+use Rattle.sci_work.specs.Stencil.{stencil_writes}
+use Rattle.sci_work.specs.Written.{AddsAlone, AreWrittenAs, HasWrote, words_in, words_of, words_on}
+use Rattle.sci_work.proofs.Closing.{read_from}
 use Rattle.sci_work.proofs.Dealing.{hand_at, seat_at}
 use Rattle.sci_work.proofs.Seated.{all_idle, fact_is, hand_again, node_is}
 
@@ -44,30 +49,47 @@ module _ {K : Type 0} {g : keeps.Ghosts K} where
       (subst (λ (z : List (FineLine K)). IsHandOf keeping z number seats) same
       (subst (λ (n : ℕ). IsHandOf keeping ls n seats) mine (hand_again ls node keep seats of idle kept)))
 
-  first_none : (seats : List (Seat K g)) → ((s : Seat K g) → get_elem? seats 0 ≡ some s → writes_in s.receipts.list ≡ []) → writes_in (receipts_on seats 0).list ≡ []
-  first_none [] all = refl
-  first_none (x ∷ xs) all = all x refl
+  none_on : (seats : List (Seat K g)) → HasWrittenNothing seats → (line : ℕ) → writes_in (receipts_on seats line).list ≡ []
+  none_on [] all line = refl
+  none_on (x ∷ xs) all zero = all 0 x refl
+  none_on (x ∷ xs) all (suc line) = none_on xs (λ k s at. all (suc k) s at) line
 
-  -- a node that began with no writes has ended with those of its program
-  pub ends_so : (program : Program) (before after : List (Seat K g)) → HasWrittenNothing program before → HasWritten program (receipts_on before 0).list (receipts_on after 0).list → HasAddedAll program after
-  ends_so (Program.Count adds) before after begins written = λ s at.
-      let none : writes_in (receipts_on before 0).list ≡ [] = first_none before begins in
-      let more : writes_in (receipts_on after 0).list ≡ written.more = written.behind ∙ ap (λ (l : List Receipt). l ++ written.more) none in
-      let here : writes_in s.receipts.list ≡ written.more = ap (λ (l : ReceiptList). writes_in l.list) (sym (read_at (λ (x : Seat K g). x.receipts) after 0 s no_receipts at)) ∙ more in
+  on_line : (seats : List (Seat K g)) (line : ℕ) (s : Seat K g) → get_elem? seats line ≡ some s → receipts_on seats line ≡ s.receipts
+  on_line seats line s at = read_at (λ (x : Seat K g). x.receipts) seats line s no_receipts at
+
+  -- a node that began with no writes has ended with those of its part
+  written_alone : (ws : List (ℕ × List ℕ)) (before after : List (Seat K g)) → HasWrittenNothing before → HasWrote ws (receipts_on before) (receipts_on after) → (line : ℕ) (s : Seat K g) → get_elem? after line ≡ some s → words_in s.receipts.list ≡ words_on line ws
+  written_alone ws before after begins wrote line s at =
+      ap (λ (l : ReceiptList). words_in l.list) (sym (on_line after line s at)) ∙ wrote.on line ∙ ap (λ (l : List Receipt). map words_of l ++ words_on line ws) (none_on before begins line)
+
+  pub ends_so : (program : Program) (number : ℕ) (before after : List (Seat K g)) → HasWrittenNothing before → HasWritten program number (receipts_on before) (receipts_on after) → HasWrittenAll program number after
+  ends_so (Program.Count adds) number before after begins written = λ line s at first.
+      let more : writes_in (receipts_on after 0).list ≡ written.more = written.behind ∙ ap (λ (l : List Receipt). l ++ written.more) (none_on before begins 0) in
+      let here : writes_in s.receipts.list ≡ written.more = ap (λ (l : ReceiptList). writes_in l.list) (sym (on_line after 0 s (subst (λ (k : ℕ). get_elem? after k ≡ some s) first at))) ∙ more in
       subst (AreAdds adds) (sym here) written.are
-  ends_so (Program.Ring source lines) before after begins written = tt
-  ends_so (Program.Stencil work) before after begins written = tt
+  ends_so (Program.Ring source lines) number before after begins written = written_alone (ring_writes source.now lines number) before after begins written
+  ends_so (Program.Stencil work) number before after begins written = written_alone (stencil_writes work.cells.now work.phases work.nodes work.tiles number) before after begins written
 
   -- hands of new seats have written nothing
-  pub none_written : (seats : List (Seat K g)) → AreNew seats → (adds : ℕ) (hands : List (Vec (Seat K g))) → HoldEach hands seats → AtEach (λ k hand. HasWrittenNothing (Program.Count adds) hand.items) hands
-  none_written seats new adds hands hold k hand at s first =
+  pub none_written : (seats : List (Seat K g)) → AreNew seats → (hands : List (Vec (Seat K g))) → HoldEach hands seats → AtEach (λ k hand. HasWrittenNothing hand.items) hands
+  none_written seats new hands hold k hand at =
       let x = seat_at hands seats hold k hand at in
-      let same : x.0 ≡ s = some-injective x.0 s (ap (λ (l : List (Seat K g)). get_elem? l 0) (sym x.2) ∙ first) in
-      ap (λ (z : Seat K g). writes_in z.receipts.list) (sym same) ∙ ap (λ (l : ReceiptList). writes_in l.list) (new k x.0 x.1).1
+      subst HasWrittenNothing (sym x.2) (alone x.0 (ap (λ (l : ReceiptList). writes_in l.list) (new k x.0 x.1).1))
+    where
+      alone : (s : Seat K g) → writes_in s.receipts.list ≡ [] → HasWrittenNothing (s ∷ [])
+      alone s none zero t at = ap (λ (z : Seat K g). writes_in z.receipts.list) (sym (some-injective s t at)) ∙ none
+      alone s none (suc k) t at = absurd (some-ne-none t (sym at))
 
   -- and of hands that have counted so has each seat
-  pub all_counted : (adds : ℕ) (hands : List (Vec (Seat K g))) (seats : List (Seat K g)) → HoldEach hands seats → AtEach (λ k hand. HasAddedAll (Program.Count adds) hand.items) hands → AtEach (λ k s. AreAdds adds (writes_in s.receipts.list)) seats
-  all_counted adds hands seats hold end k s at = let h = hand_at hands seats hold k s at in end k h.0 h.1 s (ap (λ (l : List (Seat K g)). get_elem? l 0) h.2)
+  pub all_counted : (adds : ℕ) (hands : List (Vec (Seat K g))) (seats : List (Seat K g)) → HoldEach hands seats → AtEach (λ k hand. HasWrittenAll (Program.Count adds) k hand.items) hands → AtEach (λ k s. AreAdds adds (writes_in s.receipts.list)) seats
+  all_counted adds hands seats hold end k s at = let h = hand_at hands seats hold k s at in end k h.0 h.1 0 s (ap (λ (l : List (Seat K g)). get_elem? l 0) h.2) refl
+
+  -- which is the one line's own
+  pub counted_alone : (adds : ℕ) (seats : List (Seat K g)) (lists : List (List Receipt)) → lists ≡ lists_of seats → AtEach (λ k s. AreAdds adds (writes_in s.receipts.list)) seats → AreWrittenAs (AddsAlone adds) (lists ∷ [])
+  counted_alone adds seats lists own all zero ls at node list here =
+      let v = read_from (λ (s : Seat K g). s.receipts.list) seats node list (subst (λ (z : List (List Receipt)). get_elem? z node ≡ some list) (sym (some-injective lists ls at) ∙ own) here) in
+      subst (λ (l : List Receipt). AreAdds adds (writes_in l)) v.2 (all node v.0 v.1)
+  counted_alone adds seats lists own all (suc k) ls at node list here = absurd (some-ne-none ls (sym at))
 
   -- a bank at these lines, by a hand at them
   module _ (lines : List (FineLine K)) (number : ℕ) (are : AreLines lines) (hand : List (Seat K g)) {keeping : Keeping} (h : IsHandOf keeping lines number hand)

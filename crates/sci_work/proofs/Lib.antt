@@ -16,7 +16,9 @@ pub mod Residual
 pub mod Seated
 pub mod Sharing
 pub mod Showing
+pub mod Tiles
 pub mod Totals
 pub mod Watched
 pub mod Words
 pub mod Worked
+pub mod Written

@@ -1,5 +1,5 @@
 -- What a worker has done, put together.
-use Rattle.std.proofs.Common.{◌≡◌, ℕ, Option, None, Result, Ok, Err, List, ◌++◌, sym, ap, subst, ◌∙◌}
+use Rattle.std.proofs.Common.{◌≡◌, ℕ, true, Option, None, Result, Ok, Err, List, ◌++◌, sym, ap, subst, ◌∙◌}
 use Rattle.std.specs.Result.{OnErr, OnOk}
 use Rattle.sci_core.specs.declared.pending.Pending.{Pending}
 use Rattle.sci_port.specs.declared.calls.Call.{Call}
@@ -13,6 +13,7 @@ use Rattle.sci_cache.specs.declared.requests.Request.{Request}
 use Rattle.sci_cache.specs.Called.{HasCalled}
 use Rattle.sci_cache.specs.Nodes.{IsIdleBut, NodeState, Waits}
 use Rattle.sci_work.specs.Made.{IsBankOf, IsStillBankOf, Made, none, ready, look, load, write, refused}
+use Rattle.sci_work.specs.Written.{HasWrote}
 use Rattle.sci_work.proofs.Reached.{called}
 
 pub on_ok : {A E X : Type 0} → (r : Result A E) → X → OnOk r X
@@ -51,8 +52,8 @@ module _ {U : Type 0} (gives : U → ℕ → Call → U → Type 0) (readies : U
 module _ {U K : Type 0} {way : U → BankWay} {nodes_on : U → ℕ → ℕ} {keep : U → K} {fits : K → ℕ → List ℕ → Type 0} {gives : U → ℕ → Call → U → Type 0} {readies : U → ℕ → Readying → U → Type 0} {step : U → ℕ → Pending} {told : U → ℕ → ReceiptList}
     (n : NodeState) (r : Request) (u : U) (result : Result Answer NodeRefusal) (v : U) (m : NodeState) (h : HasCalled way nodes_on keep fits gives readies step told n r u result v m) where
   -- a call that waited leaves the bank the node's
-  pub still_called : IsBankOf (way u) n → IsStillBankOf n.keeps way keep step gives readies told u m v
-  still_called bank =
+  pub still_called : {ws : List (ℕ × List ℕ)} → (n.keeps ≡ true → HasWrote ws (told u) (told v)) → IsBankOf (way u) n → IsStillBankOf n.keeps ws way keep step gives readies told u m v
+  still_called wrote bank =
       let closed : m.call ≡ None = closed_after gives readies step n r h.ready result v m h.waits bank.closed in
       record {
         ready = record {
@@ -68,4 +69,5 @@ module _ {U K : Type 0} {way : U → BankWay} {nodes_on : U → ℕ → ℕ} {ke
           idle = λ idle. subst (λ (c : Option OpenCall). IsIdleBut c (step v)) closed (h.rest (subst (λ (c : Option OpenCall). IsIdleBut c (step u)) (sym bank.closed) idle));
           kept = λ yes. (h.kept yes).all;
         };
+        wrote = wrote;
       }

@@ -1,5 +1,5 @@
 -- A node that has only looked at its own tag.
-use Rattle.std.proofs.Common.{◌≡◌, ◌≢◌, ℕ, true, inl, inr, Option, Some, None, refl, sym, ap, subst, ◌∙◌}
+use Rattle.std.proofs.Common.{◌≡◌, ◌≢◌, ℕ, true, inl, inr, [], Option, Some, None, refl, sym, ap, subst, ◌∙◌}
 use Rattle.std.proofs.lemmas.Bool.{cases_eq}
 use Rattle.sci_words.specs.declared.tags.Tag.{Tag}
 use Rattle.sci_core.specs.declared.pending.Pending.{Pending}
@@ -14,6 +14,7 @@ use Rattle.sci_cache.specs.Nodes.{NodeState}
 use Rattle.sci_work.specs.Made.{HasWatched, IsBankOf, IsStillBankOf, RestsAgain, none, look, by_call, stays}
 use Rattle.sci_work.proofs.Reached.{reached_then}
 use Rattle.sci_work.proofs.Worked.{rests_not, rests_then}
+use Rattle.sci_work.proofs.Written.{wrote_same}
 
 -- who is Idle is so behind a look
 idle_look : (p : Pending) (tag : Option Tag) → p ≡ Pending.Idle → look_by p tag ≡ Pending.Idle
@@ -32,22 +33,23 @@ module _ {U : Type 0} {step : U → ℕ → Pending} {gives : U → ℕ → Call
 
 module _ {U K : Type 0} {way : U → BankWay} {keep : U → K} {step : U → ℕ → Pending} {gives : U → ℕ → Call → U → Type 0} {readies : U → ℕ → Readying → U → Type 0} {told : U → ℕ → ReceiptList} where
   watched_not : (u : U) → HasWatched way keep step gives readies told u u
-  watched_not u = record { made = λ n. none; reached = stays; same_way = refl; same_fact = refl; rests = rests_not true u }
+  watched_not u = record { made = λ n. none; reached = stays; same_way = refl; same_fact = refl; rests = rests_not true u; receipts = λ line. refl }
 
   pub watched_more : {u w v : U} → HasWatched way keep step gives readies told u w → (line : ℕ) (tag : Option Tag) → gives w line (Own tag) v → way v ≡ way w → keep v ≡ keep w
-      → step v line ≡ look_by (step w line) tag → ((m : ℕ) → m ≢ line → step v m ≡ step w m) → HasWatched way keep step gives readies told u v
-  watched_more {w = w} {v = v} h line tag given same_way same_fact looked others = record {
+      → step v line ≡ look_by (step w line) tag → ((m : ℕ) → m ≢ line → step v m ≡ step w m) → ((m : ℕ) → told v m ≡ told w m) → HasWatched way keep step gives readies told u v
+  watched_more {w = w} {v = v} h line tag given same_way same_fact looked others receipts = record {
     made = λ n. look line tag (h.made n) given;
     reached = reached_then h.reached (by_call line (Own tag) given stays);
     same_way = same_way ∙ h.same_way;
     same_fact = same_fact ∙ h.same_fact;
     rests = rests_then h.rests (rests_looked w line tag v given looked others);
+    receipts = λ m. receipts m ∙ h.receipts m;
   }
 
-  pub watched_once : {u v : U} → (line : ℕ) (tag : Option Tag) → gives u line (Own tag) v → way v ≡ way u → keep v ≡ keep u → step v line ≡ look_by (step u line) tag → ((m : ℕ) → m ≢ line → step v m ≡ step u m) → HasWatched way keep step gives readies told u v
-  watched_once {u = u} line tag given same_way same_fact looked others = watched_more (watched_not u) line tag given same_way same_fact looked others
+  pub watched_once : {u v : U} → (line : ℕ) (tag : Option Tag) → gives u line (Own tag) v → way v ≡ way u → keep v ≡ keep u → step v line ≡ look_by (step u line) tag → ((m : ℕ) → m ≢ line → step v m ≡ step u m) → ((m : ℕ) → told v m ≡ told u m) → HasWatched way keep step gives readies told u v
+  watched_once {u = u} line tag given same_way same_fact looked others receipts = watched_more (watched_not u) line tag given same_way same_fact looked others receipts
 
-  pub still_watched : {u v : U} {n : NodeState} → IsBankOf (way u) n → HasWatched way keep step gives readies told u v → IsStillBankOf n.keeps way keep step gives readies told u n v
+  pub still_watched : {u v : U} {n : NodeState} → IsBankOf (way u) n → HasWatched way keep step gives readies told u v → IsStillBankOf n.keeps [] way keep step gives readies told u n v
   still_watched {n = n} ready h = record {
     ready = subst (λ (x : BankWay). IsBankOf x n) (sym h.same_way) ready;
     same_keeps = refl;
@@ -55,4 +57,5 @@ module _ {U K : Type 0} {way : U → BankWay} {keep : U → K} {step : U → ℕ
     same_way = h.same_way;
     same_fact = h.same_fact;
     rests = record { idle = h.rests.idle; kept = λ yes. h.rests.kept refl };
+    wrote = λ yes. wrote_same h.receipts;
   }

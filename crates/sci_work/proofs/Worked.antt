@@ -1,5 +1,5 @@
 -- What a node has done over its bank: nothing, or one thing and then another.
-use Rattle.std.proofs.Common.{ℕ, Bool, refl, ◌∙◌, subst}
+use Rattle.std.proofs.Common.{ℕ, Bool, List, [], ◌++◌, refl, ◌∙◌, subst}
 use Rattle.sci_core.specs.declared.pending.Pending.{Pending}
 use Rattle.sci_port.specs.declared.calls.Call.{Call}
 use Rattle.sci_port.specs.Banks.{BankWay}
@@ -11,6 +11,7 @@ use Rattle.sci_cache.specs.Nodes.{NodeState}
 use Rattle.sci_work.specs.Made.{IsBankOf, IsStillBankOf, RestsAgain, stays}
 use Rattle.sci_work.specs.Workers.{HasWorked, IsReady}
 use Rattle.sci_work.proofs.Reached.{reached_then}
+use Rattle.sci_work.proofs.Written.{wrote_none, wrote_then}
 
 module _ {U : Type 0} {step : U → ℕ → Pending} {gives : U → ℕ → Call → U → Type 0} {readies : U → ℕ → Readying → U → Type 0} {told : U → ℕ → ReceiptList} where
   pub rests_not : (keeps : Bool) (u : U) → RestsAgain keeps step gives readies told u u
@@ -20,10 +21,10 @@ module _ {U : Type 0} {step : U → ℕ → Pending} {gives : U → ℕ → Call
   rests_then a b = record { idle = λ idle. b.idle (a.idle idle); kept = λ yes. keeps_then (a.kept yes) (b.kept yes) }
 
 module _ {U K : Type 0} {way : U → BankWay} {keep : U → K} {step : U → ℕ → Pending} {gives : U → ℕ → Call → U → Type 0} {readies : U → ℕ → Readying → U → Type 0} {told : U → ℕ → ReceiptList} where
-  pub still_not : {u : U} {n : NodeState} → IsBankOf (way u) n → IsStillBankOf n.keeps way keep step gives readies told u n u
-  still_not {u = u} {n = n} ready = record { ready = ready; same_keeps = refl; reached = stays; same_way = refl; same_fact = refl; rests = rests_not n.keeps u }
+  pub still_not : {u : U} {n : NodeState} → IsBankOf (way u) n → IsStillBankOf n.keeps [] way keep step gives readies told u n u
+  still_not {u = u} {n = n} ready = record { ready = ready; same_keeps = refl; reached = stays; same_way = refl; same_fact = refl; rests = rests_not n.keeps u; wrote = λ yes. wrote_none }
 
-  pub still_then : {keeps : Bool} {u w v : U} {n m : NodeState} → IsStillBankOf keeps way keep step gives readies told u n w → IsStillBankOf n.keeps way keep step gives readies told w m v → IsStillBankOf keeps way keep step gives readies told u m v
+  pub still_then : {keeps : Bool} {ws xs : List (ℕ × List ℕ)} {u w v : U} {n m : NodeState} → IsStillBankOf keeps ws way keep step gives readies told u n w → IsStillBankOf n.keeps xs way keep step gives readies told w m v → IsStillBankOf keeps (xs ++ ws) way keep step gives readies told u m v
   still_then {w = w} {v = v} a b = record {
     ready = b.ready;
     same_keeps = b.same_keeps ∙ a.same_keeps;
@@ -31,28 +32,31 @@ module _ {U K : Type 0} {way : U → BankWay} {keep : U → K} {step : U → ℕ
     same_way = b.same_way ∙ a.same_way;
     same_fact = b.same_fact ∙ a.same_fact;
     rests = rests_then a.rests (subst (λ (k : Bool). RestsAgain k step gives readies told w v) a.same_keeps b.rests);
+    wrote = λ yes. wrote_then (a.wrote yes) (b.wrote (a.same_keeps ∙ yes));
   }
 
-  pub worked_not : {u : U} {n : NodeState} → IsReady step (way u) n u → HasWorked n.keeps way keep step gives readies told u n u
-  worked_not ready = record { ready = ready; same_keeps = refl; reached = stays; kept = λ yes. keeps_none; same_way = refl; same_fact = refl }
+  pub worked_not : {u : U} {n : NodeState} → IsReady step (way u) n u → HasWorked n.keeps [] way keep step gives readies told u n u
+  worked_not ready = record { ready = ready; same_keeps = refl; reached = stays; kept = λ yes. keeps_none; wrote = λ yes. wrote_none; same_way = refl; same_fact = refl }
 
-  pub worked_then : {keeps : Bool} {u w v : U} {n m : NodeState} → HasWorked keeps way keep step gives readies told u n w → HasWorked n.keeps way keep step gives readies told w m v → HasWorked keeps way keep step gives readies told u m v
+  pub worked_then : {keeps : Bool} {ws xs : List (ℕ × List ℕ)} {u w v : U} {n m : NodeState} → HasWorked keeps ws way keep step gives readies told u n w → HasWorked n.keeps xs way keep step gives readies told w m v → HasWorked keeps (xs ++ ws) way keep step gives readies told u m v
   worked_then a b = record {
     ready = b.ready;
     same_keeps = b.same_keeps ∙ a.same_keeps;
     reached = reached_then a.reached b.reached;
     kept = λ yes. keeps_then (a.kept yes) (b.kept (a.same_keeps ∙ yes));
+    wrote = λ yes. wrote_then (a.wrote yes) (b.wrote (a.same_keeps ∙ yes));
     same_way = b.same_way ∙ a.same_way;
     same_fact = b.same_fact ∙ a.same_fact;
   }
 
   -- a node that was ready, and whose bank it is still, is ready again
-  pub worked_still : {keeps : Bool} {u v : U} {n m : NodeState} → IsReady step (way u) n u → IsStillBankOf keeps way keep step gives readies told u m v → HasWorked keeps way keep step gives readies told u m v
+  pub worked_still : {keeps : Bool} {ws : List (ℕ × List ℕ)} {u v : U} {n m : NodeState} → IsReady step (way u) n u → IsStillBankOf keeps ws way keep step gives readies told u m v → HasWorked keeps ws way keep step gives readies told u m v
   worked_still ready still = record {
     ready = record { node = still.ready.node; lines = still.ready.lines; free = still.ready.closed; idle = still.rests.idle ready.idle };
     same_keeps = still.same_keeps;
     reached = still.reached;
     kept = still.rests.kept;
+    wrote = still.wrote;
     same_way = still.same_way;
     same_fact = still.same_fact;
   }

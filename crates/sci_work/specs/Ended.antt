@@ -4,6 +4,7 @@ use Rattle.std.specs.Global.{Vec}
 use mathlib.Core.Option.{some}
 use lib.ListN.{get_elem?}
 use Rattle.sci_core.specs.State.{State, blank, opened}
+use Rattle.sci_core.specs.declared.keeps.Keeps as keeps
 use Rattle.sci_core.specs.declared.lines.Line.{Line}
 use Rattle.sci_core.specs.declared.pending.Pending.{Pending}
 use Rattle.sci_core.specs.declared.receipts.Receipt.{Receipt}
@@ -13,11 +14,13 @@ use Rattle.sci_port.specs.Receipts.{IsWhole}
 use Rattle.sci_port.specs.Runs.{Leads, done_by}
 use Rattle.sci_port.specs.Solo.{Gives}
 use Rattle.sci_fine.specs.declared.line.FineLine.{FineLine}
+use Rattle.sci_fine.specs.declared.seats.Seat.{Seat}
 use Rattle.sci_fine.specs.Ends.{IsReadOff}
 use Rattle.sci_fine.specs.Kept.{list_at}
 use Rattle.sci_core.specs.Closed.{ClosedLine, IsExactClosed, value_of}
 use Rattle.sci_work.specs.declared.keeping.ClosedMemory.{ClosedMemory}
 use Rattle.sci_work.specs.declared.keeping.Keeping.{Keeping}
+use Rattle.sci_work.specs.Hands.{AtEach, IsListOf}
 
 -- each closed line has so many nodes
 abbrev pub HaveNodes : ℕ → List ClosedLine → Type 0
@@ -81,6 +84,10 @@ pub record AreHistoriesOn {K : Type 0} (fits : K → ℕ → List ℕ → Type 0
   pub count : length memory.receipts.items ≡ length lines
   pub each : (k : ℕ) (l : FineLine K) (c : ClosedLine) (lists : Vec (Vec Receipt)) → get_elem? lines k ≡ some l → get_elem? memory.lines.items k ≡ some c
       → get_elem? memory.receipts.items k ≡ some lists → IsHistoryOn fits l c (lists_in lists)
+
+-- the receipts at each place are those of the hands' seats there
+abbrev pub AreOfHands : {K : Type 0} {g : keeps.Ghosts K} → List (Vec (Seat K g)) → ClosedMemory → Type 0
+AreOfHands {K} {g} hands memory = AtEach (λ line lists. AtEach (λ node list. IsListOf hands node line list) (lists_in lists)) memory.receipts.items
 
 abbrev pub AreKeptOn : {K : Type 0} → Keeping → (K → ℕ → List ℕ → Type 0) → List (FineLine K) → ClosedMemory → Type 0
 AreKeptOn Keeping.All fits lines memory = AreHistoriesOn fits lines memory

@@ -11,3 +11,4 @@ pub mod Shares
 pub mod Starts
 pub mod Stencil
 pub mod Workers
+pub mod Written

@@ -13,6 +13,7 @@ use Rattle.sci_cache.specs.declared.refusals.NodeRefusal.{NodeRefusal}
 use Rattle.sci_cache.specs.declared.requests.Request.{Request}
 use Rattle.sci_cache.specs.Nodes.{NodeState, Waits}
 use Rattle.sci_work.specs.declared.refusals.WorkRefusal.{WorkRefusal}
+use Rattle.sci_work.specs.Written.{HasWrote}
 
 -- the bank is the node's, and the node has no call open
 pub record IsBankOf (way : BankWay) (n : NodeState) : Type 0 where
@@ -32,14 +33,15 @@ pub record RestsAgain {U : Type 0} (keeps : Bool) (step : U → ℕ → Pending)
   pub kept : keeps ≡ true → KeepsAll gives readies told u v
 
 -- from the bank u to v it is the node's with no call open still, of as many lines, under the same fact, and at rest if it was; the node
--- keeps receipts as before, or none
-pub record IsStillBankOf {U K : Type 0} (keeps : Bool) (way : U → BankWay) (keep : U → K) (step : U → ℕ → Pending) (gives : U → ℕ → Call → U → Type 0) (readies : U → ℕ → Readying → U → Type 0) (told : U → ℕ → ReceiptList) (u : U) (n : NodeState) (v : U) : Type 0 where
+-- keeps receipts as before, or none, and has written this
+pub record IsStillBankOf {U K : Type 0} (keeps : Bool) (ws : List (ℕ × List ℕ)) (way : U → BankWay) (keep : U → K) (step : U → ℕ → Pending) (gives : U → ℕ → Call → U → Type 0) (readies : U → ℕ → Readying → U → Type 0) (told : U → ℕ → ReceiptList) (u : U) (n : NodeState) (v : U) : Type 0 where
   pub ready : IsBankOf (way v) n
   pub same_keeps : n.keeps ≡ keeps
   pub reached : IsReached gives readies u v
   pub same_way : way v ≡ way u
   pub same_fact : keep v ≡ keep u
   pub rests : RestsAgain keeps step gives readies told u v
+  pub wrote : keeps ≡ true → HasWrote ws (told u) (told v)
 
 -- a call on a line that there is, begun where none is open, is refused with 7 or 11
 abbrev pub IsLineRefusal : NodeRefusal → Type 0
@@ -84,3 +86,4 @@ pub record HasWatched {U K : Type 0} (way : U → BankWay) (keep : U → K) (ste
   pub same_way : way v ≡ way u
   pub same_fact : keep v ≡ keep u
   pub rests : RestsAgain true step gives readies told u v
+  pub receipts : (line : ℕ) → told v line ≡ told u line

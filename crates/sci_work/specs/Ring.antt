@@ -49,3 +49,8 @@ item_writes source lines (suc i) = (i % lines, item_words source i) ∷ item_wri
 abbrev pub count_writes : ℕ → ℕ → List (ℕ × List ℕ)
 count_writes lines zero = []
 count_writes lines (suc i) = (lines, count_words (i + 1)) ∷ count_writes lines i
+
+-- node 0 writes all items, and the other counts them
+abbrev pub ring_writes : List ℕ → ℕ → ℕ → List (ℕ × List ℕ)
+ring_writes source lines zero = item_writes source lines (length source)
+ring_writes source lines (suc node) = count_writes lines (length source)

@@ -1,57 +1,49 @@
 -- What a node's thread is started with, and what it ends with. This project's own.
-use Rattle.std.specs.Prelude.{◌≡◌, ◌≢◌, ℕ, ◌<◌, ◌≤◌, ◌⊎◌, List, [], length, Result, Err, IsOk, IfOk, IfErr, OnOk, vec_len}
+use Rattle.std.specs.Prelude.{◌≡◌, ◌≢◌, ℕ, ◌<◌, ◌≤◌, ◌⊎◌, List, length, Result, Err, IsOk, IfOk, IfErr, OnOk, vec_len}
 use Rattle.std.specs.Global.{Vec}
 use mathlib.Core.Option.{some}
 use lib.ListN.{get_elem?}
 use Rattle.sci_core.specs.declared.keeps.Keeps as keeps
-use Rattle.sci_port.specs.KeepsAll.{writes_in}
 use Rattle.sci_fine.specs.declared.line.FineLine.{FineLine}
 use Rattle.sci_fine.specs.declared.seats.Seat.{Seat}
 use Rattle.sci_fine.specs.Banks.{AreLines}
 use Rattle.sci_work.specs.declared.keeping.Keeping.{Keeping}
 use Rattle.sci_work.specs.declared.programs.Program.{Program}
 use Rattle.sci_work.specs.declared.refusals.WorkRefusal.{WorkRefusal}
-use Rattle.sci_work.specs.Adding.{AreAdds}
-use Rattle.sci_work.specs.Hands.{AtEach, IsHandOf}
-use Rattle.sci_work.specs.Programs.{Awaits, ComesInPart, IsShareOf, Suits}
+use Rattle.sci_work.specs.Hands.{AtEach, HasWrittenNothing, IsHandOf}
+use Rattle.sci_work.specs.Programs.{AreWritesOf, Awaits, ComesInPart, IsShareOf, Suits}
 
--- of a program: a node that is to count has written nothing on line 0
-abbrev pub HasWrittenNothing : {K : Type 0} {g : keeps.Ghosts K} → Program → List (Seat K g) → Type 0
-HasWrittenNothing {K} {g} (Program.Count adds) seats = (s : Seat K g) → get_elem? seats 0 ≡ some s → writes_in s.receipts.list ≡ []
-HasWrittenNothing program seats = Unit {0}
+-- a node's receipts on each line have the writes of its part alone
+abbrev pub HasWrittenAll : {K : Type 0} {g : keeps.Ghosts K} → Program → ℕ → List (Seat K g) → Type 0
+HasWrittenAll {K} {g} program number seats = AtEach (λ line s. AreWritesOf program number line s.receipts.list) seats
 
--- and one that has counted, its adds alone
-abbrev pub HasAddedAll : {K : Type 0} {g : keeps.Ghosts K} → Program → List (Seat K g) → Type 0
-HasAddedAll {K} {g} (Program.Count adds) seats = (s : Seat K g) → get_elem? seats 0 ≡ some s → AreAdds adds (writes_in s.receipts.list)
-HasAddedAll program seats = Unit {0}
-
--- the lines of one memory, the node's seats at them, and a program that suits their fact
-pub record IsPart {K : Type 0} {g : keeps.Ghosts K} (fits : K → ℕ → List ℕ → Type 0) (lines : List (FineLine K)) (program : Program) (number : ℕ) (seats : List (Seat K g)) : Type 0 where
+-- the lines of one memory, the node's seats at them, without writes where receipts are kept, and a program that suits their fact
+pub record IsPart {K : Type 0} {g : keeps.Ghosts K} (fits : K → ℕ → List ℕ → Type 0) (keeping : Keeping) (lines : List (FineLine K)) (program : Program) (number : ℕ) (seats : List (Seat K g)) : Type 0 where
   pub lines_are : AreLines lines
   pub hand : IsHandOf Keeping.All lines number seats
-  pub begins : HasWrittenNothing program seats
+  pub begins : keeping ≡ Keeping.All → HasWrittenNothing seats
   pub suits : (l : FineLine K) → get_elem? lines 0 ≡ some l → Suits program (fits l.terms.keep) (length lines) number
 
 -- the same of each of at most 64 nodes
-pub record AreParts {K : Type 0} {g : keeps.Ghosts K} (fits : K → ℕ → List ℕ → Type 0) (lines : List (FineLine K)) (program : Program) (hands : Vec (Vec (Seat K g))) : Type 0 where
+pub record AreParts {K : Type 0} {g : keeps.Ghosts K} (fits : K → ℕ → List ℕ → Type 0) (keeping : Keeping) (lines : List (FineLine K)) (program : Program) (hands : Vec (Vec (Seat K g))) : Type 0 where
   pub lines_are : AreLines lines
   pub few : vec_len hands ≤ 64
   pub hands_are : AtEach (λ k hand. IsHandOf Keeping.All lines k hand.items) hands.items
-  pub begin : AtEach (λ k hand. HasWrittenNothing program hand.items) hands.items
+  pub begin : keeping ≡ Keeping.All → AtEach (λ k hand. HasWrittenNothing hand.items) hands.items
   pub suits : (k : ℕ) (l : FineLine K) → k < vec_len hands → get_elem? lines 0 ≡ some l → Suits program (fits l.terms.keep) (length lines) k
 
 -- the node's seats, Idle again, with its receipts where they are kept, and its share, or why there is none
 pub record IsPartDone {K : Type 0} {g : keeps.Ghosts K} (keeping : Keeping) (lines : List (FineLine K)) (program : Program) (number : ℕ) (seats : List (Seat K g)) (share : Result (Vec ℕ) WorkRefusal) : Type 0 where
   pub hand : IsHandOf keeping lines number seats
   pub share_is : IfOk share (λ s. IsShareOf program number s.items)
-  pub ends : keeping ≡ Keeping.All → OnOk share (HasAddedAll program seats)
+  pub ends : keeping ≡ Keeping.All → OnOk share (HasWrittenAll program number seats)
   pub refused : IfErr share (ComesInPart program)
 
 -- what so many nodes have ended with: their seats, Idle again, and their shares
 pub record AreEnded {K : Type 0} {g : keeps.Ghosts K} (keeping : Keeping) (lines : List (FineLine K)) (program : Program) (nodes : ℕ) (hands : Vec (Vec (Seat K g))) (shares : Vec (Vec ℕ)) : Type 0 where
   pub hand_count : vec_len hands ≡ nodes
   pub hands_are : AtEach (λ k hand. IsHandOf keeping lines k hand.items) hands.items
-  pub end : keeping ≡ Keeping.All → AtEach (λ k hand. HasAddedAll program hand.items) hands.items
+  pub end : keeping ≡ Keeping.All → AtEach (λ k hand. HasWrittenAll program k hand.items) hands.items
   pub share_count : vec_len shares ≡ nodes
   pub shares_are : AtEach (λ k share. IsShareOf program k share.items) shares.items
 

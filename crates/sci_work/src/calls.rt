@@ -1,5 +1,5 @@
 //! A node's calls, each through its door. They are told one after another.
-ghost use Rattle.std.specs.Prelude.{◌≡◌, ◌<◌, ◌≤◌, [], ◌∷◌, slice_index, true, IfOk, IfErr, OnOk, OnErr};
+ghost use Rattle.std.specs.Prelude.{◌≡◌, ◌<◌, ◌≤◌, ℕ, List, [], ◌∷◌, slice_index, true, IfOk, IfErr, OnOk, OnErr};
 ghost use Rattle.sci_ops.specs.declared.goals.Goal as goal;
 ghost use Rattle.sci_ops.specs.declared.goals.Write as write;
 ghost use Rattle.sci_ops.specs.Change.{StoresFitting};
@@ -51,7 +51,7 @@ pub(crate) fn loaded<R: Wait, G: Gate, B: Bank>(
     ensures fits { IfOk result (λ words. B.Keep.fits (B.keep bank.old) line words) }
     ensures err { IfErr result ComesInCall }
     ensures made { Made B.gives B.readies B.at_step [] node.old bank.old node.new bank.new }
-    ensures still { IsStillBankOf node.old.keeps B.way B.keep B.at_step B.gives B.readies B.told bank.old node.new bank.new }
+    ensures still { IsStillBankOf node.old.keeps [] B.way B.keep B.at_step B.gives B.readies B.told bank.old node.new bank.new }
 {
     door.enter()?;
     let answer = node.load(rt, bank, line);
@@ -114,7 +114,7 @@ pub(crate) fn reached<R: Wait, G: Gate, B: Bank>(
     ensures number { IfOk result (λ words. number ≤ slice_index words 0) }
     ensures err { IfErr result ComesInCall }
     ensures made { Made B.gives B.readies B.at_step [] node.old bank.old node.new bank.new }
-    ensures still { IsStillBankOf node.old.keeps B.way B.keep B.at_step B.gives B.readies B.told bank.old node.new bank.new }
+    ensures still { IsStillBankOf node.old.keeps [] B.way B.keep B.at_step B.gives B.readies B.told bank.old node.new bank.new }
 {
     for _ in rt.forever() {
         let words = loaded(rt, door, node, bank, line)?;
@@ -142,7 +142,7 @@ pub(crate) fn written<R: Wait, G: Gate, B: Bank>(
     ensures err { IfErr result ComesInCall }
     ensures made { OnOk result (Made B.gives B.readies B.at_step ((line, words) ∷ []) node.old bank.old node.new bank.new) }
     ensures none { OnErr result (Made B.gives B.readies B.at_step [] node.old bank.old node.new bank.new) }
-    ensures still { IsStillBankOf node.old.keeps B.way B.keep B.at_step B.gives B.readies B.told bank.old node.new bank.new }
+    ensures still { (ws : List (ℕ × List ℕ)) × IsStillBankOf node.old.keeps ws B.way B.keep B.at_step B.gives B.readies B.told bank.old node.new bank.new × OnOk result (ws ≡ (line, words) ∷ []) }
 {
     door.enter()?;
     let answer = node.write_line(rt, bank, line, words);
@@ -166,7 +166,7 @@ pub(crate) fn added<R: Wait, G: Gate, B: Bank>(
     requires line { line < (B.way bank.old).lines }
     requires fits { StoresFitting (B.Keep.fits (B.keep bank.old) line) (goal.Goal.Write (write.Write.Add 0 1)) }
     ensures err { IfErr result ComesInCall }
-    ensures worked { HasWorked node.old.keeps B.way B.keep B.at_step B.gives B.readies B.told bank.old node.new bank.new }
+    ensures worked { (ws : List (ℕ × List ℕ)) × HasWorked node.old.keeps ws B.way B.keep B.at_step B.gives B.readies B.told bank.old node.new bank.new }
     ensures added { node.old.keeps ≡ true → OnOk result (HasAdded 1 (B.told bank.old line).list (B.told bank.new line).list) }
 {
     door.enter()?;

@@ -1,10 +1,11 @@
 //! Nodes that count on one line.
-ghost use Rattle.std.specs.Prelude.{◌≡◌, ◌≢◌, ◌<◌, ◌≤◌, ◌↔◌, ◌*◌, ◌%◌, ◌^◌, Err, length, slice_index, IfOk, IfErr, IsTrue};
+ghost use Rattle.std.specs.Prelude.{◌≡◌, ◌≢◌, ◌<◌, ◌≤◌, ◌↔◌, ◌*◌, ◌%◌, ◌^◌, [], ◌∷◌, Err, length, map, slice_index, IfOk, IfErr, IsTrue};
 ghost use Rattle.sci_core.specs.Closed.{IsExactClosed, value_of};
 ghost use Rattle.sci_core.specs.State.{blank};
 ghost use Rattle.sci_work.specs.declared.keeping.Keeping as keeps;
 ghost use Rattle.sci_work.specs.Ended.{AreKept, HaveNodes, IsCounted, IsCountSize, IsLineHistory, any_words, lists_in};
 ghost use Rattle.sci_work.specs.Starts.{ComesInCount, ComesInStart};
+ghost use Rattle.sci_work.specs.Written.{AddsAlone, AreWrittenAs};
 
 use crate::gates::Gate;
 use crate::keeping::{ClosedMemory, Keeping};
@@ -41,6 +42,7 @@ fn counted<R: Threads + Wait + Sync, G: Gate>(
     ensures total { IfOk result (λ one. slice_index (value_of one.closed).words 0 ≡ (nodes * adds) % 2 ^ 64) }
     ensures nodes { IfOk result (λ one. length one.closed.tags ≡ nodes) }
     ensures history { IfOk result (λ one. IsLineHistory any_words nodes blank one.closed (lists_in one.receipts)) }
+    ensures wrote { IfOk result (λ one. AreWrittenAs (AddsAlone adds) (lists_in one.receipts ∷ [])) }
     ensures err { IfErr result (ComesInStart (Program.Count adds)) }
 {
     let (line, seats) = zeroed(alloc, nodes, 0, AnyWords)?;
@@ -79,6 +81,7 @@ pub fn count<R: Threads + Wait + Sync, G: Gate>(
     ensures ok { IfOk result (λ r. IsCounted r.0 r.1.lines.items) }
     ensures nodes { IfOk result (λ r. HaveNodes nodes r.1.lines.items) }
     ensures kept { IfOk result (λ r. AreKept keeps.Keeping.All (λ _. any_words) nodes r.1) }
+    ensures wrote { IfOk result (λ r. AreWrittenAs (AddsAlone adds) (map lists_in r.1.receipts.items)) }
     ensures err { IfErr result ComesInCount }
 {
     if !is_count_size(nodes, adds, capacity) {

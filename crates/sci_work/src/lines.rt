@@ -5,8 +5,8 @@ ghost use Rattle.sci_fine.specs.Banks.{IsLine};
 ghost use Rattle.sci_fine.specs.Seats.{AreNew};
 ghost use Rattle.sci_fine.specs.Kept.{lists_of};
 ghost use Rattle.sci_work.specs.declared.keeping.Keeping as keeps;
-ghost use Rattle.sci_work.specs.Ended.{AreClosedOf, AreKeptOn, IsClosedOf, IsHistoryOn, lists_in};
-ghost use Rattle.sci_work.specs.Hands.{AreIdle, AtEach, IsHandOf, IsIdleSeat};
+ghost use Rattle.sci_work.specs.Ended.{AreClosedOf, AreKeptOn, AreOfHands, IsClosedOf, IsHistoryOn, lists_in};
+ghost use Rattle.sci_work.specs.Hands.{AreIdle, AtEach, IsFewer, IsHandOf, IsIdleSeat, IsNewHand, IsNewSeat, IsSeatIn};
 
 use crate::keeping::{ClosedMemory, Keeping};
 use crate::refusals::WorkRefusal;
@@ -18,7 +18,7 @@ use std::alloc::Global;
 // The hands of so many nodes, at no line.
 fn empty_hands<K: Keeps>(alloc: Global, nodes: u16) -> Result<Vec<Hand<K>>, WorkRefusal>
     ensures len { IfOk result (λ hands. vec_len hands ≡ nodes) }
-    ensures each { IfOk result (λ hands. AtEach (λ k hand. IsHandOf keeps.Keeping.All [] k hand.items) hands.items) }
+    ensures each { IfOk result (λ hands. AtEach (λ k hand. IsNewHand [] k hand.items) hands.items) }
     ensures err { IfErr result (λ e. e ≡ WorkRefusal.OutOfMemory) }
 {
     let mut hands = Vec::with_capacity(alloc, usize::from(nodes))?;
@@ -37,10 +37,10 @@ fn extended<K: Keeps>(
     seats: Vec<Seat<K>>,
 ) -> Result<Vec<Hand<K>>, WorkRefusal>
     requires count { vec_len seats ≡ vec_len hands }
-    requires seats { AtEach (λ k s. IsIdleSeat keeps.Keeping.All k line.now s) seats.items }
-    requires hands { AtEach (λ k hand. IsHandOf keeps.Keeping.All lines.now k hand.items) hands.items }
+    requires seats { AtEach (λ k s. IsNewSeat k line.now s) seats.items }
+    requires hands { AtEach (λ k hand. IsNewHand lines.now k hand.items) hands.items }
     ensures len { IfOk result (λ all. vec_len all ≡ vec_len hands) }
-    ensures each { IfOk result (λ all. AtEach (λ k hand. IsHandOf keeps.Keeping.All (lines.now ++ line.now ∷ []) k hand.items) all.items) }
+    ensures each { IfOk result (λ all. AtEach (λ k hand. IsNewHand (lines.now ++ line.now ∷ []) k hand.items) all.items) }
     ensures err { IfErr result (λ e. e ≡ WorkRefusal.OutOfMemory) }
 {
     let _ = lines;
@@ -96,7 +96,7 @@ pub fn opened<K: Keeps>(
     ensures lines { IfOk result (λ r. AtEach (IsLine nodes keep) r.0.items) }
     ensures zeros { IfOk result (λ r. AtEach (λ k l. l.terms.opening ≡ blank) r.0.items) }
     ensures len { IfOk result (λ r. vec_len r.1 ≡ nodes) }
-    ensures hands { IfOk result (λ r. AtEach (λ k hand. IsHandOf keeps.Keeping.All r.0.items k hand.items) r.1.items) }
+    ensures hands { IfOk result (λ r. AtEach (λ k hand. IsNewHand r.0.items k hand.items) r.1.items) }
     ensures err { IfErr result (λ e. e ≡ WorkRefusal.OutOfMemory) }
 {
     let mut lines = Vec::with_capacity(alloc, usize::from(count))?;
@@ -120,6 +120,8 @@ fn last_seats<K: Keeps>(
     requires { AtEach (λ k hand. IsHandOf keeping (lines.now ++ line.now ∷ []) k hand.items) hands.items }
     ensures hands { IfOk result (λ r. AtEach (λ k hand. IsHandOf keeping lines.now k hand.items) r.0.items) }
     ensures seats { IfOk result (λ r. AreIdle keeping line.now r.1.items) }
+    ensures fewer { IfOk result (λ r. AtEach (IsFewer hands.items) r.0.items) }
+    ensures last { IfOk result (λ r. AtEach (IsSeatIn hands.items (length lines.now)) r.1.items) }
     ensures err { IfErr result (λ e. e ≡ WorkRefusal.OutOfMemory) }
 {
     let _ = lines;
@@ -194,6 +196,7 @@ pub fn closed<K: Keeps>(
     requires { AtEach (λ k hand. IsHandOf keeping lines.items k hand.items) hands.items }
     ensures ok { IfOk result (λ all. AreClosedOf K.fits lines.items all.lines.items) }
     ensures kept { IfOk result (λ all. AreKeptOn keeping K.fits lines.items all) }
+    ensures own { IfOk result (AreOfHands hands.items) }
     ensures err { IfErr result (λ e. e ≡ WorkRefusal.OutOfMemory) }
 {
     let mut all = Vec::with_capacity(alloc, lines.len())?;

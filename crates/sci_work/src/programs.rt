@@ -1,5 +1,5 @@
 //! What each node runs.
-ghost use Rattle.std.specs.Prelude.{◌≡◌, ◌<◌, true, IfOk, IfErr, OnOk};
+ghost use Rattle.std.specs.Prelude.{◌≡◌, ◌<◌, true, ℕ, List, IfOk, IfErr, OnOk};
 ghost use Rattle.sci_ops.specs.declared.goals.Goal as goal;
 ghost use Rattle.sci_ops.specs.declared.goals.Write as write;
 ghost use Rattle.sci_ops.specs.Change.{StoresFitting};
@@ -41,7 +41,7 @@ fn counted<R: Wait, G: Gate, B: Bank>(
     requires line { 0 < (B.way bank.old).lines }
     requires fits { StoresFitting (B.Keep.fits (B.keep bank.old) 0) (goal.Goal.Write (write.Write.Add 0 1)) }
     ensures err { IfErr result ComesInCall }
-    ensures worked { HasWorked node.old.keeps B.way B.keep B.at_step B.gives B.readies B.told bank.old node.new bank.new }
+    ensures worked { (ws : List (ℕ × List ℕ)) × HasWorked node.old.keeps ws B.way B.keep B.at_step B.gives B.readies B.told bank.old node.new bank.new }
     ensures added { node.old.keeps ≡ true → OnOk result (HasAdded adds (B.told bank.old 0).list (B.told bank.new 0).list) }
 {
     for _ in 0..adds {
@@ -64,8 +64,8 @@ pub fn run<R: Wait, G: Gate, B: Bank>(
     requires suits { Suits program (B.Keep.fits (B.keep bank.old)) (B.way bank.old).lines number }
     ensures share { IfOk result (λ share. IsShareOf program.entry number share.items) }
     ensures err { IfErr result (ComesInPart program.entry) }
-    ensures worked { HasWorked node.old.keeps B.way B.keep B.at_step B.gives B.readies B.told bank.old node.new bank.new }
-    ensures written { node.old.keeps ≡ true → OnOk result (HasWritten program.entry (B.told bank.old 0).list (B.told bank.new 0).list) }
+    ensures worked { (ws : List (ℕ × List ℕ)) × HasWorked node.old.keeps ws B.way B.keep B.at_step B.gives B.readies B.told bank.old node.new bank.new }
+    ensures written { node.old.keeps ≡ true → OnOk result (HasWritten program.entry number (B.told bank.old) (B.told bank.new)) }
 {
     match program {
         Program::Count { adds } => {

@@ -73,7 +73,7 @@ pub fn share_of<R: Wait, G: Gate, B: Bank>(
     ensures idle { (line : ℕ) → B.at_step bank.new line ≡ Idle }
     ensures reached { IsReached B.gives B.readies bank.old bank.new }
     ensures kept { keeping ≡ keepings.Keeping.All → KeepsAll B.gives B.readies B.told bank.old bank.new }
-    ensures written { keeping ≡ keepings.Keeping.All → OnOk result (HasWritten program.entry (B.told bank.old 0).list (B.told bank.new 0).list) }
+    ensures written { keeping ≡ keepings.Keeping.All → OnOk result (HasWritten program.entry number (B.told bank.old) (B.told bank.new)) }
 {
     match Node::new(alloc, bank.node(), bank.lines(), capacity) {
         Ok(node) => {
@@ -105,7 +105,7 @@ fn run_node<R: Wait, G: Gate, K: Keeps>(
     keeping: Keeping,
     capacity: u16,
 ) -> Done<K, Vec<u64>>
-    requires { IsPart K.fits lines.now program number hand.items }
+    requires { IsPart K.fits keeping lines.now program number hand.items }
     ensures { IsPartDone keeping lines.now program.entry number result.hand.items result.share }
 {
     let mut door = Door::new(gate, stop, number);
@@ -146,7 +146,7 @@ fn start_each<'s, 'a: 's, E, R: Threads + Wait + Sync, G: Gate, K: Keeps + Send 
     capacity: u16,
     room: Vec<Running<'s, 'a, K>>,
 ) -> Vec<Running<'s, 'a, K>>
-    requires parts { AreParts K.fits lines.now program hands }
+    requires parts { AreParts K.fits keeping lines.now program hands }
     requires room { (vec_len room ≡ 0) × (vec_len hands ≤ vec_capacity room) }
     ensures few { vec_len result ≤ vec_len hands }
     ensures each { (k : ℕ) (d : _) → k < vec_len result → ((slice_index_or result.items k d).promise.lines.now ≡ lines.now) × ((slice_index_or result.items k d).promise.program ≡ program.entry) × ((slice_index_or result.items k d).promise.number ≡ k) × ((slice_index_or result.items k d).promise.keeping ≡ keeping) }
@@ -163,7 +163,7 @@ fn start_each<'s, 'a: 's, E, R: Threads + Wait + Sync, G: Gate, K: Keeps + Send 
         let started = scope.spawn_with(
             promise,
             move || -> Done<K, Vec<u64>>
-                requires { IsPart K.fits lines.now program number hand.items }
+                requires { IsPart K.fits keeping lines.now program number hand.items }
             {
                 run_node(
                     rt, alloc, gate, stop, lines, hand, program, number, keeping, capacity,
@@ -210,7 +210,7 @@ fn start_all<'s, 'a: 's, E, R: Threads + Wait + Sync, G: Gate, K: Keeps + Send +
     keeping: Keeping,
     capacity: u16,
 ) -> Result<Vec<Done<K, Vec<u64>>>, WorkRefusal>
-    requires { AreParts K.fits lines.now program hands }
+    requires { AreParts K.fits keeping lines.now program hands }
     ensures few { IfOk result (λ done. vec_len done ≤ vec_len hands) }
     ensures each { IfOk result (λ done. AtEach (λ k one. IsPartDone keeping lines.now program.entry k one.hand.items one.share) done.items) }
     ensures err { IfErr result (λ e. e ≡ WorkRefusal.OutOfMemory) }
@@ -313,7 +313,7 @@ fn run_each<R: Threads + Wait + Sync, G: Gate, K: Keeps + Send + Sync>(
     keeping: Keeping,
     capacity: u16,
 ) -> Result<Vec<Done<K, Vec<u64>>>, WorkRefusal>
-    requires { AreParts K.fits lines.now program hands }
+    requires { AreParts K.fits keeping lines.now program hands }
     ensures few { IfOk result (λ done. vec_len done ≤ vec_len hands) }
     ensures each { IfOk result (λ done. AtEach (λ k one. IsPartDone keeping lines.now program.entry k one.hand.items one.share) done.items) }
     ensures err { IfErr result (λ e. e ≡ WorkRefusal.OutOfMemory) }
@@ -324,7 +324,7 @@ fn run_each<R: Threads + Wait + Sync, G: Gate, K: Keeps + Send + Sync>(
         thread::scope_env(),
         rt,
         |scope| -> Result<Vec<Done<K, Vec<u64>>>, WorkRefusal>
-            requires { AreParts K.fits lines.now program hands }
+            requires { AreParts K.fits keeping lines.now program hands }
             ensures few { IfOk result (λ done. vec_len done ≤ vec_len hands) }
             ensures each { IfOk result (λ done. AtEach (λ k one. IsPartDone keeping lines.entry.now program.entry k one.hand.items one.share) done.items) }
             ensures err { IfErr result (λ e. e ≡ WorkRefusal.OutOfMemory) }
@@ -349,7 +349,7 @@ pub fn run_all<R: Threads + Wait + Sync, G: Gate, K: Keeps + Send + Sync>(
     keeping: Keeping,
     capacity: u16,
 ) -> Result<(Vec<Hand<K>>, Vec<Vec<u64>>), WorkRefusal>
-    requires { AreParts K.fits lines.now program hands }
+    requires { AreParts K.fits keeping lines.now program hands }
     ensures ok { IfOk result (λ r. AreEnded keeping lines.now program.entry (vec_len hands) r.0 r.1) }
     ensures err { IfErr result (ComesInStart program.entry) }
 {

@@ -145,6 +145,38 @@ fn a_hundred_items_pass_and_the_most_cells_are_taken_in(rt: HostRuntime) -> Resu
     Ok(())
 }
 
+/// How many lines a node may name that works on three tiles alone, and on which of their first lines it then stands: it writes them in
+/// order, and reads them again.
+const NAMED: [(u16, [bool; 3]); 4] = [
+    (1, [false, false, true]),
+    (2, [false, true, true]),
+    (3, [true, true, true]),
+    (1024, [true, true, true]),
+];
+
+#[test]
+fn a_node_names_as_many_lines_as_it_may(rt: HostRuntime) -> Result<(), Fail> {
+    for (capacity, wanted) in &NAMED {
+        let (job, sizes) = (Job::Stencil(0), (1, *capacity));
+        let (_, memory) = ran(
+            &rt,
+            rt.alloc(),
+            &job,
+            &ONE,
+            sizes,
+            Keeping::Nothing,
+            &OpenGate,
+        )?;
+        let mut named = [false; 3];
+        for (place, is_named) in named.iter_mut().enumerate() {
+            let line = memory.lines.get(place.wrapping_mul(2)).ok_or("no line")?;
+            *is_named = line.mem.forw.is_some();
+        }
+        same_at(&rt, capacity, &named, wanted);
+    }
+    Ok(())
+}
+
 /// A workload over so many zeros, the nodes whose calls may start, from the first to the one behind the last, and its refusal.
 type Refused = (Job, usize, (u16, u16), (u16, u16), WorkRefusal);
 

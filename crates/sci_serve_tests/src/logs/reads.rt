@@ -29,7 +29,7 @@ fn are_read(rt: &impl Abort, alloc: Global, rows: &[Row]) -> Result<(), Fail> {
             told,
             claim,
         };
-        same_at(rt, row, &read_entry(line.as_bytes()), &Some(want));
+        same_at(rt, row, &read_entry(line.as_bytes()), &Ok(want));
     }
     Ok(())
 }
@@ -212,7 +212,7 @@ fn lines_are_read(rt: HostRuntime) -> Result<(), Fail> {
 fn other_lines_are_none(rt: HostRuntime) -> Result<(), Fail> {
     for text in no_lines().iter() {
         let line = line_of(rt.alloc(), text)?;
-        same_at(&rt, text, &read_entry(line.as_bytes()), &None);
+        same_at(&rt, text, &read_entry(line.as_bytes()).is_ok(), &false);
     }
     Ok(())
 }

@@ -76,7 +76,7 @@ fn goes_on(rt: &impl Abort, whole: &mut Whole<AnyWords>, node: NodeId, event: Ev
 fn content_of(text: &str) -> Line {
     let mut content = Line::ZERO;
     for line in text.lines() {
-        if let Some((_, opening)) = read_opening(line.as_bytes()) {
+        if let Ok((_, opening)) = read_opening(line.as_bytes()) {
             content = opening;
         }
     }
@@ -87,7 +87,7 @@ fn content_of(text: &str) -> Line {
 fn is_run(rt: &impl Abort, alloc: Global, text: &str) -> Result<(), Fail> {
     let mut whole = opened(alloc, content_of(text))?;
     for line in text.lines() {
-        let Some(noted) = read_entry(line.as_bytes()) else {
+        let Ok(noted) = read_entry(line.as_bytes()) else {
             continue;
         };
         let Some((node, event, claim)) = step_of(&whole, &noted) else {

@@ -35,7 +35,7 @@ fn item<R: Wait, G: Gate, B: Bank>(
     ensures value { IfOk result (λ x. (source : List ℕ) → IsRing (B.Keep.fits (B.keep bank.old)) source lines → x ≡ slice_index source i) }
     ensures err { IfErr result ComesInWork }
     ensures made { Made B.gives B.readies B.at_step [] node.old bank.old node.new bank.new }
-    ensures still { IsStillBankOf node.old.keeps B.way B.keep B.at_step B.gives B.readies B.told bank.old node.new bank.new }
+    ensures still { IsStillBankOf node.old.keeps [] B.way B.keep B.at_step B.gives B.readies B.told bank.old node.new bank.new }
 {
     let line = line_of(i, lines);
     let number = i + 1;
@@ -64,7 +64,7 @@ pub(crate) fn consumed<R: Wait, G: Gate, B: Bank>(
     ensures ok { OnOk result (Made B.gives B.readies B.at_step (count_writes lines n) node.old bank.old node.new bank.new) }
     ensures err { IfErr result ComesInWork }
     ensures made { MadeSome B.gives B.readies B.at_step (count_writes lines) n node.old bank.old node.new bank.new }
-    ensures still { IsStillBankOf node.old.keeps B.way B.keep B.at_step B.gives B.readies B.told bank.old node.new bank.new }
+    ensures still { (ws : List (ℕ × List ℕ)) × IsStillBankOf node.old.keeps ws B.way B.keep B.at_step B.gives B.readies B.told bank.old node.new bank.new × OnOk result (ws ≡ count_writes lines n) }
 {
     let mut items = Vec::new(alloc);
     for i in 0..n {
@@ -102,7 +102,7 @@ pub fn consume<R: Wait, G: Gate, B: Bank>(
     ensures ok { OnOk result (Made B.gives B.readies B.at_step (count_writes lines n) node.old bank.old node.new bank.new) }
     ensures err { IsRingSize n lines → IfErr result ComesInWork }
     ensures made { MadeSome B.gives B.readies B.at_step (count_writes lines) n node.old bank.old node.new bank.new }
-    ensures still { IsStillBankOf node.old.keeps B.way B.keep B.at_step B.gives B.readies B.told bank.old node.new bank.new }
+    ensures still { (ws : List (ℕ × List ℕ)) × IsStillBankOf node.old.keeps ws B.way B.keep B.at_step B.gives B.readies B.told bank.old node.new bank.new × OnOk result (ws ≡ count_writes lines n) }
 {
     let mut door = Door::new(gate, stop, node.id().get());
     if !is_ring_size(n, lines) {

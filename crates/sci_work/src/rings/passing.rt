@@ -1,9 +1,10 @@
 //! A ring with its two nodes in threads of their own.
-ghost use Rattle.std.specs.Prelude.{◌≡◌, ◌+◌, ◌↔◌, Err, length, IfOk, IfErr, vec_len};
-ghost use Rattle.sci_work.specs.Ended.{AreClosed, AreKept, HaveNodes};
+ghost use Rattle.std.specs.Prelude.{◌≡◌, ◌+◌, ◌↔◌, Err, length, map, IfOk, IfErr, vec_len};
+ghost use Rattle.sci_work.specs.Ended.{AreClosed, AreKept, HaveNodes, lists_in};
 ghost use Rattle.sci_work.specs.Hands.{AtEach};
-ghost use Rattle.sci_work.specs.Ring.{FitsRing, IsRingRun, IsRingSize};
+ghost use Rattle.sci_work.specs.Ring.{FitsRing, IsRingRun, IsRingSize, ring_writes};
 ghost use Rattle.sci_work.specs.Starts.{ComesInRun, ComesInStart};
+ghost use Rattle.sci_work.specs.Written.{AreWrittenAs, WritesAlone};
 
 use crate::facts::RingFact;
 use crate::gates::Gate;
@@ -46,6 +47,7 @@ fn passed<R: Threads + Wait + Sync, G: Gate>(
     ensures closed { IfOk result (λ r. AreClosed (FitsRing source.now lines) (lines + 1) r.1.lines.items) }
     ensures nodes { IfOk result (λ r. HaveNodes 2 r.1.lines.items) }
     ensures kept { IfOk result (λ r. AreKept keeping (FitsRing source.now lines) 2 r.1) }
+    ensures wrote { IfOk result (λ r. AreWrittenAs (WritesAlone (ring_writes source.now lines)) (map lists_in r.1.receipts.items)) }
     ensures err { IfErr result (ComesInStart (Program.Ring source.entry lines)) }
 {
     let (shared, hands) = opened(alloc, 2, lines + 1, RingFact::new(source, lines))?;
@@ -76,6 +78,7 @@ pub fn ring<R: Threads + Wait + Sync, G: Gate>(
     ensures closed { IfOk result (λ r. AreClosed (FitsRing source.now lines) (lines + 1) r.1.lines.items) }
     ensures nodes { IfOk result (λ r. HaveNodes 2 r.1.lines.items) }
     ensures kept { IfOk result (λ r. AreKept keeping (FitsRing source.now lines) 2 r.1) }
+    ensures wrote { IfOk result (λ r. AreWrittenAs (WritesAlone (ring_writes source.now lines)) (map lists_in r.1.receipts.items)) }
     ensures err { IfErr result ComesInRun }
 {
     if !is_ring_size(source.len(), lines) || capacity == 0 || capacity > 1024 {

@@ -1,5 +1,5 @@
 //! The worker that writes the items of a ring.
-ghost use Rattle.std.specs.Prelude.{◌≡◌, ◌≢◌, ◌+◌, ◌^◌, ◌<◌, ◌≤◌, ◌⊎◌, ◌↔◌, [], Err, ◌∷◌, length, replicate, IfErr, IfOk, OnOk};
+ghost use Rattle.std.specs.Prelude.{◌≡◌, ◌≢◌, ◌+◌, ◌^◌, ◌<◌, ◌≤◌, ◌⊎◌, ◌↔◌, ℕ, List, [], Err, ◌∷◌, length, replicate, IfErr, IfOk, OnOk};
 ghost use Rattle.sci_work.specs.Made.{ComesInCall, IsBankOf, IsStillBankOf, Made, MadeSome};
 ghost use Rattle.sci_work.specs.Ring.{IsRing, IsRingSize, item_words, item_writes};
 
@@ -36,7 +36,7 @@ fn free<R: Wait, G: Gate, B: Bank>(
     ensures free { IfOk result (λ seen. i + 1 ≤ seen + lines) }
     ensures err { IfErr result ComesInCall }
     ensures made { Made B.gives B.readies B.at_step [] node.old bank.old node.new bank.new }
-    ensures still { IsStillBankOf node.old.keeps B.way B.keep B.at_step B.gives B.readies B.told bank.old node.new bank.new }
+    ensures still { IsStillBankOf node.old.keeps [] B.way B.keep B.at_step B.gives B.readies B.told bank.old node.new bank.new }
 {
     let least = (i + 1).saturating_sub(u64::from(lines));
     if consumed >= least {
@@ -64,7 +64,7 @@ pub(crate) fn produced<R: Wait, G: Gate, B: Bank>(
     ensures ok { OnOk result (Made B.gives B.readies B.at_step (item_writes source.now lines (length source.now)) node.old bank.old node.new bank.new) }
     ensures err { IfErr result ComesInCall }
     ensures made { MadeSome B.gives B.readies B.at_step (item_writes source.now lines) (length source.now) node.old bank.old node.new bank.new }
-    ensures still { IsStillBankOf node.old.keeps B.way B.keep B.at_step B.gives B.readies B.told bank.old node.new bank.new }
+    ensures still { (ws : List (ℕ × List ℕ)) × IsStillBankOf node.old.keeps ws B.way B.keep B.at_step B.gives B.readies B.told bank.old node.new bank.new × OnOk result (ws ≡ item_writes source.now lines (length source.now)) }
 {
     let mut consumed = 0;
     for (i, value) in source.iter().enumerate() {
@@ -97,7 +97,7 @@ pub fn produce<R: Wait, G: Gate, B: Bank>(
     ensures ok { OnOk result (Made B.gives B.readies B.at_step (item_writes source.now lines (length source.now)) node.old bank.old node.new bank.new) }
     ensures err { IsRingSize (length source.now) lines → IfErr result ComesInCall }
     ensures made { MadeSome B.gives B.readies B.at_step (item_writes source.now lines) (length source.now) node.old bank.old node.new bank.new }
-    ensures still { IsStillBankOf node.old.keeps B.way B.keep B.at_step B.gives B.readies B.told bank.old node.new bank.new }
+    ensures still { (ws : List (ℕ × List ℕ)) × IsStillBankOf node.old.keeps ws B.way B.keep B.at_step B.gives B.readies B.told bank.old node.new bank.new × OnOk result (ws ≡ item_writes source.now lines (length source.now)) }
 {
     let mut door = Door::new(gate, stop, node.id().get());
     if !is_ring_size(source.len(), lines) {

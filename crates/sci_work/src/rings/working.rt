@@ -1,7 +1,7 @@
 //! What each node does of a ring.
-ghost use Rattle.std.specs.Prelude.{◌≡◌, ◌<◌, length, IfOk, IfErr};
+ghost use Rattle.std.specs.Prelude.{◌≡◌, ◌<◌, ℕ, List, length, IfOk, IfErr, OnOk};
 ghost use Rattle.sci_work.specs.Made.{ComesInWork};
-ghost use Rattle.sci_work.specs.Ring.{IsRing, IsRingSize};
+ghost use Rattle.sci_work.specs.Ring.{IsRing, IsRingSize, ring_writes};
 ghost use Rattle.sci_work.specs.Workers.{HasWorked, IsReady};
 
 use crate::doors::Door;
@@ -31,7 +31,7 @@ pub(crate) fn worked<R: Wait, G: Gate, B: Bank>(
     requires ring { IsRing (B.Keep.fits (B.keep bank.old)) source.now lines }
     ensures share { IfOk result (λ share. number ≡ 1 → share.items ≡ source.now) }
     ensures err { IfErr result ComesInWork }
-    ensures worked { HasWorked node.old.keeps B.way B.keep B.at_step B.gives B.readies B.told bank.old node.new bank.new }
+    ensures worked { (ws : List (ℕ × List ℕ)) × HasWorked node.old.keeps ws B.way B.keep B.at_step B.gives B.readies B.told bank.old node.new bank.new × OnOk result (ws ≡ ring_writes source.now lines number) }
 {
     if number == 0 {
         produced(rt, door, node, bank, source, lines)?;

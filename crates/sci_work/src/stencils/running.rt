@@ -1,11 +1,12 @@
 //! A stencil with each node in a thread of its own.
-ghost use Rattle.std.specs.Prelude.{◌≡◌, ◌*◌, ◌/◌, ◌<◌, ◌≤◌, ◌↔◌, Err, length, IfOk, IfErr, IsTrue, vec_len};
-ghost use Rattle.sci_work.specs.Ended.{AreClosed, AreClosedOf, AreKept, AreKeptOn, HaveNodes};
+ghost use Rattle.std.specs.Prelude.{◌≡◌, ◌*◌, ◌/◌, ◌<◌, ◌≤◌, ◌↔◌, Err, length, map, IfOk, IfErr, IsTrue, vec_len};
+ghost use Rattle.sci_work.specs.Ended.{AreClosed, AreClosedOf, AreKept, AreKeptOn, AreOfHands, HaveNodes, lists_in};
 ghost use Rattle.sci_work.specs.Hands.{AtEach, IsHandOf};
 ghost use Rattle.sci_work.specs.Plain.{plain};
 ghost use Rattle.sci_work.specs.Shares.{IsShare};
 ghost use Rattle.sci_work.specs.Starts.{ComesInRun, ComesInStart};
-ghost use Rattle.sci_work.specs.Stencil.{FitsStencil, IsStencilSize};
+ghost use Rattle.sci_work.specs.Stencil.{FitsStencil, IsStencilSize, stencil_writes};
+ghost use Rattle.sci_work.specs.Written.{AreWrittenAs, WritesAlone};
 
 use crate::facts::StencilFact;
 use crate::gates::Gate;
@@ -53,6 +54,7 @@ fn ended<K: Keeps>(
     ensures cells { IfOk result (λ r. r.0.items ≡ plain work.entry.cells.now work.entry.phases) }
     ensures closed { IfOk result (λ r. AreClosedOf K.fits lines.items r.1.lines.items) }
     ensures kept { IfOk result (λ r. AreKeptOn keeping K.fits lines.items r.1) }
+    ensures own { IfOk result (λ r. AreOfHands hands.items r.1) }
     ensures err { IfErr result (λ e. e ≡ WorkRefusal.OutOfMemory) }
 {
     let cells = gathered(alloc, &shares, work)?;
@@ -77,6 +79,7 @@ fn run<R: Threads + Wait + Sync, G: Gate>(
     ensures closed { IfOk result (λ r. AreClosed (FitsStencil work.entry.cells.now work.entry.phases) (2 * work.entry.tiles) r.1.lines.items) }
     ensures nodes { IfOk result (λ r. HaveNodes work.entry.nodes r.1.lines.items) }
     ensures kept { IfOk result (λ r. AreKept keeping (FitsStencil work.entry.cells.now work.entry.phases) work.entry.nodes r.1) }
+    ensures wrote { IfOk result (λ r. AreWrittenAs (WritesAlone (stencil_writes work.entry.cells.now work.entry.phases work.entry.nodes work.entry.tiles)) (map lists_in r.1.receipts.items)) }
     ensures err { IfErr result (ComesInStart (Program.Stencil work.entry)) }
 {
     let fact = StencilFact::new(work.cells, work.phases);
@@ -110,6 +113,7 @@ pub fn stencil<R: Threads + Wait + Sync, G: Gate>(
     ensures closed { IfOk result (λ r. AreClosed (FitsStencil cells.now phases) (2 * (length cells.now / 7)) r.1.lines.items) }
     ensures nodes { IfOk result (λ r. HaveNodes nodes r.1.lines.items) }
     ensures kept { IfOk result (λ r. AreKept keeping (FitsStencil cells.now phases) nodes r.1) }
+    ensures wrote { IfOk result (λ r. AreWrittenAs (WritesAlone (stencil_writes cells.now phases nodes (length cells.now / 7))) (map lists_in r.1.receipts.items)) }
     ensures err { IfErr result ComesInRun }
 {
     if !is_stencil_size(cells.len(), phases, nodes, capacity) {

@@ -3,7 +3,7 @@ use Rattle.std.specs.Io.BufRead.{take_through}
 use Rattle.std.specs.Io.KnownBytes.{IsAtEnd}
 use Rattle.sci_follow.specs.declared.why.Due.{Due}
 use Rattle.sci_follow.specs.Logs.{Feeds}
-use Rattle.sci_follow.specs.Reasons.{WouldTell, due_of}
+use Rattle.sci_follow.specs.Reasons.{due_of, would_tell}
 use Rattle.sci_follow.specs.Streams.{without_end}
 use Rattle.sci_follow.proofs.Cutting.{stands_next, stops_here, ended_ok, ended_err}
 use Rattle.sci_follow.proofs.streams.follow_told.Goals as goal
@@ -27,7 +27,7 @@ returns-in-Err-feed-clause-err g c =
     let said : c.without_end-text.result.now ≡ without_end line = c.without_end-text.ensures ∙ ap without_end c.deref.ensures.value in
     stops_here (g.R.Read.remaining c.args.reader.now) had c.loop-number.log c.in-Err-feed.fault c.why.result c.loop-number.number line c.loop-number.invariant took some
     (subst (λ (x : List ℕ). Feeds c.loop-number.number x c.loop-number.log (Err c.in-Err-feed.fault)) said c.in-Err-feed.ensures)
-    (subst (λ (x : List ℕ). WouldTell c.in-Err-feed.fault (due_of c.loop-number.log) x c.why.result) said (subst (λ (d : Due). WouldTell c.in-Err-feed.fault d c.without_end-text.result.now c.why.result) c.new-due.ensures c.why.ensures))
+    (subst (λ (x : List ℕ). c.why.result ≡ would_tell c.in-Err-feed.fault (due_of c.loop-number.log) x) said (subst (λ (d : Due). c.why.result ≡ would_tell c.in-Err-feed.fault d c.without_end-text.result.now) c.new-due.ensures c.why.ensures))
 
 pub loop-number-preserved : goal.loop-number-preserved
 loop-number-preserved g c =

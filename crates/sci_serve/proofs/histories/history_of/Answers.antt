@@ -27,6 +27,7 @@ returns-clause-ok g c =
       record {
         lists = lists;
         histories = kept;
+        wrote = c.in_ok-memory.ensures.wrote;
         legal = legal_of (fits_of s) (nodes_of s) memory.lines.items lists kept;
         is = c.in_ok-text.ensures
             ∙ ap (λ (n : ℕ). history_text n c.in_ok-lines.lines.items) c.nodes-nodes.ensures

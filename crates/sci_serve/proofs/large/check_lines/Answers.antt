@@ -1,7 +1,7 @@
 use Rattle.std.proofs.Common.{rules, arith, [], ◌∷◌, ◌++◌, ◌∙◌}
 use Rattle.std.proofs.KnownBytes.{Appends-nil, Appends-trans}
 use Rattle.sci_dump.proofs.Streaming.{before_fault_front}
-use Rattle.sci_serve.proofs.Telling.{told_none, stream_stops, tell_stops}
+use Rattle.sci_serve.proofs.Telling.{told_none, stream_stops, stream_row, no_row, tell_stops}
 use Rattle.sci_serve.proofs.large.check_lines.Goals as goal
 
 pub loop-number-init : goal.loop-number-init
@@ -16,6 +16,14 @@ returns-in-Err-clause-err g c = λ input r.
     rw c.told_of.ensures.fault
     (stream_stops c.in-Err.fault input text cs c.loop-number.verdict (g.W.Write.contents c.args.writer.now) (g.W.Write.contents c.loop-number.writer)
     (before_fault_front input cs c.loop-number.stream (g.R.Read.remaining c.loop-number.reader) read) (c.in-Err.ensures.err input cs read) told appended)
+
+pub returns-in-Err-clause-row : goal.returns-in-Err-clause-row
+returns-in-Err-clause-row g c = λ input r.
+    let (cs, _, read, _, _) = c.loop-number.invariant.told input r in
+    rw (c.told_of.ensures.fault, c.told_of.ensures.row) (stream_row c.in-Err.fault input cs (c.in-Err.ensures.err input cs read))
+
+pub returns-in-Err-tell-clause-row : goal.returns-in-Err-tell-clause-row
+returns-in-Err-tell-clause-row g c = λ input r. no_row c.in-Err-tell.fault input c.in-Err-tell.ensures.why
 
 pub returns-in-Err-tell-clause-err : goal.returns-in-Err-tell-clause-err
 returns-in-Err-tell-clause-err g c = λ input r.

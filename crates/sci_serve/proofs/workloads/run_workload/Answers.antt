@@ -1,10 +1,11 @@
-use Rattle.std.proofs.Common.{◌∙◌, ◌*◌, ◌/◌, ◌+◌, ℕ, List, length, codes, subst, sym, ap, refl}
+use Rattle.std.proofs.Common.{◌∙◌, ◌*◌, ◌/◌, ◌+◌, ℕ, List, length, map, codes, subst, sym, ap, refl}
 use Rattle.std.proofs.lemmas.Result.{err_from_is_err_and}
 use Rattle.sci_work.specs.declared.keeping.Keeping.{Keeping}
-use Rattle.sci_work.specs.Ended.{AreClosed, AreKept, HaveNodes, IsCounted}
+use Rattle.sci_work.specs.Ended.{AreClosed, AreKept, HaveNodes, IsCounted, lists_in}
 use Rattle.sci_work.specs.Plain.{plain}
-use Rattle.sci_work.specs.Ring.{FitsRing, IsRingRun}
-use Rattle.sci_work.specs.Stencil.{FitsStencil, IsStencilSize}
+use Rattle.sci_work.specs.Ring.{FitsRing, IsRingRun, ring_writes}
+use Rattle.sci_work.specs.Stencil.{FitsStencil, IsStencilSize, stencil_writes}
+use Rattle.sci_work.specs.Written.{AreWrittenAs, WritesAlone}
 use Rattle.sci_serve.specs.Works.{count_line, list_line}
 use Rattle.sci_serve.proofs.Declining.{comes_in_run}
 use Rattle.sci_serve.proofs.workloads.run_workload.Goals as goal
@@ -35,6 +36,12 @@ returns-in_ok-cells-in-Stencil-clause-kept g c =
     (λ all. subst (λ (cells : List ℕ). AreKept Keeping.All (FitsStencil cells of.phases) of.nodes ended.memory) c.as_slice-cells.ensures
     (subst (λ (k : Keeping). AreKept k (FitsStencil c.as_slice-cells.result.now of.phases) of.nodes ended.memory) all ended.ensures.kept))
 
+pub returns-in_ok-cells-in-Stencil-clause-wrote : goal.returns-in_ok-cells-in-Stencil-clause-wrote
+returns-in_ok-cells-in-Stencil-clause-wrote g c =
+    let of = c.in-Stencil in let ended = c.in_ok-cells-in-Stencil in
+    rw of.is
+    (subst (λ (cells : List ℕ). AreWrittenAs (WritesAlone (stencil_writes cells of.phases of.nodes (length cells / 7))) (map lists_in ended.memory.receipts.items)) c.as_slice-cells.ensures ended.ensures.wrote)
+
 pub returns-in_err-items-in-Ring-clause-err : goal.returns-in_err-items-in-Ring-clause-err
 returns-in_err-items-in-Ring-clause-err g c =
     let of = c.in-Ring in let stopped = c.in_err-items-in-Ring in
@@ -60,6 +67,11 @@ returns-in_ok-items-in-Ring-clause-kept g c =
     (λ all. subst (λ (items : List ℕ). AreKept Keeping.All (FitsRing items of.lines) 2 ended.memory) c.as_slice-items.ensures
     (subst (λ (k : Keeping). AreKept k (FitsRing c.as_slice-items.result.now of.lines) 2 ended.memory) all ended.ensures.kept))
 
+pub returns-in_ok-items-in-Ring-clause-wrote : goal.returns-in_ok-items-in-Ring-clause-wrote
+returns-in_ok-items-in-Ring-clause-wrote g c =
+    let of = c.in-Ring in let ended = c.in_ok-items-in-Ring in
+    rw of.is (subst (λ (items : List ℕ). AreWrittenAs (WritesAlone (ring_writes items of.lines)) (map lists_in ended.memory.receipts.items)) c.as_slice-items.ensures ended.ensures.wrote)
+
 pub returns-in_err-word-in-Count-clause-err : goal.returns-in_err-word-in-Count-clause-err
 returns-in_err-word-in-Count-clause-err g c =
     let stopped = c.in_err-word-in-Count in
@@ -77,3 +89,6 @@ returns-in_ok-word-in-Count-clause-left g c =
 
 pub returns-in_ok-word-in-Count-clause-kept : goal.returns-in_ok-word-in-Count-clause-kept
 returns-in_ok-word-in-Count-clause-kept g c = rw c.in-Count.is (λ all. c.in_ok-word-in-Count.ensures.kept)
+
+pub returns-in_ok-word-in-Count-clause-wrote : goal.returns-in_ok-word-in-Count-clause-wrote
+returns-in_ok-word-in-Count-clause-wrote g c = rw c.in-Count.is c.in_ok-word-in-Count.ensures.wrote

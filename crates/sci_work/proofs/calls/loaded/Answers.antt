@@ -9,6 +9,7 @@ use Rattle.sci_work.specs.Made.{none, ready, load}
 use Rattle.sci_work.proofs.Making.{still_called}
 use Rattle.sci_work.proofs.Residual.{passed_on}
 use Rattle.sci_work.proofs.Worked.{still_not}
+use Rattle.sci_work.proofs.Written.{wrote_read}
 use Rattle.sci_work.proofs.calls.loaded.Goals as goal
 
 pub returns-in_err-enter : goal.returns-in_err-enter
@@ -25,7 +26,8 @@ pub returns-in-Ok-Seen-clause-made : goal.returns-in-Ok-Seen-clause-made
 returns-in-Ok-Seen-clause-made g c = load c.args.line c.load-answer.result (ready none c.load-answer.ensures.readied) c.load-answer.ensures.waits
 
 pub returns-in-Ok-Seen-clause-still : goal.returns-in-Ok-Seen-clause-still
-returns-in-Ok-Seen-clause-still g c = let e = c.load-answer.ensures in still_called c.args.node.now (Request.Load c.args.line) c.args.bank.now c.load-answer.result c.load-answer.new.bank c.load-answer.new.self e c.requires.ready
+returns-in-Ok-Seen-clause-still g c = let e = c.load-answer.ensures in
+    still_called c.args.node.now (Request.Load c.args.line) c.args.bank.now c.load-answer.result c.load-answer.new.bank c.load-answer.new.self e (λ yes. wrote_read c.args.line c.load-answer.result (e.kept yes)) c.requires.ready
 
 pub returns-in-Err : goal.returns-in-Err
 returns-in-Err g c =
@@ -34,7 +36,7 @@ returns-in-Err g c =
       fits = tt;
       err = c.refused.ensures.comes;
       made = load c.args.line c.load-answer.result (ready none c.load-answer.ensures.readied) c.load-answer.ensures.waits;
-      still = still_called c.args.node.now (Request.Load c.args.line) c.args.bank.now c.load-answer.result c.load-answer.new.bank c.load-answer.new.self e c.requires.ready;
+      still = still_called c.args.node.now (Request.Load c.args.line) c.args.bank.now c.load-answer.result c.load-answer.new.bank c.load-answer.new.self e (λ yes. wrote_read c.args.line c.load-answer.result (e.kept yes)) c.requires.ready;
     }
 
 pub returns-in-Ok-Seen-clause-err : goal.returns-in-Ok-Seen-clause-err

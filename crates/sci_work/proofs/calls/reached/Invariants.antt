@@ -7,6 +7,6 @@ invariant-loop g l =
     record {
       can : (goal.iterator-loop g).can_next l.iterator';
       finite : (goal.iterator-loop g).is_finite l.iterator';
-      still : IsStillBankOf l.fn.node.keeps g.B.Bank.way g.B.Bank.keep g.B.Bank.at_step g.B.Bank.gives g.B.Bank.readies g.B.Bank.told l.fn.bank l.node l.bank;
+      still : IsStillBankOf l.fn.node.keeps [] g.B.Bank.way g.B.Bank.keep g.B.Bank.at_step g.B.Bank.gives g.B.Bank.readies g.B.Bank.told l.fn.bank l.node l.bank;
       made : Made g.B.Bank.gives g.B.Bank.readies g.B.Bank.at_step [] l.fn.node l.fn.bank l.node l.bank;
     }

@@ -1,12 +1,13 @@
-use Rattle.std.proofs.Common.{◌≡◌, ◌∷◌, ◌++◌, ◌∙◌, [], List, length, refl, ap, sym, subst, IfErr}
+use Rattle.std.proofs.Common.{◌≡◌, ◌∷◌, ◌++◌, ◌∙◌, [], List, length, map, refl, ap, sym, subst, IfErr}
 use Rattle.std.proofs.lemmas.List.Elements.{All-cons, All-nil}
 use Rattle.std.proofs.lemmas.Result.{IfOk-from_err}
 use Rattle.std.specs.Prelude.{slice_index}
 use Rattle.sci_core.specs.Closed.{ClosedLine}
-use Rattle.sci_work.specs.Ended.{HaveNodes, IsCountSize, any_words}
+use Rattle.sci_work.specs.Ended.{HaveNodes, IsCountSize, any_words, lists_in}
 use Rattle.sci_work.specs.Starts.{ComesInStart}
 use Rattle.sci_work.specs.declared.programs.Program.{Program}
 use Rattle.sci_work.specs.declared.refusals.WorkRefusal.{WorkRefusal}
+use Rattle.sci_work.specs.Written.{AddsAlone, AreWrittenAs}
 use Rattle.sci_work.proofs.Closing.{one_history}
 use Rattle.sci_work.proofs.Refusing.{in_count}
 use Rattle.sci_work.proofs.Residual.{passed_on}
@@ -19,6 +20,7 @@ returns-then-not-is_count_size g c = record {
   ok = tt;
   nodes = tt;
   kept = tt;
+  wrote = tt;
   err = tt;
 }
 
@@ -32,6 +34,7 @@ returns-in_err-one g c =
       ok = IfOk-from_err r.result _ r.ensures.0;
       nodes = IfOk-from_err r.result _ r.ensures.0;
       kept = IfOk-from_err r.result _ r.ensures.0;
+      wrote = IfOk-from_err r.result _ r.ensures.0;
       err = passed_on r.result _ _ r.ensures.1 (in_count c.args.adds _ comes);
     }
 
@@ -44,6 +47,7 @@ returns-in_err-lines g c =
       ok = IfOk-from_err r.result _ r.ensures.0;
       nodes = IfOk-from_err r.result _ r.ensures.0;
       kept = IfOk-from_err r.result _ r.ensures.0;
+      wrote = IfOk-from_err r.result _ r.ensures.0;
       err = passed_on r.result _ _ r.ensures.1 tt;
     }
 
@@ -56,6 +60,7 @@ returns-in_err-receipts g c =
       ok = IfOk-from_err r.result _ r.ensures.0;
       nodes = IfOk-from_err r.result _ r.ensures.0;
       kept = IfOk-from_err r.result _ r.ensures.0;
+      wrote = IfOk-from_err r.result _ r.ensures.0;
       err = passed_on r.result _ _ r.ensures.1 tt;
     }
 
@@ -71,5 +76,6 @@ returns g c =
       ok = (closed, one, told.ok, ap (λ l. slice_index l.words 0) c.value.ensures.value);
       nodes = subst (λ (z : List _). HaveNodes c.args.nodes z) (sym one) (All-cons (λ (x : ClosedLine). length x.tags ≡ c.args.nodes) closed [] told.nodes (All-nil _));
       kept = one_history (λ _. any_words) c.args.nodes closed made.receipts _ _ one lists told.history;
+      wrote = subst (λ (z : List _). AreWrittenAs (AddsAlone c.args.adds) (map lists_in z)) (sym lists) told.wrote;
       err = tt;
     }

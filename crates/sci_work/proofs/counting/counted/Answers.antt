@@ -11,7 +11,7 @@ use Rattle.sci_work.specs.Starts.{AreParts}
 use Rattle.sci_work.specs.declared.programs.Program.{Program}
 use Rattle.sci_work.proofs.Closing.{line_history}
 use Rattle.sci_work.proofs.Dealing.{as_many}
-use Rattle.sci_work.proofs.Handed.{all_counted, none_written}
+use Rattle.sci_work.proofs.Handed.{all_counted, counted_alone, none_written}
 use Rattle.sci_work.proofs.Opening.{parts_of}
 use Rattle.sci_work.proofs.Refusing.{of_memory}
 use Rattle.sci_work.proofs.Residual.{both_ok, passed_on}
@@ -33,9 +33,9 @@ run_all-requires-after_bounds g c κs within =
     let line = c.in_ok-line.line in let hands = c.in_ok-hands.hands in let program = Program.Count c.args.adds in
     let len : vec_len hands ≡ c.args.nodes = c.in_ok-hands.ensures.len ∙ c.in_ok-line.ensures.len in
     let is_line = at_more (IsLine c.args.nodes _) [] (line ∷ []) line refl (λ k x e. absurd (some-ne-none x (sym e))) c.in_ok-line.ensures.line in
-    subst (λ (z : List _). AreParts fits_any z program hands) (sym c.from_ref.ensures.value)
-    (parts_of fits_any c.args.nodes _ 1 program (line ∷ []) hands refl (omega arith) (omega arith) is_line len c.requires.1 c.in_ok-hands.ensures.each
-    (λ k hand at. none_written c.in_ok-line.seats.items c.in_ok-line.ensures.new c.args.adds hands.items c.in_ok-hands.ensures.hold k hand at)
+    subst (λ (z : List _). AreParts fits_any Keeping.All z program hands) (sym c.from_ref.ensures.value)
+    (parts_of fits_any Keeping.All c.args.nodes _ 1 program (line ∷ []) hands refl (omega arith) (omega arith) is_line len c.requires.1
+    (λ k hand at. (c.in_ok-hands.ensures.each k hand at, none_written c.in_ok-line.seats.items c.in_ok-line.ensures.new hands.items c.in_ok-hands.ensures.hold k hand at))
     (λ k low. (omega arith, λ words size fits. tt)))
 
 pub gathered-requires : goal.gathered-requires
@@ -56,6 +56,7 @@ returns g c =
           (all_counted c.args.adds hands.items seats.items held (run.end refl)) own (as_line one h).whole) ended.ensures.own (ended.ensures.history refl);
       nodes = IfOk-weaker ended.result _ _ (λ one h. h.nodes ∙ c.in_ok-line.ensures.line.nodes_are) ended.ensures.ok;
       history = IfOk-weaker ended.result _ _ as_line (ended.ensures.history refl);
+      wrote = IfOk-weaker ended.result _ _ (λ one own. counted_alone c.args.adds seats.items (lists_in one.receipts) own (all_counted c.args.adds hands.items seats.items held (run.end refl))) ended.ensures.own;
       err = IfErr-weaker ended.result _ _ (of_memory (Program.Count c.args.adds)) ended.ensures.err;
     }
 
@@ -67,6 +68,7 @@ returns-in_err-line g c =
       total = IfOk-from_err r.result _ r.ensures.0;
       nodes = IfOk-from_err r.result _ r.ensures.0;
       history = IfOk-from_err r.result _ r.ensures.0;
+      wrote = IfOk-from_err r.result _ r.ensures.0;
       err = passed_on r.result _ _ r.ensures.1 (of_memory (Program.Count c.args.adds) _ c.in_err-line.ensures.err);
     }
 
@@ -78,6 +80,7 @@ returns-in_err-hands g c =
       total = IfOk-from_err r.result _ r.ensures.0;
       nodes = IfOk-from_err r.result _ r.ensures.0;
       history = IfOk-from_err r.result _ r.ensures.0;
+      wrote = IfOk-from_err r.result _ r.ensures.0;
       err = passed_on r.result _ _ r.ensures.1 (of_memory (Program.Count c.args.adds) _ c.in_err-hands.ensures.err);
     }
 
@@ -89,6 +92,7 @@ returns-in_err-hands-2 g c =
       total = IfOk-from_err r.result _ r.ensures.0;
       nodes = IfOk-from_err r.result _ r.ensures.0;
       history = IfOk-from_err r.result _ r.ensures.0;
+      wrote = IfOk-from_err r.result _ r.ensures.0;
       err = passed_on r.result _ _ r.ensures.1 c.in_err-hands-2.ensures.err;
     }
 
@@ -100,5 +104,6 @@ returns-in_err-seats g c =
       total = IfOk-from_err r.result _ r.ensures.0;
       nodes = IfOk-from_err r.result _ r.ensures.0;
       history = IfOk-from_err r.result _ r.ensures.0;
+      wrote = IfOk-from_err r.result _ r.ensures.0;
       err = passed_on r.result _ _ r.ensures.1 (of_memory (Program.Count c.args.adds) _ c.in_err-seats.ensures.err);
     }

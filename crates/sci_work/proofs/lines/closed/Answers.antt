@@ -6,8 +6,8 @@ use lib.ListN.{get_elem?}
 use Rattle.atomic_table.proofs.Lists.{at_last, at_longer}
 use Rattle.sci_work.specs.declared.keeping.Keeping.{Keeping}
 use Rattle.sci_work.specs.Ended.{IsClosedOf, IsHistoryOn, lists_in}
-use Rattle.sci_work.specs.Hands.{IsHandOf}
-use Rattle.sci_work.proofs.Closing.{kept_by}
+use Rattle.sci_work.specs.Hands.{AtEach, IsHandOf, IsListOf}
+use Rattle.sci_work.proofs.Closing.{kept_by, own_by, read_from}
 use Rattle.sci_work.proofs.Counts.{all_done, from_none}
 use Rattle.sci_work.proofs.Residual.{passed_on}
 use Rattle.sci_work.proofs.lines.closed.Goals as goal
@@ -24,6 +24,14 @@ pairs_more {A} {B} P xs from x ys more y is at here rest k a b ea eb = places k 
         let same : x ≡ a = some-injective x a (sym at ∙ subst (λ (z : ℕ). get_elem? xs z ≡ some a) first ea) in
         subst (λ (z : A). P z b) same (subst (λ (z : B). P x z) (some-injective y b eb) here)
     places (suc j) ea eb = let next : suc j + from ≡ j + (from + 1) = omega arith in rest j a b (subst (λ (z : ℕ). get_elem? xs z ≡ some a) next ea) eb
+
+-- and of each alone, by its place from there
+fronts_more : {B : Type 0} (P : ℕ → B → Type 0) (from : ℕ) (ys more : List B) (y : B) → more ≡ y ∷ ys → P from y → ((k : ℕ) (b : B) → get_elem? ys k ≡ some b → P (k + (from + 1)) b) → (k : ℕ) (b : B) → get_elem? more k ≡ some b → P (k + from) b
+fronts_more {B} P from ys more y is here rest k b at = places k (subst (λ (z : List B). get_elem? z k ≡ some b) is at)
+  where
+    places : (k : ℕ) → get_elem? (y ∷ ys) k ≡ some b → P (k + from) b
+    places zero e = let first : from ≡ 0 + from = omega arith in subst (λ (n : ℕ). P n b) first (subst (P from) (some-injective y b e) here)
+    places (suc j) e = let next : j + (from + 1) ≡ suc j + from = omega arith in subst (λ (n : ℕ). P n b) next (rest j b e)
 
 -- and of each three
 triples_more : {A B C : Type 0} (P : A → B → C → Type 0) (xs : List A) (from : ℕ) (x : A) (ys more : List B) (y : B) (zs many : List C) (z : C) → more ≡ y ∷ ys → many ≡ z ∷ zs → get_elem? xs from ≡ some x → P x y z
@@ -52,6 +60,8 @@ loop-init g c = record {
   lists = λ all. c.in_ok-receipts.ensures.len;
   lists_room = λ all. subst (λ (z : ℕ). z ≤ vec_capacity c.in_ok-receipts.receipts) (c.lists_for.ensures.all all ∙ c.len-2.ensures) c.in_ok-receipts.ensures.capacity;
   none = λ nothing. c.in_ok-receipts.ensures.items;
+  from = λ k x e. (x, e, λ line s at. at);
+  own = λ all k v e. absurd (some-ne-none v (sym (subst (λ (z : List _). get_elem? (reverse z) k ≡ some v) c.in_ok-receipts.ensures.items e)));
   histories = λ all k x d v el ed ev. absurd (some-ne-none v (sym (subst (λ (z : List _). get_elem? (reverse z) k ≡ some v) c.in_ok-receipts.ensures.items ev)));
   each = λ k x d el ed. absurd (some-ne-none d (sym (subst (λ (z : List _). get_elem? (reverse z) k ≡ some d) c.in_ok-all.ensures.items ed)));
 }
@@ -81,6 +91,14 @@ loop-preserved g c =
           omega (arith, more, length-append c.loop.receipts.items (made.receipts ∷ []), i.lists all, c.keep_lists.new.receipts.ok, c.loop.receipts.ok);
       lists_room = λ all. subst (λ (z : ℕ). vec_len c.args.lines ≤ z) (sym kept.room) (i.lists_room all);
       none = λ nothing. kept.nothing nothing ∙ i.none nothing;
+      from = λ k x e. let f = c.in_ok-fewer.ensures.fewer k x e in let o = i.from k f.0 f.1 in (o.0, o.1, λ line s at. o.2 line s (f.2 line s at));
+      own = λ all. fronts_more (λ n v. AtEach (λ node list. IsListOf (vec_items c.args.hands) node n list) (lists_in v)) rest (reverse c.loop.receipts.items) (reverse c.keep_lists.new.receipts.items) made.receipts (lists_more all)
+          (λ node list at.
+          let v = read_from (λ (s : _). s.receipts.list) c.in_ok-fewer.seats.items node list (subst (λ (z : List _). get_elem? z node ≡ some list) told.own at) in
+          let h = c.in_ok-fewer.ensures.last node v.0 v.1 in let o = i.from node h.0 h.1 in
+          let stands = ap (λ (z : List _). length z) c.deref.ensures.value ∙ size in
+          (o.0, o.1, v.0, o.2 rest v.0 (subst (λ (n : ℕ). get_elem? h.0.items n ≡ some v.0) stands h.2), v.2))
+          (λ k v e. subst (λ (n : ℕ). AtEach (λ node list. IsListOf (vec_items c.args.hands) node (k + n) list) (lists_in v)) (sym one) (i.own all k v e));
       histories = λ all. triples_more (λ x d v. IsHistoryOn g.K.Keeps.fits x d (lists_in v)) c.args.lines.items rest line
           (reverse c.loop.all.items) (reverse c.push_reserved.new.self.items) made.closed (reverse c.loop.receipts.items) (reverse c.keep_lists.new.receipts.items) made.receipts closed_more (lists_more all) at_rest
           (told.history all)
@@ -111,6 +129,14 @@ returns-clause-kept g c =
     })
     (λ nothing. c.reverse-2.ensures.items ∙ ap reverse (i.none nothing))
 
+pub returns-clause-own : goal.returns-clause-own
+returns-clause-own g c =
+    let i = c.loop.invariant in
+    let none = all_done (vec_len c.loop.rest) c.loop.counter c.len-end.result (vec_len c.args.lines) i.rest c.loop-test.false c.len-end.ensures in
+    own_by c.args.keeping c.args.hands.items (record { lines = c.reverse.new.self; receipts = c.reverse-2.new.self })
+    (λ all k v e. subst (λ (n : ℕ). AtEach (λ node list. IsListOf (vec_items c.args.hands) node n list) (lists_in v)) (sym (from_none k (vec_len c.loop.rest) none)) (i.own all k v (subst (λ (z : List _). get_elem? z k ≡ some v) c.reverse-2.ensures.items e)))
+    (λ nothing. c.reverse-2.ensures.items ∙ ap reverse (i.none nothing))
+
 pub keep_lists-requires : goal.keep_lists-requires
 keep_lists-requires g c = λ all.
     let i = c.loop.invariant in
@@ -118,7 +144,7 @@ keep_lists-requires g c = λ all.
     let n = i.lists all in let room = i.lists_room all in omega (arith, n, room, i.rest, one)
 
 pub returns-in_err-receipts : goal.returns-in_err-receipts
-returns-in_err-receipts g c = let r = c.from_residual-in_err-receipts in record { ok = IfOk-from_err r.result _ r.ensures.0; kept = IfOk-from_err r.result _ r.ensures.0; err = passed_on r.result _ _ r.ensures.1 refl }
+returns-in_err-receipts g c = let r = c.from_residual-in_err-receipts in record { ok = IfOk-from_err r.result _ r.ensures.0; kept = IfOk-from_err r.result _ r.ensures.0; own = IfOk-from_err r.result _ r.ensures.0; err = passed_on r.result _ _ r.ensures.1 refl }
 
 pub last_seats-requires : goal.last_seats-requires
 last_seats-requires g c = λ k x e.
@@ -128,10 +154,10 @@ pub finished-requires : goal.finished-requires
 finished-requires g c = c.in_ok-fewer.ensures.seats
 
 pub returns-in_err-all : goal.returns-in_err-all
-returns-in_err-all g c = let r = c.from_residual in record { ok = IfOk-from_err r.result _ r.ensures.0; kept = IfOk-from_err r.result _ r.ensures.0; err = passed_on r.result _ _ r.ensures.1 refl }
+returns-in_err-all g c = let r = c.from_residual in record { ok = IfOk-from_err r.result _ r.ensures.0; kept = IfOk-from_err r.result _ r.ensures.0; own = IfOk-from_err r.result _ r.ensures.0; err = passed_on r.result _ _ r.ensures.1 refl }
 
 pub returns-in_err-fewer : goal.returns-in_err-fewer
-returns-in_err-fewer g c = let r = c.from_residual-in_err-fewer in record { ok = IfOk-from_err r.result _ r.ensures.0; kept = IfOk-from_err r.result _ r.ensures.0; err = passed_on r.result _ _ r.ensures.1 c.in_err-fewer.ensures.err }
+returns-in_err-fewer g c = let r = c.from_residual-in_err-fewer in record { ok = IfOk-from_err r.result _ r.ensures.0; kept = IfOk-from_err r.result _ r.ensures.0; own = IfOk-from_err r.result _ r.ensures.0; err = passed_on r.result _ _ r.ensures.1 c.in_err-fewer.ensures.err }
 
 pub returns-in_err-one : goal.returns-in_err-one
-returns-in_err-one g c = let r = c.from_residual-in_err-one in record { ok = IfOk-from_err r.result _ r.ensures.0; kept = IfOk-from_err r.result _ r.ensures.0; err = passed_on r.result _ _ r.ensures.1 c.in_err-one.ensures.err }
+returns-in_err-one g c = let r = c.from_residual-in_err-one in record { ok = IfOk-from_err r.result _ r.ensures.0; kept = IfOk-from_err r.result _ r.ensures.0; own = IfOk-from_err r.result _ r.ensures.0; err = passed_on r.result _ _ r.ensures.1 c.in_err-one.ensures.err }

@@ -1,9 +1,8 @@
 use Rattle.std.proofs.Common.{◌≡◌, ◌≤◌, ℕ, List, [], length, vec_items, arith, sym, subst}
 use mathlib.Core.Option.{some, some-ne-none}
 use lib.ListN.{get_elem?}
-use Rattle.sci_work.specs.declared.keeping.Keeping.{Keeping}
-use Rattle.sci_work.specs.Hands.{IsHandOf}
-use Rattle.sci_work.proofs.Dealing.{no_hand}
+use Rattle.sci_work.specs.Hands.{IsNewHand}
+use Rattle.sci_work.proofs.Dealing.{no_new_hand}
 use Rattle.sci_work.proofs.Seated.{at_more}
 use Rattle.sci_work.proofs.lines.empty_hands.Goals as goal
 
@@ -20,6 +19,6 @@ loop-preserved g c =
     record {
       len = omega (arith, i.len, more.len);
       room = subst (λ (n : ℕ). c.args.nodes ≤ n) (sym more.capacity) i.room;
-      each = at_more (λ k hand. IsHandOf Keeping.All [] k (vec_items hand)) c.loop.hands.items c.push_reserved.new.self.items c.new.result more.items i.each
-          (no_hand (length c.loop.hands.items) c.new.result.items c.new.ensures.items);
+      each = at_more (λ k hand. IsNewHand [] k (vec_items hand)) c.loop.hands.items c.push_reserved.new.self.items c.new.result more.items i.each
+          (no_new_hand (length c.loop.hands.items) c.new.result.items c.new.ensures.items);
     }

@@ -4,8 +4,8 @@ use mathlib.Core.Option.{some, some-ne-none}
 use lib.ListN.{get_elem?}
 use Rattle.sci_core.specs.State.{blank}
 use Rattle.sci_fine.specs.Banks.{IsLine}
-use Rattle.sci_work.specs.declared.keeping.Keeping.{Keeping}
-use Rattle.sci_work.specs.Hands.{IsHandOf}
+use Rattle.sci_work.specs.Hands.{IsNewHand}
+use Rattle.sci_work.proofs.Dealing.{are_new}
 use Rattle.sci_work.proofs.Residual.{passed_on}
 use Rattle.sci_work.proofs.Seated.{at_more}
 use Rattle.sci_work.proofs.lines.opened.Goals as goal
@@ -21,7 +21,7 @@ loop-number-preserved g c =
           (subst (λ (k : ℕ). IsLine c.args.nodes c.args.keep k c.in_ok-line.line) at made.line);
       zeros = at_more (λ k x. x.terms.opening ≡ blank) c.loop-number.lines.items c.push_reserved.new.self.items c.in_ok-line.line more.items i.zeros made.opening;
       len = c.in_ok-hands-2.ensures.len ∙ i.len;
-      hands = λ k x e. subst (λ (z : List _). IsHandOf Keeping.All z k (vec_items x)) (ap (λ (z : List _). z ++ c.in_ok-line.line ∷ []) c.deref.ensures.value ∙ sym more.items) (c.in_ok-hands-2.ensures.each k x e);
+      hands = λ k x e. subst (λ (z : List _). IsNewHand z k (vec_items x)) (ap (λ (z : List _). z ++ c.in_ok-line.line ∷ []) c.deref.ensures.value ∙ sym more.items) (c.in_ok-hands-2.ensures.each k x e);
     }
 
 pub loop-number-init : goal.loop-number-init
@@ -33,7 +33,7 @@ loop-number-init g c =
       lines = λ k x e. absurd (some-ne-none x (sym (subst (λ (z : List _). get_elem? z k ≡ some x) made.items e)));
       zeros = λ k x e. absurd (some-ne-none x (sym (subst (λ (z : List _). get_elem? z k ≡ some x) made.items e)));
       len = c.in_ok-hands.ensures.len;
-      hands = λ k x e. subst (λ (z : List _). IsHandOf Keeping.All z k (vec_items x)) (sym made.items) (c.in_ok-hands.ensures.each k x e);
+      hands = λ k x e. subst (λ (z : List _). IsNewHand z k (vec_items x)) (sym made.items) (c.in_ok-hands.ensures.each k x e);
     }
 
 pub zeroed-requires : goal.zeroed-requires
@@ -42,8 +42,8 @@ zeroed-requires g c = record { nodes = c.requires.nodes; fits = c.requires.fits 
 pub extended-requires : goal.extended-requires
 extended-requires g c = record {
   count = c.in_ok-line.ensures.len ∙ sym c.loop-number.invariant.len;
-  seats = c.in_ok-line.ensures.seats;
-  hands = λ k x e. subst (λ (z : List _). IsHandOf Keeping.All z k (vec_items x)) (sym c.deref.ensures.value) (c.loop-number.invariant.hands k x e);
+  seats = are_new c.in_ok-line.line c.in_ok-line.seats.items c.in_ok-line.ensures.seats c.in_ok-line.ensures.new;
+  hands = λ k x e. subst (λ (z : List _). IsNewHand z k (vec_items x)) (sym c.deref.ensures.value) (c.loop-number.invariant.hands k x e);
 }
 
 pub returns : goal.returns

@@ -1,8 +1,7 @@
 use Rattle.std.proofs.Common.{◌≡◌, ◌≤◌, vec_items, vec_len, vec_capacity}
 use Rattle.sci_core.specs.State.{blank}
 use Rattle.sci_fine.specs.Banks.{IsLine}
-use Rattle.sci_work.specs.declared.keeping.Keeping.{Keeping}
-use Rattle.sci_work.specs.Hands.{AtEach, IsHandOf}
+use Rattle.sci_work.specs.Hands.{AtEach, IsNewHand}
 use Rattle.sci_work.proofs.lines.opened.Given as goal
 
 abbrev pub invariant-loop-number : goal.invariant-loop-number
@@ -12,5 +11,5 @@ invariant-loop-number g l = record {
   lines : AtEach (IsLine l.nodes l.keep) (vec_items l.lines);
   zeros : AtEach (λ k x. x.terms.opening ≡ blank) (vec_items l.lines);
   len : vec_len l.hands ≡ l.nodes;
-  hands : AtEach (λ k hand. IsHandOf Keeping.All (vec_items l.lines) k (vec_items hand)) (vec_items l.hands);
+  hands : AtEach (λ k hand. IsNewHand (vec_items l.lines) k (vec_items hand)) (vec_items l.hands);
 }

@@ -1,4 +1,4 @@
-use Rattle.std.proofs.Common.{◌≡◌, ◌<◌, ℕ, arith, refl, sym, subst, ◌∙◌}
+use Rattle.std.proofs.Common.{◌≡◌, ◌<◌, ℕ, [], arith, refl, sym, subst, ◌∙◌}
 use Rattle.std.proofs.lemmas.Result.{IfOk-from_err}
 use Rattle.sci_ops.specs.declared.goals.Goal.{Goal}
 use Rattle.sci_ops.specs.declared.goals.Write.{Write}
@@ -10,27 +10,27 @@ use Rattle.sci_work.proofs.Worked.{worked_not, worked_then}
 use Rattle.sci_work.proofs.programs.counted.Goals as goal
 
 pub loop-init : goal.loop-init
-loop-init g c = record { worked = worked_not c.requires.ready; added = λ yes. added_none (g.B.Bank.told c.args.bank.now 0).list }
+loop-init g c = record { worked = ([], worked_not c.requires.ready); added = λ yes. added_none (g.B.Bank.told c.args.bank.now 0).list }
 
 pub added-requires-clause-ready : goal.added-requires-clause-ready
-added-requires-clause-ready g c κs within = c.loop.invariant.worked.ready
+added-requires-clause-ready g c κs within = c.loop.invariant.worked.1.ready
 
 pub added-requires-clause-line : goal.added-requires-clause-line
-added-requires-clause-line g c κs within = subst (λ w. 0 < w.lines) (sym c.loop.invariant.worked.same_way) c.requires.line
+added-requires-clause-line g c κs within = subst (λ w. 0 < w.lines) (sym c.loop.invariant.worked.1.same_way) c.requires.line
 
 pub added-requires-clause-fits : goal.added-requires-clause-fits
-added-requires-clause-fits g c κs within = subst (λ k. StoresFitting (g.B.Keep.Keeps.fits k 0) (Goal.Write (Write.Add 0 1))) (sym c.loop.invariant.worked.same_fact) c.requires.fits
+added-requires-clause-fits g c κs within = subst (λ k. StoresFitting (g.B.Keep.Keeps.fits k 0) (Goal.Write (Write.Add 0 1))) (sym c.loop.invariant.worked.1.same_fact) c.requires.fits
 
 pub loop-preserved : goal.loop-preserved
 loop-preserved g c =
-    record { worked = worked_then c.loop.invariant.worked c.added.ensures.worked; added = λ yes. added_more (c.loop.invariant.added yes) (c.in_ok-added.ensures.added (c.loop.invariant.worked.same_keeps ∙ yes)) refl }
+    record { worked = (_, worked_then c.loop.invariant.worked.1 c.added.ensures.worked.1); added = λ yes. added_more (c.loop.invariant.added yes) (c.in_ok-added.ensures.added (c.loop.invariant.worked.1.same_keeps ∙ yes)) refl }
 
 pub returns-in_err-added : goal.returns-in_err-added
 returns-in_err-added g c =
     let r = c.from_residual in
     record {
       err = passed_on r.result _ _ r.ensures.1 c.in_err-added.ensures.err;
-      worked = worked_then c.loop.invariant.worked c.added.ensures.worked;
+      worked = (_, worked_then c.loop.invariant.worked.1 c.added.ensures.worked.1);
       added = λ yes. IfOk-from_err r.result _ r.ensures.0;
     }
 

@@ -1,10 +1,10 @@
-use Rattle.std.proofs.Common.{◌≡◌, true}
+use Rattle.std.proofs.Common.{◌≡◌, ℕ, true, List}
 use Rattle.sci_work.specs.Adding.{HasAdded}
 use Rattle.sci_work.specs.Workers.{HasWorked}
 use Rattle.sci_work.proofs.programs.counted.Given as goal
 
 abbrev pub invariant-loop : goal.invariant-loop
 invariant-loop g l = record {
-  worked : HasWorked l.fn.node.keeps g.B.Bank.way g.B.Bank.keep g.B.Bank.at_step g.B.Bank.gives g.B.Bank.readies g.B.Bank.told l.fn.bank l.node l.bank;
+  worked : (ws : List (ℕ × List ℕ)) × HasWorked l.fn.node.keeps ws g.B.Bank.way g.B.Bank.keep g.B.Bank.at_step g.B.Bank.gives g.B.Bank.readies g.B.Bank.told l.fn.bank l.node l.bank;
   added : l.fn.node.keeps ≡ true → HasAdded l.counter (g.B.Bank.told l.fn.bank 0).list (g.B.Bank.told l.bank 0).list;
 }

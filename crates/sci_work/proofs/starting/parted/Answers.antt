@@ -6,7 +6,7 @@ use mathlib.Core.Option.{some, some-ne-none}
 use lib.ListN.{get_elem?}
 use Rattle.sci_work.specs.Hands.{IsHandOf}
 use Rattle.sci_work.specs.Programs.{IsShareOf}
-use Rattle.sci_work.specs.Starts.{HasAddedAll, IsPartDone}
+use Rattle.sci_work.specs.Starts.{HasWrittenAll, IsPartDone}
 use Rattle.sci_work.proofs.Residual.{passed_on}
 use Rattle.sci_work.proofs.Seated.{at_first, at_more, count_of, gone_over}
 use Rattle.sci_work.proofs.starting.parted.Goals as goal
@@ -50,8 +50,8 @@ loop-one-preserved g c =
       ended = (at_first (λ k one. IsOk one.share) (into_iter_items c.loop-one.one-iterator) (into_iter_items c.next.new.self) c.in-Some.one 0 step.0 i.ended).1;
       hands = at_more (λ k hand. IsHandOf c.args.keeping c.args.lines.now k (vec_items hand)) c.loop-one.hands.items c.push_reserved.new.self.items one.hand more.items i.hands
           (subst (λ (z : ℕ). IsHandOf c.args.keeping c.args.lines.now z (vec_items one.hand)) here f.0.hand);
-      end = λ all. at_more (λ k hand. HasAddedAll c.args.program (vec_items hand)) c.loop-one.hands.items c.push_reserved.new.self.items one.hand more.items (i.end all)
-          (subst (λ r. OnOk r (HasAddedAll c.args.program (vec_items one.hand))) c.in-Ok.is (f.0.ends all));
+      end = λ all. at_more (λ k hand. HasWrittenAll c.args.program k (vec_items hand)) c.loop-one.hands.items c.push_reserved.new.self.items one.hand more.items (i.end all)
+          (subst (λ (z : ℕ). HasWrittenAll c.args.program z (vec_items one.hand)) here (subst (λ r. OnOk r (HasWrittenAll c.args.program (vec_len c.loop-one.hands) (vec_items one.hand))) c.in-Ok.is (f.0.ends all)));
       shares = at_more (λ k share. IsShareOf c.args.program k (vec_items share)) c.loop-one.shares.items c.push_reserved-in-loop-one.new.self.items c.in-Ok.share shared.items i.shares
           (subst (λ (z : ℕ). IsShareOf c.args.program z (vec_items c.in-Ok.share)) there (subst (λ r. IfOk r (λ s. IsShareOf c.args.program (vec_len c.loop-one.hands) s.items)) c.in-Ok.is f.0.share_is));
     }

@@ -3,7 +3,7 @@ use Rattle.std.specs.Vec.Iter.{into_iter_items, into_iter_len}
 use Rattle.sci_work.specs.declared.keeping.Keeping.{Keeping}
 use Rattle.sci_work.specs.Hands.{AtEach, IsHandOf}
 use Rattle.sci_work.specs.Programs.{IsShareOf}
-use Rattle.sci_work.specs.Starts.{HasAddedAll, IsPartDone}
+use Rattle.sci_work.specs.Starts.{HasWrittenAll, IsPartDone}
 use Rattle.sci_work.proofs.starting.parted.Given as goal
 
 abbrev pub invariant-loop-one : goal.invariant-loop-one
@@ -15,6 +15,6 @@ invariant-loop-one g l = record {
   left : AtEach (λ k one. IsPartDone l.fn.keeping l.lines l.fn.program (k + vec_len l.hands) (vec_items one.hand) one.share) (into_iter_items l.one-iterator);
   ended : AtEach (λ k one. IsOk one.share) (into_iter_items l.one-iterator);
   hands : AtEach (λ k hand. IsHandOf l.fn.keeping l.lines k (vec_items hand)) (vec_items l.hands);
-  end : l.fn.keeping ≡ Keeping.All → AtEach (λ k hand. HasAddedAll l.fn.program (vec_items hand)) (vec_items l.hands);
+  end : l.fn.keeping ≡ Keeping.All → AtEach (λ k hand. HasWrittenAll l.fn.program k (vec_items hand)) (vec_items l.hands);
   shares : AtEach (λ k share. IsShareOf l.fn.program k (vec_items share)) (vec_items l.shares);
 }

@@ -1,8 +1,9 @@
 use Rattle.std.proofs.Common.{IfOk, IfErr, ap, refl, sym, subst, ◌∙◌}
 use Rattle.std.specs.Result.{OnOk}
 use Rattle.sci_fine.proofs.KeptBank.{AllKept, bank_keeps}
+use Rattle.sci_work.specs.Hands.{HasWrittenNothing}
 use Rattle.sci_work.specs.Programs.{ComesInPart, IsShareOf}
-use Rattle.sci_work.specs.Starts.{HasAddedAll, HasWrittenNothing}
+use Rattle.sci_work.specs.Starts.{HasWrittenAll}
 use Rattle.sci_work.proofs.Handed.{bank_node, ends_so, hand_after, idle_before, suits_bank}
 use Rattle.sci_work.proofs.Making.{on_ok_then}
 use Rattle.sci_work.proofs.Reached.{reached_field}
@@ -36,8 +37,8 @@ returns g c =
           back w.of e.idle
           (λ yes. bank_keeps _ _ _ g.K.Keeps.fits (λ u. u.seats.items) (λ u line call v h. h.1) (λ u line r v h. h.1) (λ u line. refl) (e.kept yes) all);
       share_is = subst (λ r. IfOk r (λ s. IsShareOf c.args.program c.args.number s.items)) (sym c.told-share.ensures) e.share;
-      ends = λ yes. subst (λ r. OnOk r (HasAddedAll c.args.program c.into_seats-hand.result.items)) (sym c.told-share.ensures)
-          (on_ok_then c.share_of-share.result (λ written. subst (λ z. HasAddedAll c.args.program z) (sym back)
-          (ends_so c.args.program b.seats.items w.seats.items (subst (λ z. HasWrittenNothing c.args.program z) (sym begun) p.begins) written)) (e.written yes));
+      ends = λ yes. subst (λ r. OnOk r (HasWrittenAll c.args.program c.args.number c.into_seats-hand.result.items)) (sym c.told-share.ensures)
+          (on_ok_then c.share_of-share.result (λ written. subst (λ z. HasWrittenAll c.args.program c.args.number z) (sym back)
+          (ends_so c.args.program c.args.number b.seats.items w.seats.items (subst HasWrittenNothing (sym begun) (p.begins yes)) written)) (e.written yes));
       refused = subst (λ r. IfErr r (ComesInPart c.args.program)) (sym c.told-share.ensures) e.err;
     }

@@ -3,8 +3,7 @@ use Rattle.std.specs.Vec.Iter.{into_iter_items, into_iter_len}
 use mathlib.Core.Option.{some}
 use lib.ListN.{get_elem?}
 use Rattle.sci_work.specs.declared.keeping.Keeping.{Keeping}
-use Rattle.sci_work.specs.Hands.{IsHandOf}
-use Rattle.sci_work.specs.Starts.{HasWrittenNothing}
+use Rattle.sci_work.specs.Hands.{HasWrittenNothing, IsHandOf}
 use Rattle.sci_work.proofs.Seated.{at_first, count_of, gone_over, or_more}
 use Rattle.sci_work.proofs.starting.start_each.Goals as goal
 
@@ -17,8 +16,8 @@ loop-hand-init g c = record {
       subst (λ (z : ℕ). IsHandOf Keeping.All c.args.lines.now z (vec_items h)) at w;
   len = c.requires.room.0;
   room = c.requires.room.1;
-  begin = λ k h e.
-      let w = c.requires.parts.begin k h (subst (λ (z : List _). get_elem? z k ≡ some h) c.into_iter-hand-iterator.ensures.into_iter_gives.0 e) in w;
+  begin = λ all k h e.
+      let w = c.requires.parts.begin all k h (subst (λ (z : List _). get_elem? z k ≡ some h) c.into_iter-hand-iterator.ensures.into_iter_gives.0 e) in w;
   promised = λ k d low. absurd (omega (arith, low, c.requires.room.0));
 }
 
@@ -26,12 +25,12 @@ pub spawn_with-started-requires-clause-runs : goal.spawn_with-started-requires-c
 spawn_with-started-requires-clause-runs g c κs within =
     let was = c.loop-hand.invariant in let step = c.in-Some.ensures.steps in
     let f = at_first (λ k hand. IsHandOf Keeping.All c.args.lines.now k (vec_items hand)) (into_iter_items c.loop-hand.hand-iterator) (into_iter_items c.next.new.self) c.in-Some.hand c.loop-hand.number step.0 was.ready in
-    let b = at_first (λ k hand. HasWrittenNothing c.args.program (vec_items hand)) (into_iter_items c.loop-hand.hand-iterator) (into_iter_items c.next.new.self) c.in-Some.hand c.loop-hand.number step.0 was.begin in
+    let b = λ (all : c.args.keeping ≡ Keeping.All). at_first (λ k hand. HasWrittenNothing (vec_items hand)) (into_iter_items c.loop-hand.hand-iterator) (into_iter_items c.next.new.self) c.in-Some.hand c.loop-hand.number step.0 (was.begin all) in
     let below : c.loop-hand.number < vec_len c.args.hands = omega (arith, was.rest, step.1) in (
       record {
         lines_are = c.requires.parts.lines_are;
         hand = f.0;
-        begins = b.0;
+        begins = λ all. (b all).0;
         suits = λ l at. c.requires.parts.suits c.loop-hand.number l below at;
       },
       search rules,
@@ -45,7 +44,7 @@ loop-hand-preserved g c =
     record {
       rest = gone_over c.loop-hand.number _ (into_iter_len c.loop-hand.hand-iterator) _ (vec_len c.args.hands) was.rest step.1 refl;
       ready = f.1;
-      begin = (at_first (λ k hand. HasWrittenNothing c.args.program (vec_items hand)) (into_iter_items c.loop-hand.hand-iterator) (into_iter_items c.next.new.self) c.in-Some.hand c.loop-hand.number step.0 was.begin).1;
+      begin = λ all. (at_first (λ k hand. HasWrittenNothing (vec_items hand)) (into_iter_items c.loop-hand.hand-iterator) (into_iter_items c.next.new.self) c.in-Some.hand c.loop-hand.number step.0 (was.begin all)).1;
       len = more.len ∙ ap (λ (n : ℕ). n + 1) was.len;
       room = subst (λ (n : ℕ). vec_len c.args.hands ≤ n) (sym more.capacity) was.room;
       promised = λ k d low. or_more (λ i h. (h.promise.lines.now ≡ c.args.lines.now) × (h.promise.program ≡ c.args.program) × (h.promise.number ≡ i) × (h.promise.keeping ≡ c.args.keeping)) handles.items c.push_reserved.new.self.items handle more.items

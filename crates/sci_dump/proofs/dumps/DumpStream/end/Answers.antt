@@ -22,7 +22,7 @@ returns-then-is_empty-clause-at_end g c =
 pub returns-else-is_empty-clause-err : goal.returns-else-is_empty-clause-err
 returns-else-is_empty-clause-err g c = λ text lines r.
     more_behind text c.in-Some.field-0.now (record { number = c.args.self.row.number + 1; text = c.in_ok-text.text; place = End }) lines c.args.self (g.R.Read.remaining c.args.reader.now) (g.R.Read.remaining c.advance.new.reader) r c.requires
-    (ap (behind (codes "end\n")) (sym c.deref.ensures.value) ∙ c.in-Some.ensures.exact) refl c.in_ok-text.ensures.ok (omega (arith, some_left (vec_len c.in_ok-text.text) (sym c.is_empty.ensures ∙ c.if-is_empty.false), c.in_ok-text.text.ok.0))
+    (ap (behind (codes "end\n")) (sym c.deref.ensures.value) ∙ c.in-Some.ensures.exact) refl refl c.in_ok-text.ensures.ok (omega (arith, some_left (vec_len c.in_ok-text.text) (sym c.is_empty.ensures ∙ c.if-is_empty.false), c.in_ok-text.text.ok.0))
   where
     some_left : (n : ℕ) → (n == 0) ≡ false → 0 < n
     some_left zero e = absurd (let f : (0 == 0) ≡ true = refl in cc)

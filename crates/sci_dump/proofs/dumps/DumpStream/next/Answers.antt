@@ -1,7 +1,7 @@
 use Rattle.std.proofs.Common.{ℕ, refl, subst}
 use Rattle.std.proofs.lemmas.Result.{err_from_is_err_and}
 use Rattle.sci_dump.specs.Reading.{closed_at}
-use Rattle.sci_dump.specs.Streams.{StopsAt}
+use Rattle.sci_dump.specs.Streams.{StopsAt, from_line}
 use Rattle.sci_dump.proofs.Streaming.{read_on, stops_behind}
 use Rattle.sci_dump.proofs.dumps.DumpStream.next.Goals as goal
 
@@ -11,10 +11,10 @@ returns-in_err-found-clause-err g c =
     let s = c.args.self in
     rw (p.1, p.2)
     (λ text lines r. stops_behind c.in_err-found.field-0.0 text lines s (g.R.Read.remaining c.args.reader.now) r c.requires
-    (λ rest h. subst (λ (n : ℕ). StopsAt c.in_err-found.field-0.0 (closed_at s.head.layout n s.head.nodes s.row.number rest)) c.from.ensures (c.in_err-found.ensures.exact rest h)))
+    (subst (λ (n : ℕ). StopsAt text c.in_err-found.field-0.0 (closed_at s.head.layout n s.head.nodes s.row.number (from_line s.row.number text))) c.from.ensures (c.in_err-found.ensures.exact text r.head r.holds)))
 
 pub returns-clause-ok : goal.returns-clause-ok
 returns-clause-ok g c = λ text lines r.
     let s = c.args.self in
-    read_on text lines c.in_ok-found.found.closed s _ (g.R.Read.remaining c.args.reader.now) (g.R.Read.remaining c.read_closed.new.reader) r c.requires
-    (λ rest h. rw c.from.ensures at (c.in_ok-found.ensures.exact rest h)) refl refl refl refl
+    let found = rw c.from.ensures at (c.in_ok-found.ensures.exact text r.head r.holds) in
+    read_on text lines c.in_ok-found.found.closed s _ (g.R.Read.remaining c.args.reader.now) (g.R.Read.remaining c.read_closed.new.reader) r c.requires found.0 found.1 refl refl

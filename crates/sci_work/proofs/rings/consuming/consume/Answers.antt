@@ -1,4 +1,4 @@
-use Rattle.std.proofs.Common.{◌∙◌, sym, refl, IfErr, arith, subst}
+use Rattle.std.proofs.Common.{◌∙◌, [], sym, refl, IfErr, arith, subst}
 use Rattle.std.proofs.lemmas.Bool.{false≢true}
 use Rattle.sci_work.specs.Made.{ComesInWork, none}
 use Rattle.sci_work.specs.Ring.{IsRingSize}
@@ -14,7 +14,7 @@ returns-then-not-is_ring_size g c =
       items = tt;
       ok = tt;
       err = λ size. absurd (false≢true (c.if-not-is_ring_size.ensures.1 size));
-      still = still_not c.requires.ready;
+      still = ([], still_not c.requires.ready, tt);
       made = record { count = 0; within = omega arith; made = none };
     }
 
@@ -30,5 +30,5 @@ returns g c =
       ok = on_ok_same _ _ _ c.told.ensures ended.ok;
       err = λ _. subst (λ r. IfErr r ComesInWork) same ended.err;
       made = ended.made;
-      still = ended.still;
+      still = (ended.still.0, ended.still.1, on_ok_same _ _ _ c.told.ensures ended.still.2);
     }

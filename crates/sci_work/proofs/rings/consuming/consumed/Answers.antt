@@ -1,6 +1,6 @@
 use Rattle.std.proofs.Common.{Bool, if◌then◌else◌, ◌≡◌, ◌<◌, ◌+◌, ℕ, ◌∷◌, [], ◌++◌, List, take, vec_items, ap, sym, subst, ◌∙◌, arith}
 use Rattle.std.proofs.lemmas.Result.{IfOk-from_err}
-use Rattle.sci_work.specs.Made.{Made, none}
+use Rattle.sci_work.specs.Made.{IsStillBankOf, Made, none}
 use Rattle.sci_work.specs.Ring.{FitsRing, IsRing, count_writes}
 use Rattle.sci_work.proofs.Making.{made_all}
 use Rattle.sci_work.proofs.Items.{count_fits, count_more, take_more}
@@ -20,7 +20,7 @@ returns-in_err-value g c =
       ok = IfOk-from_err r.result _ r.ensures.0;
       err = passed_on r.result _ _ r.ensures.1 c.in_err-value.ensures.err;
       made = record { count = c.loop-i.i; within = c.loop-i.auto.i-end; made = made_all g.B.Bank.gives g.B.Bank.readies g.B.Bank.at_step c.loop-i.invariant.made c.item.ensures.made };
-      still = still_then c.loop-i.invariant.still c.item.ensures.still;
+      still = (_, still_then c.loop-i.invariant.still c.item.ensures.still, IfOk-from_err r.result _ r.ensures.0);
     }
 
 pub returns-then-is_err : goal.returns-then-is_err
@@ -30,7 +30,7 @@ returns-then-is_err g c =
       ok = tt;
       err = tt;
       made = record { count = c.loop-i.i; within = c.loop-i.auto.i-end; made = made_all g.B.Bank.gives g.B.Bank.readies g.B.Bank.at_step c.loop-i.invariant.made c.item.ensures.made };
-      still = still_then c.loop-i.invariant.still c.item.ensures.still;
+      still = (_, still_then c.loop-i.invariant.still c.item.ensures.still, tt);
     }
 
 pub returns-in_err-written : goal.returns-in_err-written
@@ -45,7 +45,7 @@ returns-in_err-written g c =
         within = c.loop-i.auto.i-end;
         made = made_all g.B.Bank.gives g.B.Bank.readies g.B.Bank.at_step (made_all g.B.Bank.gives g.B.Bank.readies g.B.Bank.at_step c.loop-i.invariant.made c.item.ensures.made) c.in_err-written.ensures.none;
       };
-      still = still_then (still_then c.loop-i.invariant.still c.item.ensures.still) c.written.ensures.still;
+      still = (_, still_then (still_then c.loop-i.invariant.still c.item.ensures.still) c.written.ensures.still.1, IfOk-from_err r.result _ r.ensures.0);
     }
 
 pub loop-i-preserved : goal.loop-i-preserved
@@ -61,7 +61,9 @@ loop-i-preserved g c =
       made =
           subst (λ (ws : List (ℕ × List ℕ)). Made g.B.Bank.gives g.B.Bank.readies g.B.Bank.at_step ws c.args.node.now c.args.bank.now c.written.new.node c.written.new.bank)
           (count_more c.args.lines c.loop-i.i _ c.count_of.ensures) more;
-      still = still_then (still_then c.loop-i.invariant.still c.item.ensures.still) c.written.ensures.still;
+      still = subst (λ (ws : List (ℕ × List ℕ)). IsStillBankOf c.args.node.now.keeps ws g.B.Bank.way g.B.Bank.keep g.B.Bank.at_step g.B.Bank.gives g.B.Bank.readies g.B.Bank.told c.args.bank.now c.written.new.node c.written.new.bank)
+          (ap (λ (ws : List (ℕ × List ℕ)). ws ++ count_writes c.args.lines c.loop-i.i) c.in_ok-written.ensures.still.2 ∙ count_more c.args.lines c.loop-i.i _ c.count_of.ensures)
+          (still_then (still_then c.loop-i.invariant.still c.item.ensures.still) c.in_ok-written.ensures.still.1);
     }
 
 pub returns : goal.returns
@@ -73,7 +75,7 @@ returns g c =
       ok = subst (λ (k : ℕ). Made g.B.Bank.gives g.B.Bank.readies g.B.Bank.at_step (count_writes c.args.lines k) c.args.node.now c.args.bank.now c.loop-i.node c.loop-i.bank) all i.made;
       err = tt;
       made = record { count = c.loop-i.i; within = c.loop-i.auto.i-end; made = i.made };
-      still = i.still;
+      still = (_, i.still, ap (count_writes c.args.lines) all);
     }
 
 pub item-requires-clause-ready : goal.item-requires-clause-ready

@@ -1,11 +1,12 @@
 use Rattle.std.proofs.Common.{◌≡◌, ℕ, ◌+◌, List, length, ap, sym, ◌∙◌, subst, arith}
 use Rattle.std.proofs.lemmas.Result.{IfOk-from_err}
 use Rattle.sci_work.specs.Ended.{AreClosed, AreKept}
+use Rattle.sci_work.specs.Programs.{AreWritesOf}
 use Rattle.sci_work.specs.Ring.{FitsRing}
 use Rattle.sci_work.specs.Starts.{AreParts}
 use Rattle.sci_work.specs.declared.facts.ring.RingFact.{RingFact}
 use Rattle.sci_work.specs.declared.programs.Program.{Program}
-use Rattle.sci_work.proofs.Closing.{closed_under, kept_under, nodes_under}
+use Rattle.sci_work.proofs.Closing.{closed_under, kept_under, nodes_under, written_by}
 use Rattle.sci_work.proofs.Items.{is_ring}
 use Rattle.sci_work.proofs.Opening.{parts_of}
 use Rattle.sci_work.proofs.Refusing.{of_memory}
@@ -19,8 +20,8 @@ pub run_all-requires-after_bounds : goal.run_all-requires-after_bounds
 run_all-requires-after_bounds g c κs within =
     let fact = c.new.result in let made = c.in_ok-shared in let lines = c.args.lines in
     let size : length made.shared.items ≡ lines + 1 = omega (arith, made.ensures.count, made.shared.ok) in
-    subst (λ (z : List _). AreParts fits_of z (Program.Ring c.args.source lines) made.hands) (sym c.deref.ensures.value)
-    (parts_of fits_of 2 fact (lines + 1) (Program.Ring c.args.source lines) made.shared.items made.hands size (omega arith) (let few = c.requires.2 in omega (arith, few)) made.ensures.lines made.ensures.len (omega arith) made.ensures.hands (λ k hand at. tt)
+    subst (λ (z : List _). AreParts fits_of c.args.keeping z (Program.Ring c.args.source lines) made.hands) (sym c.deref.ensures.value)
+    (parts_of fits_of c.args.keeping 2 fact (lines + 1) (Program.Ring c.args.source lines) made.shared.items made.hands size (omega arith) (let few = c.requires.2 in omega (arith, few)) made.ensures.lines made.ensures.len (omega arith) made.ensures.hands
     (λ k low. (is_ring fact.source.now c.args.source.now fact.lines lines (ap (λ z. z.now) c.new.ensures.source) c.new.ensures.lines, c.requires, omega arith)))
 
 pub last_share-items-requires : goal.last_share-items-requires
@@ -47,6 +48,11 @@ returns-clause-kept g c =
     subst (λ (s : List _). AreKept c.args.keeping (FitsRing s lines) 2 all) (ap (λ z. z.now) c.new.ensures.source)
     (subst (λ (l : _). AreKept c.args.keeping (FitsRing fact.source.now l) 2 all) c.new.ensures.lines kept)
 
+pub returns-clause-wrote : goal.returns-clause-wrote
+returns-clause-wrote g c =
+    let all = c.in_ok-all.ensures in
+    written_by (λ node line list. AreWritesOf (Program.Ring c.args.source c.args.lines) node line list) fits_of c.args.keeping c.in_ok-shared.shared.items c.in_ok-hands.hands.items c.in_ok-all.all c.in_ok-hands.ensures.ok.end all.kept all.own
+
 pub returns-in_err-shared : goal.returns-in_err-shared
 returns-in_err-shared g c =
     let r = c.from_residual in
@@ -55,6 +61,7 @@ returns-in_err-shared g c =
       closed = IfOk-from_err r.result _ r.ensures.0;
       nodes = IfOk-from_err r.result _ r.ensures.0;
       kept = IfOk-from_err r.result _ r.ensures.0;
+      wrote = IfOk-from_err r.result _ r.ensures.0;
       err = passed_on r.result _ _ r.ensures.1 (of_memory (Program.Ring c.args.source c.args.lines) _ c.in_err-shared.ensures.err);
     }
 
@@ -66,6 +73,7 @@ returns-in_err-hands g c =
       closed = IfOk-from_err r.result _ r.ensures.0;
       nodes = IfOk-from_err r.result _ r.ensures.0;
       kept = IfOk-from_err r.result _ r.ensures.0;
+      wrote = IfOk-from_err r.result _ r.ensures.0;
       err = passed_on r.result _ _ r.ensures.1 c.in_err-hands.ensures.err;
     }
 
@@ -77,5 +85,6 @@ returns-in_err-all g c =
       closed = IfOk-from_err r.result _ r.ensures.0;
       nodes = IfOk-from_err r.result _ r.ensures.0;
       kept = IfOk-from_err r.result _ r.ensures.0;
+      wrote = IfOk-from_err r.result _ r.ensures.0;
       err = passed_on r.result _ _ r.ensures.1 (of_memory (Program.Ring c.args.source c.args.lines) _ c.in_err-all.ensures.err);
     }

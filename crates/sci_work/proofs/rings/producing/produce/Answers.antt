@@ -1,4 +1,4 @@
-use Rattle.std.proofs.Common.{◌∙◌, sym, refl, length, IfErr, arith, subst}
+use Rattle.std.proofs.Common.{◌∙◌, [], sym, refl, length, IfErr, arith, subst}
 use Rattle.std.proofs.lemmas.Bool.{false≢true}
 use Rattle.sci_work.specs.Made.{ComesInCall, none}
 use Rattle.sci_work.specs.Ring.{IsRingSize}
@@ -13,7 +13,7 @@ returns-then-not-is_ring_size g c =
       untouched = λ _. (refl, refl);
       ok = tt;
       err = λ size. absurd (false≢true (c.if-not-is_ring_size.ensures.1 size));
-      still = still_not c.requires.ready;
+      still = ([], still_not c.requires.ready, tt);
       made = record { count = 0; within = omega arith; made = none };
     }
 
@@ -28,5 +28,5 @@ returns g c =
       ok = on_ok_same _ _ _ c.told.ensures ended.ok;
       err = λ _. subst (λ r. IfErr r ComesInCall) same ended.err;
       made = ended.made;
-      still = ended.still;
+      still = (ended.still.0, ended.still.1, on_ok_same _ _ _ c.told.ensures ended.still.2);
     }

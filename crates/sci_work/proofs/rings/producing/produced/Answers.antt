@@ -1,6 +1,6 @@
-use Rattle.std.proofs.Common.{◌≡◌, ◌<◌, ◌%◌, ℕ, List, length, sym, subst, ◌∙◌, arith}
+use Rattle.std.proofs.Common.{◌≡◌, ◌<◌, ◌%◌, ℕ, List, ◌++◌, length, ap, sym, subst, ◌∙◌, arith}
 use Rattle.std.proofs.lemmas.Result.{IfOk-from_err}
-use Rattle.sci_work.specs.Made.{Made, none}
+use Rattle.sci_work.specs.Made.{IsStillBankOf, Made, none}
 use Rattle.sci_work.specs.Ring.{FitsRing, item_writes}
 use Rattle.sci_work.proofs.Making.{made_all}
 use Rattle.sci_work.proofs.Items.{item_fits, item_more}
@@ -18,7 +18,7 @@ returns-in_err-consumed g c =
       ok = IfOk-from_err r.result _ r.ensures.0;
       err = passed_on r.result _ _ r.ensures.1 c.in_err-consumed.ensures.err;
       made = record { count = c.loop-i.i; within = c.loop-i.auto.i-end; made = made_all g.B.Bank.gives g.B.Bank.readies g.B.Bank.at_step c.loop-i.invariant.made c.free.ensures.made };
-      still = still_then c.loop-i.invariant.still c.free.ensures.still;
+      still = (_, still_then c.loop-i.invariant.still c.free.ensures.still, IfOk-from_err r.result _ r.ensures.0);
     }
 
 pub returns-in_err-written : goal.returns-in_err-written
@@ -32,7 +32,7 @@ returns-in_err-written g c =
         within = c.loop-i.auto.i-end;
         made = made_all g.B.Bank.gives g.B.Bank.readies g.B.Bank.at_step (made_all g.B.Bank.gives g.B.Bank.readies g.B.Bank.at_step c.loop-i.invariant.made c.free.ensures.made) c.in_err-written.ensures.none;
       };
-      still = still_then (still_then c.loop-i.invariant.still c.free.ensures.still) c.written.ensures.still;
+      still = (_, still_then (still_then c.loop-i.invariant.still c.free.ensures.still) c.written.ensures.still.1, IfOk-from_err r.result _ r.ensures.0);
     }
 
 pub loop-i-preserved : goal.loop-i-preserved
@@ -42,7 +42,9 @@ loop-i-preserved g c =
       made =
           subst (λ (ws : List (ℕ × List ℕ)). Made g.B.Bank.gives g.B.Bank.readies g.B.Bank.at_step ws c.args.node.now c.args.bank.now c.written.new.node c.written.new.bank)
           (item_more c.args.source.now c.args.lines c.loop-i.i _ _ c.line_of-line.ensures.place c.words_of.ensures) more;
-      still = still_then (still_then c.loop-i.invariant.still c.free.ensures.still) c.written.ensures.still;
+      still = subst (λ (ws : List (ℕ × List ℕ)). IsStillBankOf c.args.node.now.keeps ws g.B.Bank.way g.B.Bank.keep g.B.Bank.at_step g.B.Bank.gives g.B.Bank.readies g.B.Bank.told c.args.bank.now c.written.new.node c.written.new.bank)
+          (ap (λ (ws : List (ℕ × List ℕ)). ws ++ item_writes c.args.source.now c.args.lines c.loop-i.i) c.in_ok-written.ensures.still.2 ∙ item_more c.args.source.now c.args.lines c.loop-i.i _ _ c.line_of-line.ensures.place c.words_of.ensures)
+          (still_then (still_then c.loop-i.invariant.still c.free.ensures.still) c.in_ok-written.ensures.still.1);
     }
 
 pub returns : goal.returns
@@ -53,7 +55,7 @@ returns g c =
       ok = subst (λ (k : ℕ). Made g.B.Bank.gives g.B.Bank.readies g.B.Bank.at_step (item_writes c.args.source.now c.args.lines k) c.args.node.now c.args.bank.now c.loop-i.node c.loop-i.bank) all i.made;
       err = tt;
       made = record { count = c.loop-i.i; within = c.loop-i.auto.i-end; made = i.made };
-      still = i.still;
+      still = (_, i.still, ap (item_writes c.args.source.now c.args.lines) all);
     }
 
 pub free-requires-clause-ready : goal.free-requires-clause-ready

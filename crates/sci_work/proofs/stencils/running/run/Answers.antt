@@ -4,9 +4,10 @@ use Rattle.sci_work.specs.declared.facts.stencil.StencilFact.{StencilFact}
 use Rattle.sci_work.specs.declared.programs.Program.{Program}
 use Rattle.sci_work.specs.Ended.{AreClosed, AreKept}
 use Rattle.sci_work.specs.Hands.{IsHandOf}
+use Rattle.sci_work.specs.Programs.{AreWritesOf}
 use Rattle.sci_work.specs.Starts.{AreParts}
 use Rattle.sci_work.specs.Stencil.{FitsStencil}
-use Rattle.sci_work.proofs.Closing.{closed_under, kept_under, nodes_under}
+use Rattle.sci_work.proofs.Closing.{closed_under, kept_under, nodes_under, written_by}
 use Rattle.sci_work.proofs.Opening.{parts_of}
 use Rattle.sci_work.proofs.Residual.{both_ok}
 use Rattle.sci_work.proofs.Sharing.{is_work}
@@ -23,10 +24,10 @@ opened-requires-clause-fits g c = zeros_fit c.new-fact.result.cells.now c.new-fa
 pub run_all-requires-after_bounds : goal.run_all-requires-after_bounds
 run_all-requires-after_bounds g c κs within =
     let work = c.args.work in let fact = c.new-fact.result in let made = c.in_ok-lines.ensures in
-    let parts = parts_of says work.nodes fact (2 * work.tiles) (Program.Stencil work) c.in_ok-lines.lines.items c.in_ok-lines.hands
-    (omega (arith, made.count, c.in_ok-lines.lines.ok)) (omega (arith, c.requires.tiles)) (omega (arith, c.requires.tiles)) made.lines made.len c.requires.nodes.1 made.hands (λ k hand at. tt)
+    let parts = parts_of says c.args.keeping work.nodes fact (2 * work.tiles) (Program.Stencil work) c.in_ok-lines.lines.items c.in_ok-lines.hands
+    (omega (arith, made.count, c.in_ok-lines.lines.ok)) (omega (arith, c.requires.tiles)) (omega (arith, c.requires.tiles)) made.lines made.len c.requires.nodes.1 made.hands
     (λ k near. (is_work fact.cells.now work.cells.now fact.phases work.phases work.tiles (ap (λ (s : _). s.now) c.new-fact.ensures.cells) c.new-fact.ensures.phases c.requires.whole c.requires.tiles.1 c.requires.phases, near, c.requires.nodes.1)) in
-    subst (λ (ls : List _). AreParts says ls (Program.Stencil work) c.in_ok-lines.hands) (sym c.deref.ensures.value) parts
+    subst (λ (ls : List _). AreParts says c.args.keeping ls (Program.Stencil work) c.in_ok-lines.hands) (sym c.deref.ensures.value) parts
 
 pub ended-requires-clause-shares : goal.ended-requires-clause-shares
 ended-requires-clause-shares g c k x at tile j low mine small = c.in_ok-hands.ensures.ok.shares_are k x at tile j low mine small
@@ -45,6 +46,11 @@ returns-clause-closed g c =
 pub returns-clause-nodes : goal.returns-clause-nodes
 returns-clause-nodes g c =
     IfOk-weaker c.ended.result _ _ (λ r done. nodes_under says c.args.work.nodes c.new-fact.result c.in_ok-lines.lines.items r.1.lines.items c.in_ok-lines.ensures.lines done) c.ended.ensures.closed
+
+pub returns-clause-wrote : goal.returns-clause-wrote
+returns-clause-wrote g c =
+    both_ok c.ended.result _ _ _ (λ r kept own. written_by (λ node line list. AreWritesOf (Program.Stencil c.args.work) node line list) says c.args.keeping c.in_ok-lines.lines.items c.in_ok-hands.hands.items r.1 c.in_ok-hands.ensures.ok.end kept own)
+    c.ended.ensures.kept c.ended.ensures.own
 
 pub returns-clause-kept : goal.returns-clause-kept
 returns-clause-kept g c =

@@ -1,17 +1,19 @@
-use Rattle.std.proofs.Common.{ℕ, ◌<◌, ◌+◌, ◌%◌, arith, sym, subst, ◌∙◌}
-use Rattle.std.proofs.lemmas.Result.{IfErr-weaker}
+use Rattle.std.proofs.Common.{rules, ◌≡◌, ℕ, ◌<◌, ◌≤◌, ◌+◌, ◌*◌, ◌%◌, List, [], ◌∷◌, ◌++◌, length, ap, arith, sym, subst, ◌∙◌}
+use Rattle.std.proofs.lemmas.Result.{IfErr-weaker, IfOk-from_err}
 use Rattle.sci_work.specs.Made.{ComesInCall, ComesInWork}
 use Rattle.sci_work.specs.Stencil.{FitsStencil}
 use Rattle.sci_work.proofs.Exits.{passed_on}
+use Rattle.sci_work.proofs.Making.{on_ok_then}
 use Rattle.sci_work.proofs.Refusing.{of_call}
 use Rattle.sci_work.proofs.Showing.{advanced_holds, fitting, work_again}
+use Rattle.sci_work.proofs.Tiles.{tile_is}
 use Rattle.sci_work.proofs.Worked.{may_call, worked_then, worked_still}
 use Rattle.sci_work.proofs.stencils.worker.advance.Goals as goal
 
 pub returns-in_err-own : goal.returns-in_err-own
 returns-in_err-own g c =
     let own = c.awaited.ensures in let r = c.from_residual in
-    record { err = passed_on r.result _ ComesInWork r.ensures.1 c.in_err-own.ensures.err; worked = own.worked }
+    record { err = passed_on r.result _ ComesInWork r.ensures.1 c.in_err-own.ensures.err; worked = ([], own.worked, IfOk-from_err r.result _ r.ensures.0) }
 
 pub cell_before-requires-clause-work : goal.cell_before-requires-clause-work
 cell_before-requires-clause-work g c κs within = let own = c.awaited.ensures in let work = c.args.work in
@@ -22,7 +24,7 @@ returns-in_err-left g c =
     let own = c.awaited.ensures in let left = c.cell_before.ensures in let r = c.from_residual-in_err-left in
     record {
       err = passed_on r.result _ ComesInWork r.ensures.1 c.in_err-left.ensures.err;
-      worked = worked_then own.worked left.worked;
+      worked = ([], worked_then own.worked left.worked, IfOk-from_err r.result _ r.ensures.0);
     }
 
 pub cell_behind-requires-clause-work : goal.cell_behind-requires-clause-work
@@ -35,7 +37,7 @@ returns-in_err-right g c =
     let own = c.awaited.ensures in let left = c.cell_before.ensures in let right = c.cell_behind.ensures in let r = c.from_residual-in_err-right in
     record {
       err = passed_on r.result _ ComesInWork r.ensures.1 c.in_err-right.ensures.err;
-      worked = worked_then (worked_then own.worked left.worked) right.worked;
+      worked = ([], worked_then (worked_then own.worked left.worked) right.worked, IfOk-from_err r.result _ r.ensures.0);
     }
 
 pub written-requires-clause-ready : goal.written-requires-clause-ready
@@ -66,8 +68,16 @@ line_at-line-requires g c = let low = c.requires.tile in let few = c.requires.wo
 pub returns : goal.returns
 returns g c =
     let own = c.awaited.ensures in let left = c.cell_before.ensures in let right = c.cell_behind.ensures in let last = c.written.ensures in
-    let b = worked_still right.worked.ready last.still in
+    let cells = c.args.work.cells.now in let tile = c.args.tile in let phase = c.args.phase in let next = c.advanced.result in let whole = c.requires.work.whole in
+    let inside : 7 * tile + 7 ≤ length cells = let low = c.requires.tile in omega (arith, whole, low) in
+    let holds = advanced_holds cells phase tile c.in_ok-left.left c.in_ok-own.own c.in_ok-right.right next c.in_ok-own.ensures.cells c.in_ok-left.ensures.cell c.in_ok-right.ensures.cell inside c.advanced.ensures.cells in
+    let eight : length next ≡ 8 = search rules in
+    let is = tile_is cells (phase + 1) tile next eight inside (omega (arith, c.advanced.ensures.phase, c.in_ok-own.ensures.number)) holds in
     record {
       err = IfErr-weaker c.written.result ComesInCall ComesInWork of_call last.err;
-      worked = worked_then (worked_then (worked_then own.worked left.worked) right.worked) b;
+      worked = (
+        _,
+        worked_then (worked_then (worked_then own.worked left.worked) right.worked) (worked_still right.worked.ready last.still.1),
+        on_ok_then c.written.result (λ wrote. ap (λ (ws : List (ℕ × List ℕ)). ws ++ []) wrote ∙ ap (λ (l : ℕ). (l, next) ∷ []) c.line_at-line.ensures ∙ ap (λ (w : List ℕ). (2 * tile + (phase + 1) % 2, w) ∷ []) is) last.still.2,
+      );
     }

@@ -1,0 +1,15 @@
+-- What stands at a place of a line, as a reason tells it. This project's profile.
+use Rattle.std.specs.Prelude.{ℕ, Bool, ◌||◌, nat_le, nat_lt, List, ◌++◌, length, take, drop, replicate, min, max, ◌==◌}
+use Rattle.std.specs.List.{position_or_len}
+use Rattle.sci_follow.specs.declared.seen.Seen.{Seen}
+
+-- a space, a bracket, and what isn't printed end a word
+abbrev pub ends_word : ℕ → Bool
+ends_word b = nat_le b 32 || (nat_lt 126 b || (b == 40 || b == 41))
+
+-- how many bytes of a text are told: its first word, its first byte at least, and 16 at most
+abbrev pub seen_count : List ℕ → ℕ
+seen_count text = min (min (max (position_or_len ends_word text) 1) (length text)) 16
+
+abbrev pub seen_at : List ℕ → Seen
+seen_at text = record { bytes = take (seen_count text) text ++ drop (seen_count text) (replicate 16 0); count = seen_count text }
