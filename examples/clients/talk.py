@@ -22,12 +22,12 @@ def say(scisim, command):
 
 
 def main(program, script):
-    scisim = subprocess.Popen([program, "talk"], stdin=subprocess.PIPE, stdout=subprocess.PIPE)
-    with open(script, "rb") as commands:
+    with open(script, "rb") as commands, open(1, "wb") as out:
+        scisim = subprocess.Popen([program, "talk"], stdin=subprocess.PIPE, stdout=subprocess.PIPE)
         for command in commands:
             printed, refused = say(scisim, command)
-            sys.stdout.buffer.write(b"".join(printed))
-            sys.stdout.flush()
+            out.writelines(printed)
+            out.flush()
             if refused:
                 sys.exit(f"refused {refused}: {command.decode(errors='backslashreplace')}")
 
@@ -36,5 +36,6 @@ if __name__ == "__main__":
     try:
         main(*sys.argv[1:])
     except BrokenPipeError:
-        sys.stdout = None
         sys.exit("talk: no answer, or nobody reads on")
+    except OSError as fault:
+        sys.exit(f"talk: {fault}")

@@ -6,7 +6,8 @@ A row names calls, as `read_tag` or `Whole::{mem, tag}`; whether they take memor
 A public call is a `pub fn` or a trait's `fn` that lib.rt hands on by its name or by the name of its type, or that a public module has:
 a function of a public module is named with it, as `layout1::read_tag`. An export of a static library is one too, whatever module it
 stands in. Each must stand in one row, and each name of a row must be one.
-A call that takes memory must be in the growths of a test that its row names, or be `in` calls that are. Where an allocator comes in, and
+A call that takes memory must be in the growths of a test that its row names, or be `in` calls that are, or in `scisim`, whose growths
+program.py refuses. Where an allocator comes in, and
 the call takes no memory, a test must say so, in a file that names the call. A call that has an allocator or changes itself, and of which
 a test of its crate's rows has growths, takes memory. A call may wait where a bound says `Wait`. What lib.rt hands on it must name one by
 one, and under their own names.
@@ -22,6 +23,7 @@ ROW = re.compile(r"(?m)^\| (.*`.*) \| (\w+) \| (\w+) \| (.*) \|$")
 NAMES = re.compile(r"`(\w+(?:::\w+)*)(?:::\{([^}]*)\})?`")
 GROWTHS = re.compile(r"/// Growths: ([^.]+)\.\n#\[test\]\nfn (\w+)\(")
 GROWING = re.compile(r"\bof (\w+)")
+PROGRAM = "scisim"
 
 
 def handed_on(crate):
@@ -146,7 +148,7 @@ def faults_of_row(root, row, calls, tests, grown, growing):
 
 def grown_of(rows, tests):
     """The calls whose growths a test has that their row names."""
-    return {call for _, names, memory, _, seen in rows if memory == "yes"
+    return {PROGRAM} | {call for _, names, memory, _, seen in rows if memory == "yes"
             for call in named_in(names) for test in named_in(seen) if call.split("::")[-1] in tests.get(test, ())}
 
 

@@ -13,6 +13,8 @@ from turns import logic
 # in seconds: from one line to the next at the most; a line of a crate that dist/seconds lacks
 BETWEEN_LINES = 60
 A_LINE = 0.3
+# how many jobs at most prove one crate, as in the kit
+JOBS = 4
 
 
 def say(text):
@@ -68,17 +70,34 @@ class Watch:
                 say(f"at work: {', '.join(at_work)}; to begin: {to_begin}; about {self.minutes()} min left")
 
 
+def longest_chain(crates, seconds):
+    """Returns the names of the crates, one upon another, that take longest until the last one is proved."""
+    chains = {}
+    for it in crates:
+        below = [chains[dep.name] for dep in it.deps if dep.name in chains]
+        chains[it.name] = [*max(below, key=lambda chain: sum(map(seconds.get, chain)), default=[]), it.name]
+    return chains[crates[-1].name]
+
+
+def hastened(crates, watch):
+    """Returns the names of the crates to prove by several jobs: those of the longest chain, where the processors would else wait for it."""
+    chain = longest_chain(crates, watch.seconds)
+    waits = sum(map(watch.seconds.get, chain)) > sum(watch.seconds.values()) / watch.lanes
+    return {*chain} if waits else set()
+
+
 def build_all(crates):
     """Proves and builds these crates, lowest first, and returns whether all went well."""
     watch = Watch(crates)
     say(f"crates to prove and build: {len(crates)}; processors: {watch.lanes}; about {watch.minutes()} min")
     threading.Thread(target=watch.go_on, daemon=True).start()
+    most, chain = min(JOBS, watch.lanes), hastened(crates, watch)
 
     def build(crate, given, jobs):
         if not all(given[it] for it in waits[crate.name]):
             return False
         watch.begun[crate.name] = time.monotonic()
-        watch.ended[crate.name] = is_built(crate, jobs)
+        watch.ended[crate.name] = is_built(crate, most if crate.name in chain else jobs)
         watch.tell_end(crate.name)
         return watch.ended[crate.name]
 

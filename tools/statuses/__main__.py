@@ -257,6 +257,20 @@ def at_terminal(room):
         yield words, "", [] if found == (1, wanted) else [f"at a terminal it ended with {found}"]
 
 
+def ended_once(room):
+    """What is wrong with how often a terminal that says nothing has to end."""
+    for words in ["check"], ["check", "--large"], ["script"], ["talk"]:
+        keys, theirs = os.openpty()
+        os.write(keys, b"\x04")
+        try:
+            subprocess.run([PROGRAM, *words], stdin=theirs, stdout=subprocess.DEVNULL, stderr=subprocess.DEVNULL, cwd=room, timeout=20)
+            yield words, "", []
+        except subprocess.TimeoutExpired:
+            yield words, "", ["it reads on behind the end of a terminal"]
+        os.close(theirs)
+        os.close(keys)
+
+
 def kept_out(room):
     """What is wrong with what is said of a file that nobody may read, and of an input that would block."""
     shut = pathlib.Path(room) / "shut"
@@ -289,7 +303,7 @@ def main():
         told += shortened(room)
         told += [(["talk", "--why"], reasons.SAID, mixed(room))]
         told += odd_names(room)
-        told += [(["--help"], "", help_words(room)), *at_terminal(room), *kept_out(room)]
+        told += [(["--help"], "", help_words(room)), *at_terminal(room), *ended_once(room), *kept_out(room)]
         told += [(arguments, given, passes((arguments, given, *rest), room)) for arguments, given, *rest in wrongs.CASES]
         told += wrongs.short()
         told += [*limits.faults(PROGRAM, room), *refusals.faults(cases)]

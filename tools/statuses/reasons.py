@@ -154,6 +154,7 @@ CASES = [
     (["script", "--why", "long"], "", 1, "", refused("23")),
     (["script", "--why"], AT_LIMIT, 1, "", refused("16 at line 2") + "memory wanted first\n"),
     (["script", "--why", "missing"], "", 1, "", READ + "missing: no such file\n"),
+    (["script", "--why", "no\x1b[31m"], "", 1, "", READ + "no\\u{1b}[31m: no such file\n"),
     (["script", "--why"], CLOSED, 1, "", READ + "standard input: closed\n"),
     (["script", "--why"], ROW, 1, FULL, WRITE + "standard output: no space left\n"),
     (["script", "--why"], ONE, 1, "", CLOSED),

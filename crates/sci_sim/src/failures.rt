@@ -3,7 +3,7 @@
 use crate::streams::{Input, Output};
 use sci_serve::{RaceFault, SimFault, Text, explained};
 use std::alloc::{AllocError, Global};
-use std::fmt::Display;
+use std::fmt::{self, Display};
 
 /// Why the program fails, and what its second line says of that, where it is wanted and known.
 #[derive(Drop)]
@@ -66,8 +66,27 @@ pub fn reason_of(alloc: Global, fault: SimFault, text: Text, input: &[u8]) -> Op
     }
 }
 
+/// A name, with escapes for characters that a terminal takes for orders.
+#[derive(Drop)]
+struct Shown<'a>(&'a str);
+
+impl Display for Shown<'_> {
+    fn fmt<W: fmt::Write>(&self, f: &mut fmt::Formatter<W>) -> fmt::Result {
+        for letter in self.0.chars() {
+            if letter.is_control() {
+                let escaped = letter.escape_default();
+                write!(f, "{escaped}")?;
+            } else {
+                f.write_char(letter)?;
+            }
+        }
+        Ok(())
+    }
+}
+
 /// What the system says of a file or a stream.
 fn said_of(alloc: Global, name: &str, words: &str) -> Option<String> {
+    let name = Shown(name);
     format!(in alloc; "{name}: {words}").ok()
 }
 

@@ -3,17 +3,13 @@
 //! `scisim check [FILE]` judges a dump, a history or a log.
 #![tactic(auto)]
 
-mod arguments;
-mod commands;
 mod failures;
-mod help;
 mod streams;
 mod tasks;
 
-use arguments::Named;
 use clap::{ArgMatches, Error, error};
-use commands::commands;
 use failures::{Failure, stream_reason};
+use sci_commands::{Named, commands};
 use sci_serve::{Form, INPUT_LIMIT, RaceFault, SimFault};
 use std::alloc::AllocError;
 use std::io::{ErrorKind, IsTerminal};

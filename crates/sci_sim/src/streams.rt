@@ -62,6 +62,8 @@ pub struct Input<'a> {
     /// How it is called.
     pub name: &'a str,
     source: Source,
+    /// Whether it has come to its end: it isn't asked again, since a terminal would go on.
+    is_ended: bool,
     failed: Option<&'static str>,
     /// What is read before the source is read on: so many line feeds, and what is left of these bytes.
     feeds: u64,
@@ -81,6 +83,7 @@ impl<'a> Input<'a> {
         Ok(Input {
             name,
             source,
+            is_ended: false,
             failed: None,
             feeds: 0,
             front: Vec::new(rt.alloc()),
@@ -134,9 +137,15 @@ impl Read for Input<'_> {
             self.spent -= 1;
             return Err(Error::from(ErrorKind::Interrupted));
         }
+        if self.is_ended {
+            return Ok(0);
+        }
         let read = self.source.read(buf);
         self.failed = match &read {
-            Ok(_) => None,
+            Ok(count) => {
+                self.is_ended = *count == 0;
+                None
+            }
             Err(error) => Some(words_of(error)),
         };
         read
