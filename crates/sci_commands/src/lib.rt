@@ -1,4 +1,4 @@
-//! The command line of `scisim`: its commands, their options and their help.
+//! The command line of `scisim`.
 #![tactic(auto)]
 
 mod arguments;
