@@ -10,7 +10,9 @@ use Rattle.sci_script.specs.Event.{Event}
 use Rattle.sci_script.specs.Request.{no_words}
 use Rattle.sci_script.specs.Run.{Leaves, PrintsAll}
 use Rattle.sci_script.specs.Shared.{Shared, shared_is_open, shared_does}
-use Rattle.sci_trace.specs.Traces.{Traces, TraceLeaves, FormLeaves}
+use Rattle.sci_trace.specs.Telling.{TellsAll}
+use Rattle.sci_trace.specs.Traces.{TracedTo, FormLeaves}
+use Rattle.sci_trace.proofs.Tracing.{traced_so, traced_then}
 use Rattle.sci_trace.specs.Logging.{LogLeaves}
 use Rattle.sci_trace.specs.Pages.{page_of}
 use Rattle.sci_serve.specs.declared.faults.SimFault.{SimFault}
@@ -41,30 +43,14 @@ script_front is_open does nodes s steps WriteFailed written t n less (k, text, m
     let (inside, again) = front_again n m text written less is in
     (t, (k, text, n, printed, inside, again))
 
--- of what a traced run leaves
-trace_front : (nodes : ℕ) (steps : List Step) (s : Shared) (e : ScriptRefusal) (written : List ℕ) (t : Shared) (n : ℕ) → n < length written → TraceLeaves nodes steps s e written t
-    → TraceLeaves nodes steps s WriteFailed (take n written) t
-trace_front nodes steps s OutOfMemory written t n less (k, mid, so_far) = (k, mid, written, n, so_far, less, refl)
-trace_front nodes steps s (BadCommand l) written t n less (k, mid, step, so_far, at, stops) = (k, mid, written, n, so_far, less, refl)
-trace_front nodes steps s (BadNumber l) written t n less h = absurd h
-trace_front nodes steps s (NotDone l) written t n less (k, mid, step, so_far, at, stops, before, notes, front, told, all) = (k, mid, written, n, so_far, less, refl)
-trace_front nodes steps s WriteFailed written t n less (k, mid, traced, m, so_far, short, is) =
-    let (inside, again) = front_again n m traced written less is in
-    (k, mid, traced, n, so_far, inside, again)
-
--- of what is left of a run in some form
+-- of what is left of a traced run in some form
 form_front : (form : List ℕ → List ℕ) (nodes : ℕ) (steps : List Step) (s : Shared) (e : ScriptRefusal) (written : List ℕ) (t : Shared) (n : ℕ) → n < length written
     → FormLeaves form nodes steps s e written t → FormLeaves form nodes steps s WriteFailed (take n written) t
-form_front form nodes steps s OutOfMemory written t n less (traced, so_far, is) =
-    (traced, so_far, (n, subst (λ (x : List ℕ). n < length x) is less, ap (take n) is))
-form_front form nodes steps s (BadCommand l) written t n less (traced, (k, mid, step, so_far, at, stops), is) =
-    (traced, (k, mid, so_far), (n, subst (λ (x : List ℕ). n < length x) is less, ap (take n) is))
-form_front form nodes steps s (BadNumber l) written t n less (traced, stops, is) = absurd stops
-form_front form nodes steps s (NotDone l) written t n less (traced, (k, mid, step, so_far, at, stops, before, notes, front, told, all), is) =
-    (traced, (k, mid, so_far), (n, subst (λ (x : List ℕ). n < length x) is less, ap (take n) is))
 form_front form nodes steps s WriteFailed written t n less (traced, so_far, (m, short, is)) =
     let (inside, again) = front_again n m (form traced) written less is in
     (traced, so_far, (n, inside, again))
+form_front form nodes steps s e written t n less (traced, so_far, is) =
+    (traced, traced_then nodes steps e traced s t so_far, (n, subst (λ (x : List ℕ). n < length x) is less, ap (take n) is))
 
 front_of_nothing : (written : List ℕ) (n : ℕ) → n < length written → written ≡ [] → ⊥
 front_of_nothing written n less none = let e : length written ≡ 0 = ap (length {A = ℕ}) none in omega arith
@@ -85,19 +71,22 @@ front_of_left : (form : Form) (input : List ℕ) (size : Size) (capacity : ℕ) 
 front_of_left Form.Script input size capacity openings steps e written n less (s, t, opens, left) =
     let (u, front) = script_front shared_is_open shared_does size.nodes s steps e written t n less left in
     (s, u, opens, front)
-front_of_left Form.Trace input size capacity openings steps e written n less (s, t, opens, left) = (s, t, opens, trace_front size.nodes steps s e written t n less left)
+front_of_left Form.Trace input size capacity openings steps e written n less (s, t, opens, left) = (s, t, opens, form_front (λ (text : List ℕ). text) size.nodes steps s e written t n less left)
 front_of_left Form.Draw input size capacity openings steps e written n less (s, t, opens, left) = (s, t, opens, form_front (page_of input) size.nodes steps s e written t n less left)
 front_of_left Form.Log input size capacity openings steps e written n less (s, t, opens, left) = (s, t, opens, log_front size openings steps s e written t n less left)
+
+all_traced : (nodes : ℕ) (steps : List Step) (traced : List ℕ) (s t : Shared) → TellsAll no_words s steps traced t → TracedTo nodes steps s WriteFailed traced t
+all_traced nodes steps traced s t told =
+    traced_so nodes steps (length steps) traced s t t (subst (λ (l : List Step). TellsAll no_words s l traced t) (sym (take_all (length steps) steps (omega arith))) told)
 
 front_of_written : (form : Form) (input : List ℕ) (size : Size) (capacity : ℕ) (openings : List Opening) (steps : List Step) (text : List ℕ) (n : ℕ) → n < length text
     → IsWritten form input size capacity openings steps text → IsLeft form input size capacity openings steps WriteFailed (take n text)
 front_of_written Form.Script input size capacity openings steps text n less (s, t, opens, printed) =
     (s, t, opens, (length steps, text, n, subst (λ (l : List Step). PrintsAll shared_is_open shared_does no_words s l text t) (sym (take_all (length steps) steps (omega arith))) printed, less, refl))
-front_of_written Form.Trace input size capacity openings steps traced n less (s, t, opens, all, told) =
-    (s, t, opens, (length steps, t, traced, n, subst (λ (l : List Step). Traces l s traced t) (sym (take_all (length steps) steps (omega arith))) all, less, refl))
-front_of_written Form.Draw input size capacity openings steps text n less (s, t, traced, opens, all, told, is) =
-    let so_far = subst (λ (l : List Step). Traces l s traced t) (sym (take_all (length steps) steps (omega arith))) all in
-    (s, t, opens, (traced, (length steps, t, so_far), (n, subst (λ (x : List ℕ). n < length x) is less, ap (take n) is)))
+front_of_written Form.Trace input size capacity openings steps traced n less (s, t, opens, told) =
+    (s, t, opens, (traced, all_traced size.nodes steps traced s t told, (n, less, refl)))
+front_of_written Form.Draw input size capacity openings steps text n less (s, t, traced, opens, told, is) =
+    (s, t, opens, (traced, all_traced size.nodes steps traced s t told, (n, subst (λ (x : List ℕ). n < length x) is less, ap (take n) is)))
 front_of_written Form.Log input size capacity openings steps text n less (s, t, opens, logged) = (s, t, opens, (text, (n, less, refl), inl logged))
 
 front_of_run : (limit : ℕ) (form : Form) (e : ScriptRefusal) (input written : List ℕ) (n : ℕ) → n < length written → StopsRunning limit form e input written → StopsRunning limit form WriteFailed input (take n written)

@@ -16,21 +16,21 @@ use Rattle.sci_script.specs.Shared.{Shared}
 use Rattle.sci_trace.specs.Logging.{Logs, LogLeaves}
 use Rattle.sci_trace.specs.Pages.{page_of}
 use Rattle.sci_trace.specs.Telling.{TellsAll}
-use Rattle.sci_trace.specs.Traces.{Traces, TraceLeaves, FormLeaves}
+use Rattle.sci_trace.specs.Traces.{FormLeaves}
 
 -- what is written of the run of an input: the script's text; that text with the lines of its turns between, one by one; the page of the
 -- input and that; or the log of its events
 abbrev pub IsWritten : Form → List ℕ → Size → ℕ → List Opening → List Step → List ℕ → Type 0
 IsWritten Form.Script input size capacity openings steps text = IsTextOf size capacity openings steps text
-IsWritten Form.Trace input size capacity openings steps text = (s t : Shared) × Opens size capacity openings s × Traces steps s text t × TellsAll no_words s steps text t
+IsWritten Form.Trace input size capacity openings steps text = (s t : Shared) × Opens size capacity openings s × TellsAll no_words s steps text t
 IsWritten Form.Draw input size capacity openings steps text =
-    (s t : Shared) × (traced : List ℕ) × Opens size capacity openings s × Traces steps s traced t × TellsAll no_words s steps traced t × (text ≡ page_of input traced)
+    (s t : Shared) × (traced : List ℕ) × Opens size capacity openings s × TellsAll no_words s steps traced t × (text ≡ page_of input traced)
 IsWritten Form.Log input size capacity openings steps text = (s t : Shared) × Opens size capacity openings s × Logs size openings steps s text t
 
 -- what is written of a run that fails
 abbrev pub IsLeft : Form → List ℕ → Size → ℕ → List Opening → List Step → ScriptRefusal → List ℕ → Type 0
 IsLeft Form.Script input size capacity openings steps e written = IsLeftOf size capacity openings steps e written
-IsLeft Form.Trace input size capacity openings steps e written = (s t : Shared) × Opens size capacity openings s × TraceLeaves size.nodes steps s e written t
+IsLeft Form.Trace input size capacity openings steps e written = (s t : Shared) × Opens size capacity openings s × FormLeaves (λ text. text) size.nodes steps s e written t
 IsLeft Form.Draw input size capacity openings steps e written = (s t : Shared) × Opens size capacity openings s × FormLeaves (page_of input) size.nodes steps s e written t
 IsLeft Form.Log input size capacity openings steps e written = (s t : Shared) × Opens size capacity openings s × LogLeaves size openings steps s e written t
 

@@ -1,5 +1,5 @@
 pub mod Coded
-pub mod Weaving
+pub mod NoteLines
 pub mod Tracing
 pub mod Pages
 pub mod Tellings

@@ -6,12 +6,15 @@ use Rattle.std.proofs.Math.Seq.{take-length}
 use Rattle.sci_script.specs.declared.commands.Step.{Step}
 use Rattle.sci_script.specs.declared.refusals.ScriptRefusal.{ScriptRefusal}
 use Rattle.sci_script.specs.declared.refusals.ScriptRefusal.TheVariants.{OutOfMemory, BadCommand, BadNumber, NotDone, WriteFailed}
+use Rattle.sci_script.specs.Request.{no_words}
 use Rattle.sci_script.specs.Shared.{Shared}
 use Rattle.sci_trace.specs.Coding.{escaped, IsFront}
 use Rattle.sci_trace.specs.Pages.{page_in, is_cut}
-use Rattle.sci_trace.specs.Traces.{Traces, FormLeaves}
+use Rattle.sci_trace.specs.Traces.{TracedTo, FormLeaves}
+use Rattle.sci_trace.specs.Telling.{TellsAll}
 use Rattle.sci_trace.proofs.Coded.{front_behind, front_before}
-use Rattle.sci_trace.proofs.Tracing.{traces_none}
+use Rattle.sci_trace.proofs.Tellings.{tells_none}
+use Rattle.sci_trace.proofs.Tracing.{traced_so, traced_then, never_number}
 
 -- a front of the page's front, of its text, and of its end is a front of the page
 pub front_in_front : (front end text : List ℕ) (n : ℕ) → n < length front → IsFront (page_in front end text) (take n front)
@@ -35,7 +38,7 @@ front_written a b text written (n, less, is) appended = (n, less, subst (λ (x :
 
 -- so where the run has not begun
 pub cut_in_front : (front end : List ℕ) (n : ℕ) (nodes : ℕ) (steps : List Step) (s t : Shared) → n < length front → FormLeaves (page_in front end) nodes steps s WriteFailed (take n front) t
-cut_in_front front end n nodes steps s t less = ([], (0, s, traces_none s), front_in_front front end [] n less)
+cut_in_front front end n nodes steps s t less = ([], traced_so nodes steps 0 [] s s t (tells_none no_words s), front_in_front front end [] n less)
 
 -- a front of the page, which ends in the text
 pub cut_in_text : (front end written : List ℕ) (nodes : ℕ) (steps : List Step) (s t : Shared) → FormLeaves escaped nodes steps s WriteFailed written t
@@ -46,7 +49,7 @@ cut_in_text front end written nodes steps s t (traced, so_far, (n, less, is)) =
     (traced, so_far, subst (λ (x : List ℕ). IsFront (page_in front end traced) (front ++ x)) (sym is) (k, shorter, now ∙ also))
 
 -- a front of the page, which ends in its end
-pub cut_in_end : (front end traced : List ℕ) (n : ℕ) (nodes : ℕ) (steps : List Step) (s t : Shared) → ((k : ℕ) × (mid : Shared) × Traces (take k steps) s traced mid) → n < length end
+pub cut_in_end : (front end traced : List ℕ) (n : ℕ) (nodes : ℕ) (steps : List Step) (s t : Shared) → TracedTo nodes steps s WriteFailed traced t → n < length end
     → FormLeaves (page_in front end) nodes steps s WriteFailed ((front ++ escaped traced) ++ take n end) t
 cut_in_end front end traced n nodes steps s t so_far less = (traced, so_far, front_in_end front end traced n less)
 
@@ -60,17 +63,18 @@ cut_then (Err WriteFailed) P is h = h
 
 -- where the writer took all of it, the whole of what was traced stands there
 pub whole_then : (r : Result (Unit {0}) ScriptRefusal) (nodes : ℕ) (steps : List Step) (s t : Shared) (a b : Option (List ℕ)) → is_cut r ≡ false
-    → OnOk r ((traced : List ℕ) × Traces steps s traced t × Appends a b (escaped traced))
+    → OnOk r ((traced : List ℕ) × TellsAll no_words s steps traced t × Appends a b (escaped traced))
     → IfErr r (λ e. (written : List ℕ) × FormLeaves escaped nodes steps s e written t × Appends a b written)
-    → (traced : List ℕ) × ((k : ℕ) × (mid : Shared) × Traces (take k steps) s traced mid) × Appends a b (escaped traced)
+    → (traced : List ℕ) × TracedTo nodes steps s WriteFailed traced t × Appends a b (escaped traced)
 whole_then (Ok done) nodes steps s t a b is (traced, all, appended) stopped =
-    (traced, (length steps, t, subst (λ (x : List Step). Traces x s traced t) (sym (take-length steps)) all), appended)
-whole_then (Err OutOfMemory) nodes steps s t a b is done (written, (traced, so_far, whole), appended) = (traced, so_far, subst (λ (x : List ℕ). Appends a b x) whole appended)
-whole_then (Err (BadCommand n)) nodes steps s t a b is done (written, (traced, (k, mid, step, so_far, at, stop), whole), appended) =
-    (traced, (k, mid, so_far), subst (λ (x : List ℕ). Appends a b x) whole appended)
-whole_then (Err (BadNumber n)) nodes steps s t a b is done (written, (traced, stops, whole), appended) = absurd stops
-whole_then (Err (NotDone n)) nodes steps s t a b is done (written, (traced, (k, mid, step, so_far, at, stop, before, notes, front, told, all), whole), appended) =
-    (traced, (k, mid, so_far), subst (λ (x : List ℕ). Appends a b x) whole appended)
+    (traced, traced_so nodes steps (length steps) traced s t t (subst (λ (x : List Step). TellsAll no_words s x traced t) (sym (take-length steps)) all), appended)
+whole_then (Err OutOfMemory) nodes steps s t a b is done (written, (traced, so_far, whole), appended) =
+    (traced, traced_then nodes steps OutOfMemory traced s t so_far, subst (λ (x : List ℕ). Appends a b x) whole appended)
+whole_then (Err (BadCommand n)) nodes steps s t a b is done (written, (traced, so_far, whole), appended) =
+    (traced, traced_then nodes steps (BadCommand n) traced s t so_far, subst (λ (x : List ℕ). Appends a b x) whole appended)
+whole_then (Err (BadNumber n)) nodes steps s t a b is done (written, (traced, so_far, whole), appended) = absurd (never_number nodes steps n traced s t so_far)
+whole_then (Err (NotDone n)) nodes steps s t a b is done (written, (traced, so_far, whole), appended) =
+    (traced, traced_then nodes steps (NotDone n) traced s t so_far, subst (λ (x : List ℕ). Appends a b x) whole appended)
 whole_then (Err WriteFailed) nodes steps s t a b is done stopped = absurd (let q : true ≡ false = is in cc)
 
 closed : (front end : List ℕ) (nodes : ℕ) (steps : List Step) (s t : Shared) (a b c d : Option (List ℕ)) (written traced : List ℕ) → Appends a b front → Appends b c written
@@ -87,7 +91,7 @@ closed_then (Err OutOfMemory) front end nodes steps s t a b c d is before (writt
     (page_in front end traced, (traced, so_far, refl), closed front end nodes steps s t a b c d written traced before text behind whole)
 closed_then (Err (BadCommand n)) front end nodes steps s t a b c d is before (written, (traced, so_far, whole), text) behind =
     (page_in front end traced, (traced, so_far, refl), closed front end nodes steps s t a b c d written traced before text behind whole)
-closed_then (Err (BadNumber n)) front end nodes steps s t a b c d is before (written, (traced, so_far, whole), text) behind = absurd so_far
+closed_then (Err (BadNumber n)) front end nodes steps s t a b c d is before (written, (traced, so_far, whole), text) behind = absurd (never_number nodes steps n traced s t so_far)
 closed_then (Err (NotDone n)) front end nodes steps s t a b c d is before (written, (traced, so_far, whole), text) behind =
     (page_in front end traced, (traced, so_far, refl), closed front end nodes steps s t a b c d written traced before text behind whole)
 closed_then (Err WriteFailed) front end nodes steps s t a b c d is before stopped behind = absurd (let q : true ≡ false = is in cc)

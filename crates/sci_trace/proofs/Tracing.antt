@@ -1,5 +1,5 @@
 -- One more command of a traced run, and where it stops.
-use Rattle.std.proofs.Common.{◌≡◌, ◌∙◌, ◌<◌, ◌+◌, ℕ, zero, suc, true, List, [], ◌++◌, inl, inr, arith, Some, Result, IfErr, length, get_or, take, refl, sym, ap, subst, append-nil, append_assoc}
+use Rattle.std.proofs.Common.{◌≡◌, ◌∙◌, ◌<◌, ◌+◌, ℕ, zero, suc, true, List, [], ◌++◌, inl, inr, arith, Some, Option, Result, IfErr, length, get_or, take, refl, sym, ap, subst, append-nil, append_assoc}
 use Rattle.std.proofs.lemmas.List.Sums.{AllPass-from_list_all}
 use Rattle.std.specs.Prelude.{slice_get}
 use Rattle.sci_script.specs.declared.commands.Size.{Size}
@@ -11,32 +11,20 @@ use Rattle.sci_script.specs.declared.refusals.ScriptRefusal.{ScriptRefusal}
 use Rattle.sci_script.specs.declared.refusals.ScriptRefusal.TheVariants.{OutOfMemory, BadCommand, BadNumber, NotDone, WriteFailed}
 use Rattle.sci_script.specs.Request.{no_words}
 use Rattle.sci_script.specs.Event.{Turned}
-use Rattle.sci_script.specs.Run.{Prints, StopsAt, Repeats, Unended}
+use Rattle.sci_script.specs.Run.{StopsAt, Repeats, Unended, IsUnended}
 use Rattle.sci_script.specs.Shared.{Shared, shared_is_open, shared_does}
 use Rattle.sci_script.specs.Size.{is_in, IsIn, AreIn}
-use Rattle.sci_script.proofs.Runs.{prints_none, run_step, moves_unended, unended_more, words_behind}
+use Rattle.sci_script.proofs.Runs.{moves_unended, unended_more}
 use Rattle.sci_script.proofs.Stuck.{unended_on, waits_again}
 use Rattle.sci_script.proofs.Through.{stops_at, unended}
-use Rattle.sci_trace.specs.Notes.{AreNotes, IsWoven}
+use Rattle.sci_trace.specs.Notes.{AreNotes}
 use Rattle.sci_trace.specs.declared.coding.Coding.{Coding}
 use Rattle.sci_trace.specs.Coding.{coded, IsFront}
-use Rattle.sci_trace.specs.Traces.{Traces, TraceStops, TraceHangs, NotesLeft, StepLeaves, TraceLeaves, FormLeaves}
-use Rattle.sci_trace.specs.Telling.{Telling, telling, telling_is_open, tells, AddsLine, TellsNoEnd}
+use Rattle.sci_trace.specs.Traces.{NotesLeft, FailsAt, TracedTo, IsWrittenOf, StepLeaves, FormLeaves}
+use Rattle.sci_trace.specs.Telling.{Telling, telling, telling_is_open, tells, AddsLine, TellsAll, TellsNoEnd}
 use Rattle.sci_trace.proofs.Coded.{coded_append, coded_front}
 use Rattle.sci_trace.proofs.Tellings.{told_does}
-use Rattle.sci_trace.proofs.Weaving.{notes_append, woven_none, woven_more, woven_notes}
-
-pub traces_none : (s : Shared) → Traces [] s [] s
-traces_none s = ([], prints_none shared_is_open shared_does no_words s, woven_none)
-
--- one more command, with the lines of its turns
-pub traces_more : (items steps : List Step) (i : ℕ) (d : Step) (traced notes last : List ℕ) (s mid t : Shared) → items ≡ steps → i < length items → Traces (take i steps) s traced mid → AreNotes notes
-    → Prints shared_is_open shared_does (words_behind no_words (take i steps)) mid (get_or items i d).command last t → Traces (take (i + 1) steps) s ((traced ++ notes) ++ last) t
-traces_more items steps i d traced notes last s mid t e lt (text, so_far, woven) are now = (
-  text ++ last,
-  run_step shared_is_open shared_does no_words items steps i d text last s mid t e lt so_far now,
-  subst (λ (x : List ℕ). IsWoven (text ++ last) x) (sym (append_assoc traced notes last)) (woven_more text traced notes last woven are),
-)
+use Rattle.sci_trace.proofs.NoteLines.{notes_none, notes_append}
 
 -- a command of a script is one of its nodes and lines
 pub command_fits : (size has : Size) (items steps : List Step) (i : ℕ) (x : Step) → AreIn size steps → items ≡ steps → i < length items → x ≡ get_or items i x → has ≡ size → IsIn has x.command
@@ -45,14 +33,21 @@ command_fits size has items steps i x fit e lt is same =
     let at : IsIn size (get_or items i x).command = AllPass-from_list_all (λ (step : Step). is_in size step.command) items all i x lt in
     subst (λ (z : Size). IsIn z x.command) (sym same) (subst (λ (step : Step). IsIn size step.command) (sym is) at)
 
--- the lines of the turns of a command that printed nothing, or failed
-pub traces_notes : (steps : List Step) (traced notes : List ℕ) (s t : Shared) → Traces steps s traced t → AreNotes notes → Traces steps s (traced ++ notes) t
-traces_notes steps traced notes s t (text, printed, woven) are = (text, printed, woven_notes text traced notes woven are)
+-- what some commands tell is traced, where the writer fails behind it
+pub traced_so : (nodes : ℕ) (steps : List Step) (k : ℕ) (traced : List ℕ) (s mid t : Shared) → TellsAll no_words s (take k steps) traced mid → TracedTo nodes steps s WriteFailed traced t
+traced_so nodes steps k traced s mid t told = (k, mid, traced, [], told, notes_none, tt, sym (append-nil traced))
 
--- a front of a traced text, and not all
-pub trace_cut : (coding : Coding) (nodes : ℕ) (steps : List Step) (k : ℕ) (traced more front : List ℕ) (s mid t : Shared) → Traces (take k steps) s (traced ++ more) mid
-    → IsFront (coded coding more) front → FormLeaves (coded coding) nodes steps s WriteFailed (coded coding traced ++ front) t
-trace_cut coding nodes steps k traced more front s mid t all cut = (traced ++ more, (k, mid, all), coded_front coding traced more front cut)
+-- whatever the refusal was, this much was traced
+pub traced_then : (nodes : ℕ) (steps : List Step) (e : ScriptRefusal) (traced : List ℕ) (s t : Shared) → TracedTo nodes steps s e traced t → TracedTo nodes steps s WriteFailed traced t
+traced_then nodes steps e traced s t (k, mid, before, notes, told, are, fails, is) = (k, mid, before, notes, told, are, tt, is)
+
+pub never_number : (nodes : ℕ) (steps : List Step) (n : ℕ) (traced : List ℕ) (s t : Shared) → TracedTo nodes steps s (BadNumber n) traced t → ⊥
+never_number nodes steps n traced s t (k, mid, before, notes, told, are, fails, is) = fails
+
+-- a front of what a command printed, behind all before it
+pub text_cut : (coding : Coding) (nodes : ℕ) (steps : List Step) (k : ℕ) (traced text front : List ℕ) (s mid t : Shared) → TellsAll no_words s (take k steps) (traced ++ text) mid
+    → IsFront (coded coding text) front → FormLeaves (coded coding) nodes steps s WriteFailed (coded coding traced ++ front) t
+text_cut coding nodes steps k traced text front s mid t told cut = (traced ++ text, traced_so nodes steps k (traced ++ text) s mid t told, coded_front coding traced text front cut)
 
 -- the lines of a `done` are traced on their own
 abbrev pub IsOther : Command → Type 0
@@ -63,9 +58,9 @@ pub other_than : (command : Command) → ((node : ℕ) → command ≡ Done node
 other_than (Done node) none = none node refl
 other_than command none = tt
 
-no_end_told : (command : Command) (s : Shared) (notes : List ℕ) (t : Shared) → IsOther command → TellsNoEnd command s notes t
-no_end_told (Done node) s notes t other = absurd other
-no_end_told command s notes t other = tt
+no_end_told : (nodes : ℕ) (command : Command) (s : Shared) (notes : List ℕ) (t : Shared) → IsOther command → IsUnended telling_is_open tells nodes (telling s []) command (telling t notes) → TellsNoEnd nodes command s notes t
+no_end_told nodes (Done node) s notes t other h = absurd other
+no_end_told nodes command s notes t other h = h
 
 -- a command that tells of its turns fails as it does without
 stops_so : (nodes : ℕ) (s : Shared) (step : Step) (notes : List ℕ) (e : ScriptRefusal) (t : Shared) → StopsAt telling_is_open tells nodes (telling s []) step e (telling t notes) → StopsAt shared_is_open shared_does nodes s step e t
@@ -75,9 +70,9 @@ stops_so nodes s step notes e t stop = stops_at (λ (x : Telling). x.shared) sha
 pub step_left : (coding : Coding) (nodes : ℕ) (s : Shared) (step : Step) (notes : List ℕ) (e : ScriptRefusal) (t : Shared) → IsOther step.command → AreNotes notes → StopsAt telling_is_open tells nodes (telling s []) step e (telling t notes)
     → StepLeaves coding nodes s step e (coded coding notes) t
 step_left coding nodes s step notes OutOfMemory t other are stop = (notes, are, tt, refl)
-step_left coding nodes s step notes (BadCommand n) t other are stop = (notes, are, stops_so nodes s step notes (BadCommand n) t stop, refl)
+step_left coding nodes s step notes (BadCommand n) t other are stop = (notes, are, stop, refl)
 step_left coding nodes s step notes (BadNumber n) t other are stop = absurd stop
-step_left coding nodes s step notes (NotDone n) t other are stop = (notes, are, (stops_so nodes s step notes (NotDone n) t stop, no_end_told step.command s notes t other), refl)
+step_left coding nodes s step notes (NotDone n) t other are stop = (notes, are, (stops_so nodes s step notes (NotDone n) t stop, no_end_told nodes step.command s notes t other stop.1), refl)
 step_left coding nodes s step notes WriteFailed t other are stop = absurd stop
 
 -- a turn waits behind so many, and each further turn up to the last waits too
@@ -118,24 +113,14 @@ pub of_command : {T : Type 0} (result : Result T ScriptRefusal) (P : Step → Sc
     → IfErr result (P (record { number = step.number; command = command })) → IfErr result (P step)
 of_command result P step command is h = subst (λ (k : Command). IfErr result (P (record { number = step.number; command = k }))) (sym is) h
 
--- a command failed behind those that were traced
-pub trace_leaves : (coding : Coding) (nodes : ℕ) (steps : List Step) (k : ℕ) (step : Step) (traced written : List ℕ) (e : ScriptRefusal) (s mid t : Shared) → Traces (take k steps) s traced mid
-    → slice_get steps k ≡ Some step → StepLeaves coding nodes mid step e written t → FormLeaves (coded coding) nodes steps s e (coded coding traced ++ written) t
-trace_leaves coding nodes steps k step traced written OutOfMemory s mid t so_far at (notes, are, stop, is) =
-    (traced ++ notes, (k, mid, traces_notes (take k steps) traced notes s mid so_far are), ap (λ (x : List ℕ). coded coding traced ++ x) is ∙ sym (coded_append coding traced notes))
-trace_leaves coding nodes steps k step traced written (BadCommand n) s mid t so_far at (notes, are, stop, is) =
-    (traced ++ notes, (k, mid, step, traces_notes (take k steps) traced notes s mid so_far are, at, stop), ap (λ (x : List ℕ). coded coding traced ++ x) is ∙ sym (coded_append coding traced notes))
-trace_leaves coding nodes steps k step traced written (BadNumber n) s mid t so_far at (notes, are, stop, is) = absurd stop
-trace_leaves coding nodes steps k step traced written (NotDone n) s mid t so_far at (notes, are, stop, is) =
-    (traced ++ notes, (k, mid, step, traces_notes (take k steps) traced notes s mid so_far are, at, stop.0, traced, notes, so_far, stop.1, refl), ap (λ (x : List ℕ). coded coding traced ++ x) is ∙ sym (coded_append coding traced notes))
-trace_leaves coding nodes steps k step traced written WriteFailed s mid t so_far at (notes, are, stop, cut) =
-    trace_cut coding nodes steps k traced notes written s mid t (traces_notes (take k steps) traced notes s mid so_far are) cut
+-- what is written of lines behind others
+written_behind : (coding : Coding) (e : ScriptRefusal) (traced notes written : List ℕ) → IsWrittenOf e (coded coding notes) written → IsWrittenOf e (coded coding (traced ++ notes)) (coded coding traced ++ written)
+written_behind coding WriteFailed traced notes written cut = coded_front coding traced notes written cut
+written_behind coding e traced notes written is = ap (λ (x : List ℕ). coded coding traced ++ x) is ∙ sym (coded_append coding traced notes)
 
--- what is left of a trace that is written as it is
-pub plain_leaves : (nodes : ℕ) (steps : List Step) (s : Shared) (e : ScriptRefusal) (written : List ℕ) (t : Shared) → FormLeaves (coded Coding.Plain) nodes steps s e written t
-    → TraceLeaves nodes steps s e written t
-plain_leaves nodes steps s OutOfMemory written t (traced, (k, mid, so_far), is) = (k, mid, subst (λ (x : List ℕ). Traces (take k steps) s x mid) (sym is) so_far)
-plain_leaves nodes steps s (BadCommand n) written t (traced, stops, is) = subst (λ (x : List ℕ). TraceStops nodes steps s (BadCommand n) x t) (sym is) stops
-plain_leaves nodes steps s (BadNumber n) written t (traced, stops, is) = absurd stops
-plain_leaves nodes steps s (NotDone n) written t (traced, stops, is) = subst (λ (x : List ℕ). TraceHangs nodes steps s n x t) (sym is) stops
-plain_leaves nodes steps s WriteFailed written t (traced, (k, mid, so_far), (n, less, is)) = (k, mid, traced, n, so_far, less, is)
+-- a command failed behind those that were traced
+pub trace_leaves : (coding : Coding) (nodes : ℕ) (steps : List Step) (k : ℕ) (step : Step) (traced written : List ℕ) (e : ScriptRefusal) (s mid t : Shared) → TellsAll no_words s (take k steps) traced mid
+    → slice_get steps k ≡ Some step → StepLeaves coding nodes mid step e written t → FormLeaves (coded coding) nodes steps s e (coded coding traced ++ written) t
+trace_leaves coding nodes steps k step traced written e s mid t told at (notes, are, fails, is) =
+    let next = subst (λ (x : Option Step). FailsAt nodes mid x e notes t) (sym at) fails in
+    (traced ++ notes, (k, mid, traced, notes, told, are, next, refl), written_behind coding e traced notes written is)

@@ -1,5 +1,5 @@
--- The lines of turns, and a text with them between its own. This project's profile.
-use Rattle.std.specs.Prelude.{◌≡◌, ℕ, List, ◌++◌, Option}
+-- The lines of turns. This project's profile.
+use Rattle.std.specs.Prelude.{◌≡◌, ℕ, List, Option}
 use Rattle.std.specs.List.{flat_map}
 use Rattle.sci_words.specs.declared.memory.Mem.{Mem}
 use Rattle.sci_words.specs.declared.tags.Tag.{Tag}
@@ -30,16 +30,3 @@ AreLines notes = (turns : List Told) × (notes ≡ flat_map line_of_turn turns)
 -- the same, as what can't be otherwise: so it is a plain fact, which a struct can keep
 abbrev pub AreNotes : List ℕ → Type 0
 AreNotes notes = (AreLines notes → ⊥) → ⊥
-
--- a part of a text, and the lines of turns in front of it
-pub record Piece : Type 0 where
-  pub notes : List ℕ
-  pub are : AreNotes notes
-  pub text : List ℕ
-
-abbrev pub traced_piece : Piece → List ℕ
-traced_piece piece = piece.notes ++ piece.text
-
--- the second text is the first with lines of turns between its parts
-abbrev pub IsWoven : List ℕ → List ℕ → Type 0
-IsWoven text traced = (pieces : List Piece) × (text ≡ flat_map (λ (piece : Piece). piece.text) pieces) × (traced ≡ flat_map traced_piece pieces)

@@ -9,7 +9,7 @@ use Rattle.sci_script.specs.declared.watching.Passed.{Passed}
 use Rattle.sci_script.specs.Event.{Event, Began, Turned, Rested, SawMem, SawTag, SawResidents}
 use Rattle.sci_script.specs.Passed.{passes_to_rest, shared_passes}
 use Rattle.sci_script.specs.Request.{words_after}
-use Rattle.sci_script.specs.Run.{Prints, Repeats}
+use Rattle.sci_script.specs.Run.{Prints, Repeats, IsUnended}
 use Rattle.sci_script.specs.Shared.{Shared, shared_is_open, shared_does}
 use Rattle.sci_script.specs.Waiting.{goal_at_work, IsAwaited}
 use Rattle.sci_script.specs.Wholes.{shared_of}
@@ -93,6 +93,6 @@ TellsUnended node s notes t = Repeats tells (Turned node Turn.Moved) 100000 (tel
     × shared_does mid.shared (Turned node Turn.Waiting) t × AddsLine mid node Turn.Waiting times (telling t notes) × shared_does t (Turned node Turn.Waiting) t)
 
 -- the lines of a command that doesn't end
-abbrev pub TellsNoEnd : Command → Shared → List ℕ → Shared → Type 0
-TellsNoEnd (Command.Done node) s notes t = TellsUnended node s notes t
-TellsNoEnd _ s notes t = Unit {0}
+abbrev pub TellsNoEnd : ℕ → Command → Shared → List ℕ → Shared → Type 0
+TellsNoEnd nodes (Command.Done node) s notes t = TellsUnended node s notes t
+TellsNoEnd nodes command s notes t = IsUnended telling_is_open tells nodes (telling s []) command (telling t notes)

@@ -6,7 +6,7 @@ ghost use Rattle.sci_script.specs.Request.{no_words};
 ghost use Rattle.sci_script.specs.Wholes.{shared_of};
 ghost use Rattle.sci_trace.specs.Pages.{page_front, page_seam, page_end, play_front, play_seam, play_end, head_of, page_in, page_of, play_page, is_cut};
 ghost use Rattle.sci_trace.specs.Telling.{TellsAll};
-ghost use Rattle.sci_trace.specs.Traces.{Traces, FormLeaves};
+ghost use Rattle.sci_trace.specs.Traces.{FormLeaves};
 
 use crate::coding::{Coding, put_coded};
 use crate::desk::TraceDesk;
@@ -72,8 +72,7 @@ fn draw_in<W: Write>(
     out: &mut W,
 ) -> Result<(), ScriptRefusal>
     requires { desk.old.size ≡ script.now.size }
-    ensures ok { OnOk result ((traced : List ℕ) × Traces script.now.steps.items (shared_of desk.old.desk) traced (shared_of desk.new.desk)
-        × TellsAll no_words (shared_of desk.old.desk) script.now.steps.items traced (shared_of desk.new.desk)
+    ensures ok { OnOk result ((traced : List ℕ) × TellsAll no_words (shared_of desk.old.desk) script.now.steps.items traced (shared_of desk.new.desk)
         × Appends (W.contents out.old) (W.contents out.new) (page_in (head_of frame.entry) frame.entry.end.now traced)) }
     ensures err { IfErr result (λ e. (written : List ℕ)
         × FormLeaves (page_in (head_of frame.entry) frame.entry.end.now) script.now.size.nodes script.now.steps.items (shared_of desk.old.desk) e written (shared_of desk.new.desk)
@@ -106,8 +105,7 @@ pub fn draw<W: Write>(
 ) -> Result<(), ScriptRefusal>
     requires { desk.old.size ≡ script.now.size }
     // The page of the whole trace is written.
-    ensures ok { OnOk result ((traced : List ℕ) × Traces script.now.steps.items (shared_of desk.old.desk) traced (shared_of desk.new.desk)
-        × TellsAll no_words (shared_of desk.old.desk) script.now.steps.items traced (shared_of desk.new.desk)
+    ensures ok { OnOk result ((traced : List ℕ) × TellsAll no_words (shared_of desk.old.desk) script.now.steps.items traced (shared_of desk.new.desk)
         × Appends (W.contents out.old) (W.contents out.new) (page_of source.now traced)) }
     // So is the page of what `trace` leaves; or, where the writer failed, a front of a page, and not all of it.
     ensures err { IfErr result (λ e. (written : List ℕ)

@@ -12,7 +12,7 @@ ghost use Rattle.sci_trace.specs.NoteText.{note_bytes};
 ghost use Rattle.sci_trace.specs.Notes.{AreNotes};
 ghost use Rattle.sci_trace.specs.Telling.{is_wait, telling, telling_is_open, tells, TellsAll};
 ghost use Rattle.sci_trace.specs.Coding.{coded};
-ghost use Rattle.sci_trace.specs.Traces.{Traces, NotesLeft, StepLeaves, TraceLeaves, FormLeaves};
+ghost use Rattle.sci_trace.specs.Traces.{NotesLeft, StepLeaves, FormLeaves};
 
 use crate::coding::{Coding, put_coded};
 use crate::desk::TraceDesk;
@@ -177,8 +177,8 @@ pub(crate) fn trace_as<W: Write>(
     out: &mut W,
 ) -> Result<(), ScriptRefusal>
     requires { desk.old.size ≡ script.now.size }
-    ensures ok { OnOk result ((traced : List ℕ) × Traces script.now.steps.items (shared_of desk.old.desk) traced (shared_of desk.new.desk)
-        × TellsAll no_words (shared_of desk.old.desk) script.now.steps.items traced (shared_of desk.new.desk) × Appends (W.contents out.old) (W.contents out.new) (coded coding traced)) }
+    ensures ok { OnOk result ((traced : List ℕ) × TellsAll no_words (shared_of desk.old.desk) script.now.steps.items traced (shared_of desk.new.desk)
+        × Appends (W.contents out.old) (W.contents out.new) (coded coding traced)) }
     ensures err { IfErr result (λ e. (written : List ℕ)
         × FormLeaves (coded coding) script.now.size.nodes script.now.steps.items (shared_of desk.old.desk) e written (shared_of desk.new.desk)
         × Appends (W.contents out.old) (W.contents out.new) written) }
@@ -213,11 +213,11 @@ pub fn trace<W: Write>(
     out: &mut W,
 ) -> Result<(), ScriptRefusal>
     requires { desk.old.size ≡ script.now.size }
-    // All of the script's text is written, and between its parts the lines of its turns, one by one.
-    ensures ok { OnOk result ((traced : List ℕ) × Traces script.now.steps.items (shared_of desk.old.desk) traced (shared_of desk.new.desk)
-        × TellsAll no_words (shared_of desk.old.desk) script.now.steps.items traced (shared_of desk.new.desk) × Appends (W.contents out.old) (W.contents out.new) traced) }
-    // So is what `Script::run` leaves, with the lines of the refused command's turns; or a front of it.
-    ensures err { IfErr result (λ e. (written : List ℕ) × TraceLeaves script.now.size.nodes script.now.steps.items (shared_of desk.old.desk) e written (shared_of desk.new.desk)
+    // What each command prints is written, in order, behind the lines of its turns.
+    ensures ok { OnOk result ((traced : List ℕ) × TellsAll no_words (shared_of desk.old.desk) script.now.steps.items traced (shared_of desk.new.desk)
+        × Appends (W.contents out.old) (W.contents out.new) traced) }
+    // So it is of the commands before a refused one, and behind that stand the lines of its turns; or a front of all this.
+    ensures err { IfErr result (λ e. (written : List ℕ) × FormLeaves (λ text. text) script.now.size.nodes script.now.steps.items (shared_of desk.old.desk) e written (shared_of desk.new.desk)
         × Appends (W.contents out.old) (W.contents out.new) written) }
     ensures size { desk.new.size ≡ desk.old.size }
 {

@@ -30,9 +30,8 @@ returns-then-is_cut-clause-err g c =
 pub returns-in-Ok-put-clause-ok : goal.returns-in-Ok-put-clause-ok
 returns-in-Ok-put-clause-ok g c =
     ok_then c.trace_as-traced.result _ _ c.trace_as-traced.ensures.ok
-    (λ (traced, all, told, appended). (
+    (λ (traced, told, appended). (
       traced,
-      all,
       told,
       Appends-trans _ _ _ _ _ (Appends-trans _ _ _ _ _ c.in-Ok.ensures.ok appended) c.in-Ok-put.ensures.ok,
     ))
@@ -51,7 +50,7 @@ returns-in-Err-put-clause-err g c =
     let contents = g.W.Write.contents in
     let (traced, so_far, appended) = whole_then c.trace_as-traced.result script.size.nodes script.steps.items s t (contents c.put_head.new.out) (contents c.trace_as-traced.new.out)
     (sym c.is_cut.ensures ∙ c.if-is_cut.false)
-    (ok_then c.trace_as-traced.result _ _ c.trace_as-traced.ensures.ok (λ (traced, all, told, appended). (traced, all, appended))) c.trace_as-traced.ensures.err in
+    (ok_then c.trace_as-traced.result _ _ c.trace_as-traced.ensures.ok (λ all. all)) c.trace_as-traced.ensures.err in
     let (n, less, front) = c.in-Err-put.ensures.err in (
       ((head_of c.args.frame) ++ escaped traced) ++ take n c.args.frame.end.now,
       cut_in_end (head_of c.args.frame) c.args.frame.end.now traced n script.size.nodes script.steps.items s t so_far less,

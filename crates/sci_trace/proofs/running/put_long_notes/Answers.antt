@@ -1,7 +1,7 @@
 use Rattle.std.proofs.Common.{[], ◌∷◌, ◌≡◌, ◌≤◌, refl, sym, ap, subst, ◌++◌, ◌∙◌, append-nil, length, List, ℕ, arith}
 use Rattle.sci_trace.specs.NoteText.{note_bytes}
 use Rattle.sci_trace.proofs.Coded.{coded_nil, both_then}
-use Rattle.sci_trace.proofs.Weaving.{notes_none}
+use Rattle.sci_trace.proofs.NoteLines.{notes_none}
 use Rattle.sci_trace.proofs.running.put_long_notes.Goals as goal
 
 few_left : (front behind : List ℕ) → front ++ behind ≡ [] → length front ≤ 65536

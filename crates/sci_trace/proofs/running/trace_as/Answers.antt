@@ -9,16 +9,14 @@ use Rattle.sci_script.specs.declared.commands.Size.{Size}
 use Rattle.sci_script.specs.declared.commands.Step.{Step}
 use Rattle.sci_script.specs.Request.{no_words, words_after}
 use Rattle.sci_script.specs.Run.{Prints}
-use Rattle.sci_script.specs.Shared.{shared_is_open, shared_does}
 use Rattle.sci_script.specs.Wholes.{shared_of}
 use Rattle.sci_script.proofs.Runs.{step_is, words_behind, words_step}
-use Rattle.sci_script.proofs.Through.{prints}
 use Rattle.sci_trace.specs.Coding.{coded}
-use Rattle.sci_trace.specs.Telling.{Telling, telling, telling_is_open, tells, TellsAll}
-use Rattle.sci_trace.specs.Traces.{Traces, StepLeaves}
+use Rattle.sci_trace.specs.Telling.{telling, telling_is_open, tells, TellsAll}
+use Rattle.sci_trace.specs.Traces.{StepLeaves}
 use Rattle.sci_trace.proofs.Coded.{coded_nil, coded_behind}
-use Rattle.sci_trace.proofs.Tellings.{told_does, tells_none, tells_step}
-use Rattle.sci_trace.proofs.Tracing.{command_fits, traces_none, traces_more, trace_cut, trace_leaves}
+use Rattle.sci_trace.proofs.Tellings.{tells_none, tells_step}
+use Rattle.sci_trace.proofs.Tracing.{command_fits, text_cut, trace_leaves}
 use Rattle.sci_trace.proofs.running.trace_as.Goals as goal
 
 pub loop-step-init : goal.loop-step-init
@@ -29,7 +27,7 @@ loop-step-init g c =
       range = All-replicate (λ (w : ℕ). w < 8) MOST_NODES 0 (omega arith);
       empty = c.new.ensures.empty;
       whole = c.new.ensures.whole;
-      written = ([], traces_none (shared_of c.args.desk.now.desk), tells_none no_words (shared_of c.args.desk.now.desk), coded_nil c.args.coding _);
+      written = ([], tells_none no_words (shared_of c.args.desk.now.desk), coded_nil c.args.coding _);
     }
 
 pub trace_step-requires : goal.trace_step-requires
@@ -70,13 +68,12 @@ loop-step-smaller g c = falls _ _ c.loop-step-test.true
 
 pub returns-clause-ok : goal.returns-clause-ok
 returns-clause-ok g c =
-    let (traced, so_far, told, appended) = c.loop-step.invariant.written in
+    let (traced, told, appended) = c.loop-step.invariant.written in
     let s = shared_of c.args.desk.now.desk in
     let t = shared_of c.loop-step.desk.desk in
     let i = c.loop-step.step-index in
     let all = take_all i c.args.script.now.steps.items (subst (λ (l : List Step). length l ≤ i) c.steps-step-items.ensures c.loop-step-test.false) in (
       traced,
-      subst (λ (l : List Step). Traces l s traced t) all so_far,
       subst (λ (l : List Step). TellsAll no_words s l traced t) all told,
       appended,
     )
@@ -90,7 +87,7 @@ returns-clause-size g c = c.loop-step.invariant.size ∙ sym c.requires
 pub returns-in_err-trace_step-clause-err : goal.returns-in_err-trace_step-clause-err
 returns-in_err-trace_step-clause-err g c =
     let p = err_from_is_err_and c.from_residual.result c.from_residual.ensures.1 in
-    let (traced, so_far, told, appended) = c.loop-step.invariant.written in
+    let (traced, told, appended) = c.loop-step.invariant.written in
     let (written, left, more) = c.in_err-trace_step.ensures.err in
     let steps = c.args.script.now.steps.items in
     let i = c.loop-step.step-index in
@@ -101,13 +98,13 @@ returns-in_err-trace_step-clause-err g c =
     let sized = subst (λ (z : Size). StepLeaves c.args.coding z.nodes mid c.step-item.result e written t) c.loop-step.invariant.size left in
     rw (p.1, p.2) (
       coded c.args.coding traced ++ written,
-      trace_leaves c.args.coding c.args.script.now.size.nodes steps i c.step-item.result traced written e (shared_of c.args.desk.now.desk) mid t so_far at sized,
+      trace_leaves c.args.coding c.args.script.now.size.nodes steps i c.step-item.result traced written e (shared_of c.args.desk.now.desk) mid t told at sized,
       Appends-trans _ _ _ _ _ appended more,
     )
 
 pub returns-in-Err-clause-err : goal.returns-in-Err-clause-err
 returns-in-Err-clause-err g c =
-    let (traced, so_far, told, appended) = c.loop-step.invariant.written in
+    let (traced, told, appended) = c.loop-step.invariant.written in
     let (notes, are, prints_so, noted) = c.in_ok-trace_step.ensures.ok in
     let items = c.steps-step-items.result.now in
     let steps = c.args.script.now.steps.items in
@@ -121,16 +118,15 @@ returns-in-Err-clause-err g c =
     let less = rw c.as_bytes.ensures.value at c.in-Err.ensures.err.1 in
     let as_read = subst (λ (step : Step). Prints telling_is_open tells c.loop-step.words (telling mid []) step.command text (telling t notes)) c.step-item.is prints_so in
     let as_noted = subst (λ (words : List ℕ). Prints telling_is_open tells words (telling mid []) (get_or items i c.step-item.result).command text (telling t notes)) c.loop-step.invariant.noted as_read in
-    let shown = prints (λ (x : Telling). x.shared) shared_is_open tells shared_does told_does (words_behind no_words (take i steps)) (telling mid []) (get_or items i c.step-item.result).command text (telling t notes) as_noted in
-    let all = traces_more items steps i c.step-item.result traced notes text s mid t c.steps-step-items.ensures c.loop-step-test.true so_far are shown in (
+    let more = tells_step no_words items steps i c.step-item.result traced notes text s mid t c.steps-step-items.ensures c.loop-step-test.true told as_noted in (
       coded c.args.coding (traced ++ notes) ++ take n (coded c.args.coding text),
-      trace_cut c.args.coding c.args.script.now.size.nodes steps (i + 1) (traced ++ notes) text (take n (coded c.args.coding text)) s t t all (n, less, refl),
+      text_cut c.args.coding c.args.script.now.size.nodes steps (i + 1) (traced ++ notes) text (take n (coded c.args.coding text)) s t t more (n, less, refl),
       Appends-trans _ _ _ _ _ (coded_behind c.args.coding _ _ _ traced notes appended noted) front,
     )
 
 pub loop-step-preserved : goal.loop-step-preserved
 loop-step-preserved g c =
-    let (traced, so_far, told, appended) = c.loop-step.invariant.written in
+    let (traced, told, appended) = c.loop-step.invariant.written in
     let (notes, are, prints_so, noted) = c.in_ok-trace_step.ensures.ok in
     let items = c.steps-step-items.result.now in
     let steps = c.args.script.now.steps.items in
@@ -142,8 +138,6 @@ loop-step-preserved g c =
     let put = rw c.as_bytes.ensures.value at c.in-Ok.ensures.ok in
     let as_read = subst (λ (step : Step). Prints telling_is_open tells c.loop-step.words (telling mid []) step.command text (telling t notes)) c.step-item.is prints_so in
     let as_noted = subst (λ (words : List ℕ). Prints telling_is_open tells words (telling mid []) (get_or items i c.step-item.result).command text (telling t notes)) c.loop-step.invariant.noted as_read in
-    let shown = prints (λ (x : Telling). x.shared) shared_is_open tells shared_does told_does (words_behind no_words (take i steps)) (telling mid []) (get_or items i c.step-item.result).command text (telling t notes) as_noted in
-    let all = traces_more items steps i c.step-item.result traced notes text s mid t c.steps-step-items.ensures c.loop-step-test.true so_far are shown in
     let more = tells_step no_words items steps i c.step-item.result traced notes text s mid t c.steps-step-items.ensures c.loop-step-test.true told as_noted in
     record {
       size = c.in_ok-trace_step.ensures.size ∙ c.loop-step.invariant.size;
@@ -153,5 +147,5 @@ loop-step-preserved g c =
       range = c.note.ensures.range;
       empty = c.in_ok-trace_step.ensures.dropped.0;
       whole = c.in_ok-trace_step.ensures.dropped.1;
-      written = ((traced ++ notes) ++ text, all, more, coded_behind c.args.coding _ _ _ (traced ++ notes) text (coded_behind c.args.coding _ _ _ traced notes appended noted) put);
+      written = ((traced ++ notes) ++ text, more, coded_behind c.args.coding _ _ _ (traced ++ notes) text (coded_behind c.args.coding _ _ _ traced notes appended noted) put);
     }

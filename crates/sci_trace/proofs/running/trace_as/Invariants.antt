@@ -6,7 +6,6 @@ use Rattle.sci_script.proofs.Runs.{words_behind}
 use Rattle.sci_trace.specs.NoteText.{note_bytes}
 use Rattle.sci_trace.specs.Coding.{coded}
 use Rattle.sci_trace.specs.Telling.{TellsAll}
-use Rattle.sci_trace.specs.Traces.{Traces}
 use Rattle.sci_trace.proofs.running.trace_as.Given as goal
 
 -- what is written is the traced text of the commands so far, and no line waits
@@ -18,6 +17,5 @@ invariant-loop-step g l =
       range : All (λ w. w < 8) l.words;
       empty : note_bytes l.desk.notes.text ≡ [];
       whole : l.desk.notes.is_cut ≡ false;
-      written : (traced : List ℕ) × Traces (take l.step-index l.script.steps.items) (shared_of l.fn.desk.desk) traced (shared_of l.desk.desk)
-          × TellsAll no_words (shared_of l.fn.desk.desk) (take l.step-index l.script.steps.items) traced (shared_of l.desk.desk) × Appends (g.W.Write.contents l.fn.out) (g.W.Write.contents l.out) (coded l.coding traced);
+      written : (traced : List ℕ) × TellsAll no_words (shared_of l.fn.desk.desk) (take l.step-index l.script.steps.items) traced (shared_of l.desk.desk) × Appends (g.W.Write.contents l.fn.out) (g.W.Write.contents l.out) (coded l.coding traced);
     }

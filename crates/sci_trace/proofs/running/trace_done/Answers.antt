@@ -18,7 +18,7 @@ use Rattle.sci_trace.specs.Telling.{is_wait, telling, telling_of, tells}
 use Rattle.sci_trace.proofs.Coded.{coded_nil, coded_behind}
 use Rattle.sci_trace.proofs.Tellings.{with_front, tells_once, end_no_wait, wait_is, moved, moves_first, moves_put, ends_behind, waits_behind, moves_behind}
 use Rattle.sci_trace.proofs.Tracing.{moves_left, notes_left, hang_left}
-use Rattle.sci_trace.proofs.Weaving.{notes_none, notes_append}
+use Rattle.sci_trace.proofs.NoteLines.{notes_none, notes_append}
 use Rattle.sci_trace.proofs.running.trace_done.Goals as goal
 
 pub returns-then-not-open : goal.returns-then-not-open

@@ -18,7 +18,7 @@ use Rattle.sci_trace.specs.Traces.{StepLeaves}
 use Rattle.sci_trace.proofs.Coded.{coded_nil, err_then, ok_then}
 use Rattle.sci_trace.proofs.Tellings.{told_so, told_stops}
 use Rattle.sci_trace.proofs.Tracing.{other_than, step_left, notes_left, of_command}
-use Rattle.sci_trace.proofs.Weaving.{notes_none}
+use Rattle.sci_trace.proofs.NoteLines.{notes_none}
 use Rattle.sci_trace.proofs.running.trace_step.Goals as goal
 
 pub trace_done-requires : goal.trace_done-requires

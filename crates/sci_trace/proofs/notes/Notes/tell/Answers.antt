@@ -3,7 +3,7 @@ use Rattle.sci_script.specs.Wholes.{shared_of}
 use Rattle.sci_trace.specs.NoteText.{note_bytes}
 use Rattle.sci_trace.specs.Lists.{walked}
 use Rattle.sci_trace.specs.Notes.{AreNotes}
-use Rattle.sci_trace.proofs.Weaving.{notes_more}
+use Rattle.sci_trace.proofs.NoteLines.{notes_more}
 use Rattle.sci_trace.proofs.notes.Notes.tell.Goals as goal
 
 pub invariant_of-self : goal.invariant_of-self
