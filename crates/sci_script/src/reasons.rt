@@ -1,6 +1,7 @@
 //! Why a command of a script is refused, in words.
 
 use sci_words::NodeId;
+use std::fmt;
 use thiserror::Error;
 
 /// Why a command of a script is refused. Its text is a line of its own.
@@ -26,7 +27,7 @@ pub enum Reason {
     #[error("{wanted} words wanted, {found} found")]
     Words { wanted: usize, found: usize },
     /// Of refusal 17: the word with this number, counted from 1, is no number from `low` to `high`.
-    #[error("word {word}: a number from {low} to {high} wanted")]
+    #[error("word {word}: {} wanted", Numbers(*.low, *.high))]
     Number { word: usize, low: u64, high: u64 },
     /// Of refusal 17: the word with this number, counted from 1, has more than 20 digits.
     #[error("word {0}: at most 20 digits wanted")]
@@ -43,4 +44,17 @@ pub enum Reason {
     /// Of refusal 18: the node's call hasn't ended.
     #[error("node {} has not ended its call", .0.get())]
     Unended(NodeId),
+}
+
+/// The numbers from one to another, in words.
+#[derive(Drop)]
+struct Numbers(u64, u64);
+
+impl fmt::Display for Numbers {
+    fn fmt<W: fmt::Write>(&self, f: &mut fmt::Formatter<W>) -> fmt::Result {
+        match *self {
+            Numbers(low, high) if low == high => write!(f, "{low}"),
+            Numbers(low, high) => write!(f, "a number from {low} to {high}"),
+        }
+    }
 }
