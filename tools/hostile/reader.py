@@ -69,7 +69,8 @@ class Place:
             if word.isdigit() and len(word) > 20:
                 return Fault(17, number, f"word {at}: at most 20 digits wanted")
             if not (word.isdigit() and low <= int(word) <= high):
-                return Fault(17, number, f"word {at}: a number from {low} to {high} wanted")
+                span = f"a number from {low} to {high}" if low < high else low
+                return Fault(17, number, f"word {at}: {span} wanted")
         return None
 
     def passed(self, line):

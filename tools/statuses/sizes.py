@@ -50,7 +50,7 @@ LARGER = [
     (["script"], "memory 1 1\n" + "list 0\n" * 300_000, 0, "line 0 HOME\n" * 300_000, ""),
     (["script"], "memory 1 1\n" + "#" * 5_000_000 + "\nlist 0\n", 0, "line 0 HOME\n", ""),
     (["script"], "memory 1 1\n" + "\n" * 2_000_000 + "list 1\n", 1, "", refused("17 at line 2000002")),
-    (["script", "--why"], "memory 1 1\n" + "\n" * 2_000_000 + "list 1\n", 1, "", f"{refused('17 at line 2000002')}word 2: a number from 0 to 0 wanted\n"),
+    (["script", "--why"], "memory 1 1\n" + "\n" * 2_000_000 + "list 1\n", 1, "", f"{refused('17 at line 2000002')}word 2: 0 wanted\n"),
     (["trace"], "memory 1 1\n" + "#\n" * 1_000_000 + "load 0 0 0\ndone 0\n", 0, Traced("node 0 read 0 stamp 0\n"), ""),
     (["outcomes"], "memory 1 1\n" + "#\n" * 1_000_000, 0, "states 1\noutcomes 1\n\nline 0 HOME\n", ""),
     (["check"], Little(LARGER_DUMP), 0, LARGER_LISTS, ""),

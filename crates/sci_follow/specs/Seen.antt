@@ -7,9 +7,13 @@ use Rattle.sci_follow.specs.declared.seen.Seen.{Seen}
 abbrev pub ends_word : ℕ → Bool
 ends_word b = nat_le b 32 || (nat_lt 126 b || (b == 40 || b == 41))
 
--- how many bytes of a text are told: its first word, its first byte at least, and 16 at most
+-- how many bytes stand there: the first word, and the first byte at least
 abbrev pub seen_count : List ℕ → ℕ
-seen_count text = min (min (max (position_or_len ends_word text) 1) (length text)) 16
+seen_count text = min (max (position_or_len ends_word text) 1) (length text)
+
+-- of them 20 at most are told
+abbrev pub told_count : List ℕ → ℕ
+told_count text = min (seen_count text) 20
 
 abbrev pub seen_at : List ℕ → Seen
-seen_at text = record { bytes = take (seen_count text) text ++ drop (seen_count text) (replicate 16 0); count = seen_count text }
+seen_at text = record { bytes = take (told_count text) text ++ drop (told_count text) (replicate 20 0); count = seen_count text }

@@ -6,12 +6,12 @@ ghost use Rattle.sci_follow.specs.Seen.{ends_word, seen_at};
 
 use std::fmt;
 
-/// The word that stands there, or as much of it as there is room for.
+/// The word that stands there. One that is longer than a number can be is told by how many bytes it has.
 #[derive(Clone, Copy, Debug, PartialEq, Eq, Drop)]
 pub struct Seen {
-    /// Its bytes, and zeros behind them.
-    pub bytes: [u8; 16],
-    /// How many they are: none at the end of the line.
+    /// Its first bytes, and zeros behind them.
+    pub bytes: [u8; 20],
+    /// How many it has in all: none at the end of the line.
     pub count: usize,
 }
 
@@ -36,9 +36,10 @@ impl Seen {
     pub fn new(text: &[u8]) -> Seen
         ensures { result ≡ seen_at text.now }
     {
-        let count = word_length(text).max(1).min(text.len()).min(16);
-        let mut bytes = [0; 16];
-        bytes[..count].copy_from_slice(&text[..count]);
+        let count = word_length(text).max(1).min(text.len());
+        let told = count.min(20);
+        let mut bytes = [0; 20];
+        bytes[..told].copy_from_slice(&text[..told]);
         Seen { bytes, count }
     }
 }
@@ -47,6 +48,7 @@ impl fmt::Display for Seen {
     fn fmt<W: fmt::Write>(&self, f: &mut fmt::Formatter<W>) -> fmt::Result {
         match self.bytes[0] {
             _ if self.count == 0 => f.write_str("the end"),
+            _ if self.count > 20 => write!(f, "{} bytes", self.count),
             b' ' => f.write_str("a space"),
             b'!'..=b'~' => {
                 f.write_str("\"")?;

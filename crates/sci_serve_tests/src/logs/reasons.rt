@@ -17,12 +17,14 @@ fn out(line: u64) -> SimFault {
     SimFault::Refused(ScriptRefusal::BadNumber(line))
 }
 
-/// The word that stands there, of `text`, which is filled up with zeros behind it.
-fn at(column: usize, wanted: Part, count: usize, text: &[u8; 16]) -> Option<LineReason> {
-    let found = Seen {
-        bytes: *text,
-        count,
-    };
+/// This word stands there, or nothing, at the end.
+fn at(column: usize, wanted: Part, text: &[u8]) -> Option<LineReason> {
+    let mut bytes = [0; 20];
+    for (to, from) in bytes.iter_mut().zip(text) {
+        *to = *from;
+    }
+    let count = text.len();
+    let found = Seen { bytes, count };
     Some(LineReason {
         column,
         wanted,
@@ -30,67 +32,60 @@ fn at(column: usize, wanted: Part, count: usize, text: &[u8; 16]) -> Option<Line
     })
 }
 
-/// Nothing stands there.
-fn at_end(column: usize, wanted: Part) -> Option<LineReason> {
-    at(column, wanted, 0, &[0; 16])
-}
-
-fn rows() -> [Row; 13] {
+fn rows() -> [Row; 14] {
     let (low, high) = (1, 1024);
     let size = Part::Number { low, high };
     let few = Part::Number { low: 0, high: 1 };
-    let load = b"load\0\0\0\0\0\0\0\0\0\0\0\0";
-    let two = b"2\0\0\0\0\0\0\0\0\0\0\0\0\0\0\0";
-    let event = b"Loop\0\0\0\0\0\0\0\0\0\0\0\0";
-    let one = b"one\0\0\0\0\0\0\0\0\0\0\0\0\0";
-    let open = b"open\0\0\0\0\0\0\0\0\0\0\0\0";
-    let end = b"\r\0\0\0\0\0\0\0\0\0\0\0\0\0\0\0";
-    let done = b"Done\0\0\0\0\0\0\0\0\0\0\0\0";
     [
-        ("", bad(1), at_end(1, Part::Memory)),
-        ("# nothing\n\n", bad(3), at_end(1, Part::Memory)),
-        ("\nload 0 0 0\n", bad(2), at(1, Part::Memory, 4, load)),
+        ("", bad(1), at(1, Part::Memory, b"")),
+        ("# nothing\n\n", bad(3), at(1, Part::Memory, b"")),
+        ("\nload 0 0 0\n", bad(2), at(1, Part::Memory, b"load")),
         (
             "memory 2 1\n\nload 0 0 0",
             bad(3),
-            at(1, Part::OpenOrNode, 4, load),
+            at(1, Part::OpenOrNode, b"load"),
         ),
         (
             "memory 2 1\r\nnode 2 line 0 Look Done\r\n",
             out(2),
-            at(6, few, 1, two),
+            at(6, few, b"2"),
         ),
         // of a faulty line what lacks is told, whatever its numbers are; of a faulty number that number
         (
             "memory 2 1\nnode 2 line 0 Loop Done\n",
             bad(2),
-            at(15, Part::Event, 4, event),
+            at(15, Part::Event, b"Loop"),
         ),
-        ("memory 0 one\n", bad(1), at(10, size, 3, one)),
+        (
+            "memory 2 1\nnode 0 line 0 Abcdefghijklmnopqrstu Done\n",
+            bad(2),
+            at(15, Part::Event, b"Abcdefghijklmnopqrstu"),
+        ),
+        ("memory 0 one\n", bad(1), at(10, size, b"one")),
         (
             "memory 2 1\nnode 0 line 0 AttachFresh(2 INVALID) Done\n",
             out(2),
-            at(27, few, 1, two),
+            at(27, few, b"2"),
         ),
         (
             "memory 2 1\nnode 0 line 0 Look Done\nopen 0 0 0 0 0 0 0 0 0 0\n",
             bad(3),
-            at(1, Part::Node, 4, open),
+            at(1, Part::Node, b"open"),
         ),
         (
             "memory 2 1\nnode 0 line 0 Look Done\r",
             bad(2),
-            at(24, Part::EndOrValue, 1, end),
+            at(24, Part::EndOrValue, b"\r"),
         ),
         (
             "memory 2 1\nnode 0 line 0 Written(none)Done\n",
             bad(2),
-            at(28, Part::Space, 4, done),
+            at(28, Part::Space, b"Done"),
         ),
         (
             "memory 2 1\nnode 0 line 0 Look Missed",
             bad(2),
-            at_end(26, Part::Space),
+            at(26, Part::Space, b""),
         ),
         (
             "memory 2 1\nnode 0 line 0 Settle Done\n",

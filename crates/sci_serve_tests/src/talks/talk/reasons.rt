@@ -6,7 +6,7 @@ use std::alloc::{AllocError, Global};
 use std::process::Abort;
 
 /// Scripts whose last line is refused, in a talk too, and why.
-const REFUSED: [(&str, &str); 13] = [
+const REFUSED: [(&str, &str); 14] = [
     ("memory 1 1\nlist\x010", "a byte that is no printable ASCII"),
     ("memory 1 1\nlode 0", "unknown command"),
     ("load 0 0 0", "memory wanted first"),
@@ -27,6 +27,7 @@ const REFUSED: [(&str, &str); 13] = [
         "memory 2 1\nload 2 0 0",
         "word 2: a number from 0 to 1 wanted",
     ),
+    ("memory 1 1\nload 1 0 0", "word 2: 0 wanted"),
     (
         "memory 2 1\nload 0 0 0\nevict 0 0",
         "node 0 has a call open",
