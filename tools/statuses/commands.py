@@ -91,9 +91,9 @@ CASES = [
     *(
         (["check", "--why", *large], text, 1, "", refused("21 at line 1") + why + "\n")
         for text, why in [
-            ("x" * 1024, "scidump 1 or 2 wanted"),
+            ("x" * 1024, "scidump 1 or 2 wanted, 1024 or more bytes found"),
             ("scidump 2 3 1" + " " * 1010, "4 words wanted, 1014 found"),
-            ("scidump 2 3 1" + " " * 1011, "fewer than 1024 bytes wanted"),
+            ("scidump 2 3 1" + " " * 1011, "fewer than 1024 bytes wanted, 1024 or more found"),
         ]
         for large in ([], ["--large"])
     ),

@@ -64,10 +64,10 @@ ROWS = [
     ("", 1, "an early end: scidump 1 or 2 wanted"),
     ("scidump 2 0 1\n", 1, "word 3: a number from 1 to 1024 wanted, 0 found"),
     ("scidump 2 2 1\r\n", 1, "word 4: a number from 1 to 1024 wanted, 1\\r found"),
-    ("scidump 2 2 1\nend\n", 2, "line 0 wanted"),
+    ("scidump 2 2 1\nend\n", 2, "line 0 wanted, end found"),
     ("scidump 2 2 1\nline 0 000000000000000 0 0 0 0 0 0 0 0 0\n", 2, "word 3: 16 hexadecimal digits in lower case wanted, 15 bytes found"),
     ("scihistory 2 1 1\n", 1, "word 2: 1 wanted, 2 found"),
-    ("scihistory 1 1 1\nclosed 0\n", 2, "line 0 wanted"),
+    ("scihistory 1 1 1\nclosed 0\n", 2, "line 0 wanted, closed found"),
 ]
 HIT, LONG = "Done or Busy (behind a tag in 16 digits also Missed WORD)", "a number from 0 to 18446744073709551615"
 # A log, the number and line of its refusal, and the reason.

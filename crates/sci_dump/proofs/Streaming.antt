@@ -524,7 +524,7 @@ more_behind text rest next lines s had left r full is count placed took some =
     let more : 0 < length (take 1024 after) = take_through_nonempty 10 (take 1024 after) (omega (arith, some, ap length holds.0)) in
     let ended = row_ended s.row.text.items (take 1024 whole) (codes "end") rest r.holds.0.2 (behind_text (codes "end\n") s.row.text.items rest is) in
     let at : s.row.number ≡ next.number - 1 = omega (arith, count) in
-    let stands : StandsBefore places.End next.number text = (after, ap (λ (k : ℕ). behind (codes "end\n") (from_line k text)) (sym at) ∙ here) in
+    let stands : StandsBefore places.End next.number text = (omega (arith, count, r.holds.0.0), after, ap (λ (k : ℕ). behind (codes "end\n") (from_line k text)) (sym at) ∙ here) in
     let row = next_row text (codes "end") s.row next had left r.holds ended count (subst (λ (p : DumpPlace). StandsBefore p next.number text) (sym placed) stands) took in
     ((all ∙ rw (here, count) (faulty after (omega (arith, more, length-take 1024 after))), row.0), sound)
   where

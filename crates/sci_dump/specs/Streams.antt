@@ -41,7 +41,7 @@ abbrev pub StandsBefore : DumpPlace → ℕ → List ℕ → Type 0
 StandsBefore places.Start n text = n ≡ 1
 StandsBefore (places.Head head) n text = (n ≡ 2) × IsHeadOf head text
 StandsBefore (places.Line head number node) n text = IsHeadOf head text × IsRowBefore head number node (from_line (n - 1) text)
-StandsBefore places.End n text = (rest : List ℕ) × (behind (codes "end\n") (from_line (n - 1) text) ≡ Some rest)
+StandsBefore places.End n text = (2 ≤ n) × (rest : List ℕ) × (behind (codes "end\n") (from_line (n - 1) text) ≡ Some rest)
 
 -- a row is this line of a text: its number, what stands in front of it, and its first bytes
 abbrev pub IsRowOf : List ℕ → DumpRow → Type 0

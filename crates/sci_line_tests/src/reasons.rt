@@ -5,6 +5,7 @@ mod growths;
 use crate::checks::same_at;
 use sci_reasons::{RowFault, why_dump, why_history};
 use std::alloc::{AllocError, Global};
+use std::process::Abort;
 
 /// The line and the words of a reason.
 fn words(alloc: Global, why: Result<Option<RowFault>, AllocError>) -> Result<String, AllocError> {
@@ -20,7 +21,9 @@ fn words(alloc: Global, why: Result<Option<RowFault>, AllocError>) -> Result<Str
 /// A dump of one line of two nodes, neither of which shares it.
 const DUMPS: &[(&str, &str)] = &[
     ("", "1: an early end: scidump 1 or 2 wanted"),
-    ("dump 2 2 1\n", "1: scidump 1 or 2 wanted"),
+    ("dump 2 2 1\n", "1: scidump 1 or 2 wanted, dump found"),
+    ("end\n", "1: scidump 1 or 2 wanted, end found"),
+    ("\n", "1: scidump 1 or 2 wanted, nothing found"),
     ("scidump 2 2\n", "1: 4 words wanted, 3 found"),
     ("scidump 2 2  1\n", "1: 4 words wanted, 5 found"),
     (
@@ -55,10 +58,27 @@ const DUMPS: &[(&str, &str)] = &[
         "scidump 2 02 1\n",
         "1: word 3: a number from 1 to 1024 wanted, 02 found",
     ),
-    ("scidump 2 2 1", "1: a line feed wanted at its end"),
+    (
+        "scidump 2 2 1",
+        "1: a line feed wanted at its end, the end of the text found",
+    ),
     ("scidump 2 2 1\n", "2: an early end: line 0 wanted"),
-    ("scidump 2 2 1\n\n", "2: line 0 wanted"),
-    ("scidump 2 2 1\nend\n", "2: line 0 wanted"),
+    ("scidump 2 2 1\n\n", "2: line 0 wanted, nothing found"),
+    (
+        "scidump 2 2 1\n line 0\n",
+        "2: line 0 wanted, nothing found",
+    ),
+    ("scidump 2 2 1\n\r\n", "2: line 0 wanted, \\r found"),
+    ("scidump 2 2 1\nend\n", "2: line 0 wanted, end found"),
+    ("scidump 2 2 1\nlnie", "2: line 0 wanted, lnie found"),
+    (
+        "scidump 2 2 1\nlnie5678901234567890 0\n",
+        "2: line 0 wanted, lnie5678901234567890 found",
+    ),
+    (
+        "scidump 2 2 1\nlnie56789012345678901 0\n",
+        "2: line 0 wanted, 21 bytes found",
+    ),
     (
         "scidump 2 2 1\nline 1 0000000000020001 0 0 0 0 0 0 0 0 0\n",
         "2: word 2: 0 wanted, 1 found",
@@ -93,11 +113,11 @@ const DUMPS: &[(&str, &str)] = &[
     ),
     (
         "scidump 2 3 1\nline 0 0000000000020001 0 0 0 0 0 0 0 0 0\nline 1\n",
-        "3: tag 0 or end wanted",
+        "3: tag 0 or end wanted, line found",
     ),
     (
         "scidump 2 3 2\nline 0 0000000000020001 0 0 0 0 0 0 0 0 0\nend\n",
-        "3: tag 0 or line 1 wanted",
+        "3: tag 0 or line 1 wanted, end found",
     ),
     (
         "scidump 2 3 2\nline 0 0000000000020001 0 0 0 0 0 0 0 0 0\nline 2 0\n",
@@ -121,11 +141,11 @@ const DUMPS: &[(&str, &str)] = &[
     ),
     (
         "scidump 2 2 1\nline 0 0000000000020001 0 0 0 0 0 0 0 0 0\ntag 0 0 00000001ffff0007 0 0 0 0 0 0 0 0 0\ntag 0 1 0000ffff00000002 0 0 0 0 0 0 0 0 0\ntag 0 2\n",
-        "5: end wanted",
+        "5: end wanted, tag found",
     ),
     (
         "scidump 2 2 1\nline 0 0000000000020001 0 0 0 0 0 0 0 0 0\nend",
-        "3: a line feed wanted at its end",
+        "3: a line feed wanted at its end, the end of the text found",
     ),
     (
         "scidump 2 2 1\nline 0 0000000000020001 0 0 0 0 0 0 0 0 0\nend\n",
@@ -133,7 +153,23 @@ const DUMPS: &[(&str, &str)] = &[
     ),
     (
         "scidump 2 2 1\nline 0 0000000000020001 0 0 0 0 0 0 0 0 0\nend\nx",
-        "4: nothing wanted behind end",
+        "4: nothing wanted behind end, x found",
+    ),
+    (
+        "scidump 2 2 1\nline 0 0000000000020001 0 0 0 0 0 0 0 0 0\nend\nend of it\n",
+        "4: nothing wanted behind end, end found",
+    ),
+    (
+        "scidump 2 2 1\nline 0 0000000000020001 0 0 0 0 0 0 0 0 0\nend\n\n",
+        "4: nothing wanted behind end, an empty word found",
+    ),
+    (
+        "scidump 2 2 1\nline 0 0000000000020001 0 0 0 0 0 0 0 0 0\nend\n\r\n",
+        "4: nothing wanted behind end, \\r found",
+    ),
+    (
+        "scidump 2 2 1\nline 0 0000000000020001 0 0 0 0 0 0 0 0 0\nend\r\n",
+        "3: tag 0 or end wanted, end\\r found",
     ),
     (
         "scidump 2 2 1\nline 0 0000000000020001 0 0 0 0 0 0 0 0 0\nend 1\n",
@@ -155,7 +191,7 @@ const DUMPS: &[(&str, &str)] = &[
 
 const HISTORIES: &[(&str, &str)] = &[
     ("", "1: an early end: scihistory 1 wanted"),
-    ("scidump 2 1 1\n", "1: scihistory 1 wanted"),
+    ("scidump 2 1 1\n", "1: scihistory 1 wanted, scidump found"),
     ("scihistory 2 1 1\n", "1: word 2: 1 wanted, 2 found"),
     (
         "scihistory 1 0 1\n",
@@ -169,14 +205,21 @@ const HISTORIES: &[(&str, &str)] = &[
         "scihistory 1 1 1025\n",
         "1: word 4: a number from 1 to 1024 wanted, 1025 found",
     ),
-    ("scihistory 1 1 1\nclosed 0\n", "2: line 0 wanted"),
+    (
+        "scihistory 1 1 1\nclosed 0\n",
+        "2: line 0 wanted, closed found",
+    ),
+    (
+        "scihistory 1 1 2\nline 1 0 0 0 0 0 0 0 0 0\n",
+        "2: word 2: 0 wanted, 1 found",
+    ),
     (
         "scihistory 1 1 1\nline 0 0 0 0 0 0 0 0 0\n",
         "2: 11 words wanted, 10 found",
     ),
     (
         "scihistory 1 1 1\nline 0 0 0 0 0 0 0 0 0 0\nend\n",
-        "3: closed 0 wanted",
+        "3: closed 0 wanted, end found",
     ),
     (
         "scihistory 1 1 1\nline 0 0 0 0 0 0 0 0 0 0\nclosed 1 0 0 0 0 0 0 0 0 0\n",
@@ -184,7 +227,7 @@ const HISTORIES: &[(&str, &str)] = &[
     ),
     (
         "scihistory 1 1 2\nline 0 0 0 0 0 0 0 0 0 0\nclosed 0 0 0 0 0 0 0 0 0 0\nend\n",
-        "4: read, passed, wrote or line 1 wanted",
+        "4: read, passed, wrote or line 1 wanted, end found",
     ),
     (
         "scihistory 1 1 1\nline 0 0 0 0 0 0 0 0 0 0\nclosed 0 0 0 0 0 0 0 0 0 0\n",
@@ -216,7 +259,155 @@ const HISTORIES: &[(&str, &str)] = &[
     ),
     (
         "scihistory 1 1 1\nline 0 0 0 0 0 0 0 0 0 0\nclosed 0 0 0 0 0 0 0 0 0 0\nend\n\n",
-        "5: nothing wanted behind end",
+        "5: nothing wanted behind end, an empty word found",
+    ),
+    (
+        "scihistory 1 3 2\nline 0 0 0 0 0 0 0 0 0 0\nclosed 0 0 0 0 0 0 0 0 0 0\nread 3 0 0 0 0 0 0 0 0 0\n",
+        "4: word 2: a number from 0 to 2 wanted, 3 found",
+    ),
+    (
+        "scihistory 1 3 2\nline 0 0 0 0 0 0 0 0 0 0\nclosed 0 0 0 0 0 0 0 0 0 0\nwrote 3 1 0 0 0 0 0 0 0 0 over 0 0 0 0 0 0 0 0\n",
+        "4: word 2: a number from 0 to 2 wanted, 3 found",
+    ),
+    (
+        "scihistory 1 3 2\nline 0 0 0 0 0 0 0 0 0 0\nclosed 0 0 0 0 0 0 0 0 0 0\nread 1 0 0 0 0 0 0 0 0 0\npassed 0 0 0 0 0 0 0 0 0 0\n",
+        "5: word 2: a number from 1 to 2 wanted, 0 found",
+    ),
+    (
+        "scihistory 1 3 2\nline 0 0 0 0 0 0 0 0 0 0\nclosed 0 0 0 0 0 0 0 0 0 0\nread 1 0 0 0 0 0 0 0 0 0\nread 2 0 0 0 0 0 0 0 0 0\nwrote 1 1 0 0 0 0 0 0 0 0 over 0 0 0 0 0 0 0 0\n",
+        "6: word 2: 2 wanted, 1 found",
+    ),
+    (
+        "scihistory 1 3 2\nline 0 0 0 0 0 0 0 0 0 0\nclosed 0 0 0 0 0 0 0 0 0 0\nread 1 0 0 0 0 0 0 0 0 0\nclosed 0 0 0 0 0 0 0 0 0 0\n",
+        "5: read, passed, wrote or line 1 wanted, closed found",
+    ),
+    (
+        "scihistory 1 3 2\nline 0 0 0 0 0 0 0 0 0 0\nclosed 0 0 0 0 0 0 0 0 0 0\nread 1 0 0 0 0 0 0 0 0 0\nend\n",
+        "5: read, passed, wrote or line 1 wanted, end found",
+    ),
+    (
+        "scihistory 1 3 2\nline 0 0 0 0 0 0 0 0 0 0\nclosed 0 0 0 0 0 0 0 0 0 0\nread 1 0 0 0 0 0 0 0 0 0\nline 2 0 0 0 0 0 0 0 0 0\n",
+        "5: word 2: 1 wanted, 2 found",
+    ),
+    (
+        "scihistory 1 3 2\nline 0 0 0 0 0 0 0 0 0 0\nclosed 0 0 0 0 0 0 0 0 0 0\nline 1 0 0 0 0 0 0 0 0 0\n",
+        "5: an early end: closed 1 wanted",
+    ),
+    (
+        "scihistory 1 3 2\nline 0 0 0 0 0 0 0 0 0 0\nclosed 0 0 0 0 0 0 0 0 0 0\nline 1 0 0 0 0 0 0 0 0 0\nline 1 0 0 0 0 0 0 0 0 0\n",
+        "5: closed 1 wanted, line found",
+    ),
+    (
+        "scihistory 1 3 2\nline 0 0 0 0 0 0 0 0 0 0\nclosed 0 0 0 0 0 0 0 0 0 0\nline 1 0 0 0 0 0 0 0 0 0\nclosed 0 0 0 0 0 0 0 0 0 0\n",
+        "5: word 2: 1 wanted, 0 found",
+    ),
+    (
+        "scihistory 1 3 2\nline 0 0 0 0 0 0 0 0 0 0\nclosed 0 0 0 0 0 0 0 0 0 0\nread 1 0 0 0 0 0 0 0 0 0\nline 1 0 0 0 0 0 0 0 0 0\nclosed 1 0 0 0 0 0 0 0 0 0\nread 3 0 0 0 0 0 0 0 0 0\n",
+        "7: word 2: a number from 0 to 2 wanted, 3 found",
+    ),
+    (
+        "scihistory 1 3 2\nline 0 0 0 0 0 0 0 0 0 0\nclosed 0 0 0 0 0 0 0 0 0 0\nread 1 0 0 0 0 0 0 0 0 0\nline 1 0 0 0 0 0 0 0 0 0\nclosed 1 0 0 0 0 0 0 0 0 0\nread 0 0 0 0 0 0 0 0 0 0\nread 1 0 0 0 0 0 0 0 0 0\nread 0 0 0 0 0 0 0 0 0 0\n",
+        "9: word 2: a number from 1 to 2 wanted, 0 found",
+    ),
+    (
+        "scihistory 1 3 2\nline 0 0 0 0 0 0 0 0 0 0\nclosed 0 0 0 0 0 0 0 0 0 0\nline 1 0 0 0 0 0 0 0 0 0\nclosed 1 0 0 0 0 0 0 0 0 0\nline 2 0 0 0 0 0 0 0 0 0\n",
+        "6: read, passed, wrote or end wanted, line found",
+    ),
+    (
+        "scihistory 1 3 2\nline 0 0 0 0 0 0 0 0 0 0\nclosed 0 0 0 0 0 0 0 0 0 0\nline 1 0 0 0 0 0 0 0 0 0\nclosed 1 0 0 0 0 0 0 0 0 0\nread 2 0 0 0 0 0 0 0 0 0\n",
+        "7: an early end: read, passed, wrote or end wanted",
+    ),
+    (
+        "scihistory 1 3 2\nline 0 0 0 0 0 0 0 0 0 0\nclosed 0 0 0 0 0 0 0 0 0 0\nline 1 0 0 0 0 0 0 0 0 0\nclosed 1 0 0 0 0 0 0 0 0 0\nread 2 0 0 0 0 0 0 0 0 0\nend 1\n",
+        "7: 1 word wanted, 2 found",
+    ),
+    (
+        "scihistory 1 3 2\nline 0 0 0 0 0 0 0 0 0 0\nclosed 0 0 0 0 0 0 0 0 0 0\nline 1 0 0 0 0 0 0 0 0 0\nclosed 1 0 0 0 0 0 0 0 0 0\nend",
+        "6: a line feed wanted at its end, the end of the text found",
+    ),
+    (
+        "scihistory 1 3 2\nline 0 0 0 0 0 0 0 0 0 0\nclosed 0 0 0 0 0 0 0 0 0 0\nline 1 0 0 0 0 0 0 0 0 0\nclosed 1 0 0 0 0 0 0 0 0 0\nend\nline 2 0 0 0 0 0 0 0 0 0\n",
+        "7: nothing wanted behind end, line found",
+    ),
+    (
+        "scihistory 1 3 2\nline 0 0 0 0 0 0 0 0 0 0\nclosed 0 0 0 0 0 0 0 0 0 0\nline 1 0 0 0 0 0 0 0 0 0\nclosed 1 0 0 0 0 0 0 0 0 0\nend\n",
+        "it is read",
+    ),
+];
+
+/// Lines of 1,023 to 1,025 bytes with their line feed: a text up to one, what fills that, how often, and why it is refused.
+const LONG: &[(&str, &str, usize, &str)] = &[
+    (
+        "scidump 2 2 1\nline 0",
+        " ",
+        1016,
+        "2: 12 words wanted, 1018 found",
+    ),
+    (
+        "scidump 2 2 1\nline 0",
+        " ",
+        1017,
+        "2: 12 words wanted, 1019 found",
+    ),
+    (
+        "scidump 2 2 1\nline 0",
+        " ",
+        1018,
+        "2: fewer than 1024 bytes wanted, 1024 or more found",
+    ),
+    (
+        "scihistory 1 1 1\nline 0",
+        " ",
+        1016,
+        "2: 11 words wanted, 1018 found",
+    ),
+    (
+        "scihistory 1 1 1\nline 0",
+        " ",
+        1017,
+        "2: 11 words wanted, 1019 found",
+    ),
+    (
+        "scihistory 1 1 1\nline 0",
+        " ",
+        1018,
+        "2: fewer than 1024 bytes wanted, 1024 or more found",
+    ),
+    (
+        "scihistory",
+        "x",
+        1013,
+        "1: scihistory 1 wanted, 1023 bytes found",
+    ),
+    (
+        "scidump",
+        "x",
+        1016,
+        "1: scidump 1 or 2 wanted, 1023 bytes found",
+    ),
+    (
+        "scihistory",
+        "x",
+        1014,
+        "1: scihistory 1 wanted, 1024 or more bytes found",
+    ),
+    (
+        "scidump",
+        "x",
+        1017,
+        "1: scidump 1 or 2 wanted, 1024 or more bytes found",
+    ),
+    (
+        "scihistory 1 1 1\nline 0 0 0 0 0 0 0 0 0 0\nclosed 0 0 0 0 0 0 0 0 0 0\nend\n",
+        "x",
+        1024,
+        "5: nothing wanted behind end, 1024 or more bytes found",
+    ),
+    (
+        "scidump 2 2 1\nline 0 0000000000020001 0 0 0 0 0 0 0 0 0\nend\n",
+        "x",
+        1023,
+        "4: nothing wanted behind end, 1023 bytes found",
     ),
 ];
 
@@ -234,4 +425,24 @@ fn histories(rt: HostRuntime) {
         let found = words(rt.alloc(), why_history(rt.alloc(), row.0.as_bytes()));
         same_at(&rt, row, &found, &String::from_str(rt.alloc(), row.1));
     }
+}
+
+fn long_lines_are_told(rt: &impl Abort, alloc: Global) -> Result<(), AllocError> {
+    for row in LONG {
+        let filling = row.1.repeat(alloc, row.2)?;
+        let front = row.0;
+        let text = format!(in alloc; "{front}{filling}\n")?;
+        let why = if front.starts_with("scidump") {
+            why_dump(alloc, text.as_bytes())
+        } else {
+            why_history(alloc, text.as_bytes())
+        };
+        same_at(rt, row, &words(alloc, why), &String::from_str(alloc, row.3));
+    }
+    Ok(())
+}
+
+#[test]
+fn long_lines(rt: HostRuntime) -> Result<(), AllocError> {
+    long_lines_are_told(&rt, rt.alloc())
 }

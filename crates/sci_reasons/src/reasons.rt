@@ -1,7 +1,7 @@
 //! Why a line of text is refused, in words.
 
 use crate::places::Due;
-use crate::rows::Field;
+use crate::rows::{Field, name};
 use sci_dump::ROW_LIMIT;
 use std::ascii::escape_default;
 use std::fmt;
@@ -21,10 +21,10 @@ pub struct RowFault {
 pub enum RowReason<'a> {
     /// The text ends.
     End,
-    /// It begins otherwise than the lines that are due.
-    Other,
-    /// It stands behind `end`.
-    Behind,
+    /// Its first word, this one, is that of no line that is due.
+    Other(&'a [u8]),
+    /// It stands behind `end`, and its first word is this one.
+    Behind(&'a [u8]),
     /// It is longer than any row.
     Long,
     /// No line feed ends it.
@@ -49,19 +49,16 @@ pub enum RowReason<'a> {
 
 impl RowFault {
     fn reason(&self) -> RowReason<'_> {
-        if self.due.is_done() {
-            return RowReason::Behind;
-        }
         let text = match self.text.as_slice() {
             [] => return RowReason::End,
             [text @ .., b'\n'] => text,
             text => text,
         };
         match self.due.row(text) {
-            // of a longer line only a front is there
             Some(_) if text.len() >= ROW_LIMIT => RowReason::Long,
             Some(row) => row.fault(text).unwrap_or(RowReason::Cut),
-            None => RowReason::Other,
+            None if self.due.is_done() => RowReason::Behind(name(text)),
+            None => RowReason::Other(name(text)),
         }
     }
 }
@@ -71,6 +68,8 @@ fn write_found<W: fmt::Write>(f: &mut fmt::Formatter<W>, word: &[u8]) -> fmt::Re
     match word.len() {
         0 => return f.write_str("nothing found"),
         1..=20 => {}
+        // of a longer line only a front is there
+        ROW_LIMIT.. => return f.write_str("1024 or more bytes found"),
         length => return write!(f, "{length} bytes found"),
     }
     for byte in word {
@@ -85,10 +84,19 @@ impl fmt::Display for RowFault {
         let due = self.due;
         match self.reason() {
             RowReason::End => write!(f, "an early end: {due} wanted"),
-            RowReason::Other => write!(f, "{due} wanted"),
-            RowReason::Behind => f.write_str("nothing wanted behind end"),
-            RowReason::Long => f.write_str("fewer than 1024 bytes wanted"),
-            RowReason::Cut => f.write_str("a line feed wanted at its end"),
+            RowReason::Other(found) => {
+                write!(f, "{due} wanted, ")?;
+                write_found(f, found)
+            }
+            RowReason::Behind(b"") => write!(f, "{due} wanted behind end, an empty word found"),
+            RowReason::Behind(found) => {
+                write!(f, "{due} wanted behind end, ")?;
+                write_found(f, found)
+            }
+            RowReason::Long => f.write_str("fewer than 1024 bytes wanted, 1024 or more found"),
+            RowReason::Cut => {
+                f.write_str("a line feed wanted at its end, the end of the text found")
+            }
             RowReason::Words { wanted: 1, found } => write!(f, "1 word wanted, {found} found"),
             RowReason::Words { wanted, found } => write!(f, "{wanted} words wanted, {found} found"),
             RowReason::Word {
