@@ -1,11 +1,12 @@
 -- Where and why a text is refused, and where it isn't. This project's profile.
-use Rattle.std.specs.Prelude.{◌≡◌, ℕ, List, Option, Some, None, Result, Ok, Err}
+use Rattle.std.specs.Prelude.{◌≡◌, ℕ, List, Option, Some, None, Ok, Err}
 use Rattle.sci_dump.specs.Dumps.{DumpLines}
 use Rattle.sci_dump.specs.Reading.{dump_of}
-use Rattle.sci_dump.specs.Streams.{IsFaultOf}
+use Rattle.sci_dump.specs.Streams.{IsFaultOf, first_row, from_line}
 use Rattle.sci_dump.specs.declared.places.DumpRow.{DumpRow}
-use Rattle.sci_dump.specs.declared.refusals.DumpRefusal.{DumpRefusal}
-use Rattle.sci_dump.specs.declared.refusals.DumpRefusal.TheVariants.{OutOfMemory, DumpFault}
+use Rattle.sci_dump.specs.declared.refusals.DumpRefusal.TheVariants.{DumpFault}
+use Rattle.sci_histories.specs.Histories.{HistoryLines}
+use Rattle.sci_histories.specs.Reading.{history_of}
 use Rattle.sci_reasons.specs.declared.places.Due.TheVariants.{Dump}
 use Rattle.sci_reasons.specs.declared.reasons.RowFault.{RowFault}
 
@@ -21,9 +22,7 @@ abbrev pub IsWhyDump : List ℕ → Option RowFault → Type 0
 IsWhyDump text None = IsDump text
 IsWhyDump text (Some fault) = (row : DumpRow) × IsFaultOf text row × (fault ≡ fault_of row)
 
--- a reason is told exactly where reading is refused, of the line of that refusal
-abbrev pub IsWhy : {A : Type 0} → Result A DumpRefusal → Option RowFault → Type 0
-IsWhy (Ok x) why = why ≡ None
-IsWhy (Err (DumpFault n)) None = ⊥
-IsWhy (Err (DumpFault n)) (Some fault) = fault.line ≡ n
-IsWhy (Err OutOfMemory) why = ⊥
+-- the same of a history: that is told of the line that reading names, by its first bytes
+abbrev pub IsWhyHistory : List ℕ → Option RowFault → Type 0
+IsWhyHistory text None = (history : HistoryLines) × (history_of text ≡ Ok history)
+IsWhyHistory text (Some fault) = (history_of text ≡ Err (DumpFault fault.line)) × (fault.text.items ≡ first_row (from_line fault.line text))

@@ -2,15 +2,15 @@
 
 ghost use Rattle.std.specs.Prelude.{◌≡◌, List, IfOk, IfErr, OnOk};
 ghost use Rattle.sci_core.specs.Closed.{ClosedLine};
-ghost use Rattle.sci_dump.specs.Streams.{StopsBehind};
-ghost use Rattle.sci_histories.specs.Reading.{history_of};
-ghost use Rattle.sci_reasons.specs.Reasons.{fault_of, IsDump, IsWhy, IsWhyDump};
+ghost use Rattle.sci_dump.specs.Streams.{StopsBehind, first_row, from_line};
+ghost use Rattle.sci_reasons.specs.Reasons.{fault_of, IsDump, IsWhyDump, IsWhyHistory};
 
 use crate::places::{Due, HistoryPlace};
 use crate::reasons::RowFault;
 use sci_dump::{DumpRefusal, DumpRow, DumpStream, ROW_LIMIT, StreamFault};
 use sci_histories::read_history;
 use std::alloc::{AllocError, Global};
+use std::io::BufRead;
 
 /// Reads a text as a dump, to its end or the row at fault.
 fn read_through(alloc: Global, text: &[u8]) -> Result<(), StreamFault>
@@ -51,25 +51,30 @@ pub fn why_dump(alloc: Global, text: &[u8]) -> Result<Option<RowFault>, AllocErr
 
 /// Why a text is refused as a history at this line, in front of which it is none.
 fn why_line(alloc: Global, text: &[u8], line: u64) -> Result<RowFault, AllocError>
-    ensures { IfOk result (λ fault. fault.line ≡ line) }
+    ensures line { IfOk result (λ fault. fault.line ≡ line) }
+    ensures text { IfOk result (λ fault. fault.text.items ≡ first_row (from_line line text.now)) }
 {
     let mut place = HistoryPlace::new();
     let mut rest = text;
     for _ in 1..line {
-        let row = rest.split(|byte| *byte == b'\n').next().unwrap_or(b"");
-        place = place.behind(row);
-        rest = &rest[rest.len().min(row.len().saturating_add(1))..];
+        place = place.behind(rest.split(|byte| *byte == b'\n').next().unwrap_or(b""));
+        // bytes at hand are always read, here and below
+        let Ok(_) = rest.skip_until(b'\n') else {
+            return Err(AllocError);
+        };
     }
-    let row = rest.split(|byte| *byte == b'\n').next().unwrap_or(b"");
-    let count = rest.len().min(row.len().saturating_add(1)).min(ROW_LIMIT);
-    let text = rest[..count].to_vec(alloc)?;
+    let mut front = &rest[..ROW_LIMIT.min(rest.len())];
+    let mut text = Vec::new(alloc);
+    let Ok(_) = front.read_until(b'\n', &mut text) else {
+        return Err(AllocError);
+    };
     let due = Due::History(place);
     Ok(RowFault { line, text, due })
 }
 
 /// Why a text is refused as a history, in words. None where it isn't refused 21; else of the line of that refusal. Refusal 7 alone.
 pub fn why_history(alloc: Global, text: &[u8]) -> Result<Option<RowFault>, AllocError>
-    ensures { IfOk result (IsWhy (history_of text.now)) }
+    ensures { IfOk result (IsWhyHistory text.now) }
 {
     match read_history(alloc, text) {
         Ok(_) => Ok(None),

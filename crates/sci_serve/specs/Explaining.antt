@@ -1,7 +1,6 @@
 -- Why a text of each format is refused, in words. This project's profile.
 use Rattle.std.specs.Prelude.{◌≡◌, ℕ, List, Option, None, option_map}
-use Rattle.sci_histories.specs.Reading.{history_of}
-use Rattle.sci_reasons.specs.Reasons.{IsWhy, IsWhyDump}
+use Rattle.sci_reasons.specs.Reasons.{IsWhyDump, IsWhyHistory}
 use Rattle.sci_reasons.specs.declared.reasons.RowFault.{RowFault}
 use Rattle.sci_script.specs.declared.reasons.Reason.{Reason}
 use Rattle.sci_work.specs.declared.refusals.WorkRefusal.TheVariants.{BadSettings}
@@ -26,7 +25,7 @@ OfDump (NoDump n) input why = IsWhyDump input why
 OfDump fault input why = why ≡ None
 
 abbrev pub OfHistory : SimFault → List ℕ → Option RowFault → Type 0
-OfHistory (NoDump n) input why = IsWhy (history_of input) why
+OfHistory (NoDump n) input why = IsWhyHistory input why
 OfHistory fault input why = why ≡ None
 
 abbrev pub IsToldOf : Text → SimFault → List ℕ → Option Explanation → Type 0
