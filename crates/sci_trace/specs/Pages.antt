@@ -2,16 +2,16 @@
 use Rattle.std.specs.Prelude.{ℕ, List, ◌++◌, Bool, true, false, Result, Ok, Err}
 use Rattle.sci_script.specs.declared.refusals.ScriptRefusal.{ScriptRefusal}
 use Rattle.sci_script.specs.declared.refusals.ScriptRefusal.TheVariants.{OutOfMemory, BadCommand, BadNumber, NotDone, WriteFailed}
-use Rattle.sci_trace.specs.declared.page.front.TheConstants.{FRONT}
-use Rattle.sci_trace.specs.declared.page.seam.TheConstants.{SEAM}
-use Rattle.sci_trace.specs.declared.page.end.TheConstants.{END}
-use Rattle.sci_trace.specs.declared.page.play.front.TheConstants.{FRONT as PLAY_FRONT}
-use Rattle.sci_trace.specs.declared.page.play.seam.TheConstants.{SEAM as PLAY_SEAM}
-use Rattle.sci_trace.specs.declared.page.play.end.TheConstants.{END as PLAY_END}
+use Rattle.sci_pages.specs.declared.run.front.TheConstants.{FRONT}
+use Rattle.sci_pages.specs.declared.run.seam.TheConstants.{SEAM}
+use Rattle.sci_pages.specs.declared.run.end.TheConstants.{END}
+use Rattle.sci_pages.specs.declared.play.front.TheConstants.{FRONT as PLAY_FRONT}
+use Rattle.sci_pages.specs.declared.play.seam.TheConstants.{SEAM as PLAY_SEAM}
+use Rattle.sci_pages.specs.declared.play.end.TheConstants.{END as PLAY_END}
 use Rattle.sci_trace.specs.declared.drawing.Frame.{Frame}
 use Rattle.sci_trace.specs.Coding.{escaped}
 
--- the texts of src/page; they are long, and no proof looks into them
+-- the texts of sci_pages; they are long, and no proof looks into them
 unfoldable pub page_front : List ℕ
 page_front = FRONT.now
 
@@ -21,7 +21,7 @@ page_seam = SEAM.now
 unfoldable pub page_end : List ℕ
 page_end = END.now
 
--- those of src/page/play
+-- those of a race
 unfoldable pub play_front : List ℕ
 play_front = PLAY_FRONT.now
 

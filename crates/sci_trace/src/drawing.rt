@@ -10,8 +10,8 @@ ghost use Rattle.sci_trace.specs.Traces.{FormLeaves};
 
 use crate::coding::{Coding, put_coded};
 use crate::desk::TraceDesk;
-use crate::page::{END, FRONT, SEAM, play};
 use crate::running::trace_as;
+use sci_pages::{play, run};
 use sci_script::{Script, ScriptRefusal, WriteFailed, put};
 use std::alloc::Global;
 use std::io::Write;
@@ -29,21 +29,21 @@ pub(crate) struct Frame<'a> {
 fn front() -> &'static str
     ensures { result.now ≡ page_front }
 {
-    FRONT
+    run::FRONT
 }
 
 /// What stands between that and the trace.
 fn seam() -> &'static str
     ensures { result.now ≡ page_seam }
 {
-    SEAM
+    run::SEAM
 }
 
 /// What stands behind the trace.
 fn end() -> &'static str
     ensures { result.now ≡ page_end }
 {
-    END
+    run::END
 }
 
 /// The writer failed.

@@ -14,7 +14,6 @@ mod logging;
 mod note_text;
 mod notes;
 mod numbers;
-mod page;
 mod running;
 mod short;
 mod steps;
