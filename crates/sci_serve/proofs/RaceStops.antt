@@ -7,11 +7,11 @@ use Rattle.sci_script.specs.declared.commands.Step.{Step}
 use Rattle.sci_script.specs.declared.refusals.ScriptRefusal.{ScriptRefusal}
 use Rattle.sci_script.specs.declared.refusals.ScriptRefusal.TheVariants.{OutOfMemory, BadCommand, BadNumber, NotDone, WriteFailed}
 use Rattle.sci_script.specs.Format.{Fails, script_of}
-use Rattle.sci_outcomes.specs.declared.refusals.SearchRefusal.{SearchRefusal}
-use Rattle.sci_outcomes.specs.declared.refusals.SearchRefusal.TheVariants as search
-use Rattle.sci_outcomes.specs.Search.{IsRefused}
-use Rattle.sci_races.specs.Race.{RaceState, leads_in}
-use Rattle.sci_races.specs.Start.{LeavesNone}
+use Rattle.sci_search.specs.declared.refusals.SearchRefusal.{SearchRefusal}
+use Rattle.sci_search.specs.declared.refusals.SearchRefusal.TheVariants as search
+use Rattle.sci_search.specs.Search.{IsRefused}
+use Rattle.sci_outcomes.specs.Race.{RaceState, leads_in}
+use Rattle.sci_outcomes.specs.Start.{LeavesNone}
 use Rattle.sci_serve.specs.declared.faults.SimFault.{SimFault}
 use Rattle.sci_serve.specs.declared.faults.SimFault.TheVariants.{CannotRead, CannotWrite, InputTooLong, Refused, NoDump, Unlawful, NoRun}
 use Rattle.sci_serve.specs.declared.racing.RaceFault.{RaceFault}

@@ -1,7 +1,7 @@
 -- What the command `outcomes --page` writes. This project's profile.
 use Rattle.std.specs.Prelude.{◌≡◌, ℕ, List}
 use Rattle.sci_play.specs.Plays.{IsPlay}
-use Rattle.sci_races.specs.Race.{RaceState}
+use Rattle.sci_outcomes.specs.Race.{RaceState}
 use Rattle.sci_trace.specs.Pages.{play_page}
 use Rattle.sci_serve.specs.declared.racing.RaceFault.{RaceFault}
 use Rattle.sci_serve.specs.Races.{Halts, IsRaceIn}

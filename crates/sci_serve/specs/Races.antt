@@ -6,15 +6,15 @@ use Rattle.sci_script.specs.declared.commands.Step.{Step}
 use Rattle.sci_script.specs.declared.refusals.ScriptRefusal.{ScriptRefusal}
 use Rattle.sci_script.specs.declared.refusals.ScriptRefusal.TheVariants.{OutOfMemory}
 use Rattle.sci_script.specs.Format.{script_of}
-use Rattle.sci_outcomes.specs.declared.refusals.SearchRefusal.{SearchRefusal}
-use Rattle.sci_outcomes.specs.declared.refusals.SearchRefusal.TheVariants as search
-use Rattle.sci_outcomes.specs.declared.searching.Found.{Found}
-use Rattle.sci_outcomes.specs.Search.{AreReached, AreMore}
-use Rattle.sci_races.specs.declared.outcomes.Outcome.{Outcome}
-use Rattle.sci_races.specs.Outcomes.{AreOutcomes}
-use Rattle.sci_races.specs.Race.{RaceState, leads_in}
-use Rattle.sci_races.specs.Report.{report_text}
-use Rattle.sci_races.specs.Start.{LeavesOpen, LeavesNone}
+use Rattle.sci_search.specs.declared.refusals.SearchRefusal.{SearchRefusal}
+use Rattle.sci_search.specs.declared.refusals.SearchRefusal.TheVariants as search
+use Rattle.sci_search.specs.declared.searching.Found.{Found}
+use Rattle.sci_search.specs.Search.{AreReached, AreMore}
+use Rattle.sci_outcomes.specs.declared.outcomes.Outcome.{Outcome}
+use Rattle.sci_outcomes.specs.Outcomes.{AreOutcomes}
+use Rattle.sci_outcomes.specs.Race.{RaceState, leads_in}
+use Rattle.sci_outcomes.specs.Report.{report_text}
+use Rattle.sci_outcomes.specs.Start.{LeavesOpen, LeavesNone}
 use Rattle.sci_serve.specs.declared.faults.SimFault.TheVariants.{CannotRead, CannotWrite, InputTooLong, Refused, NoDump, Unlawful, NoRun}
 use Rattle.sci_serve.specs.declared.racing.RaceFault.{RaceFault}
 use Rattle.sci_serve.specs.declared.racing.RaceFault.TheVariants.{Fault, TooManyStates}

@@ -1,7 +1,7 @@
 //! What a run, and a search, say of themselves while they go on.
 ghost use Rattle.std.specs.Prelude.{◌≡◌, IsTrue};
 
-use sci_outcomes::Watch;
+use sci_search::Watch;
 use sci_work::{Gate, OpenGate};
 use std::sync::atomic::{AtomicU64, Ordering};
 

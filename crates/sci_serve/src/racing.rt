@@ -10,9 +10,9 @@ ghost use Rattle.sci_serve.specs.Races.{race_fault_of, race_status_of, IsRaceTol
 
 use crate::faults::SimFault;
 use crate::input::read_input;
-use sci_outcomes::{SearchRefusal, Watch};
-use sci_races::{outcomes_text, race_after, search_outcomes};
+use sci_outcomes::{outcomes_text, race_after, search_outcomes};
 use sci_script::{ScriptRefusal, put, read_script};
+use sci_search::{SearchRefusal, Watch};
 use std::alloc::{AllocError, Global};
 use std::io::{Read, Write};
 use thiserror::Error;

@@ -1,9 +1,9 @@
 //! What races come to. The numbers of states and of outcomes were counted on another model of the protocol.
 mod growths;
 
-use sci_outcomes::{SearchRefusal, Unwatched};
-use sci_races::{Report, outcomes_text, race_after, search_outcomes};
+use sci_outcomes::{Report, outcomes_text, race_after, search_outcomes};
 use sci_script::read_script;
+use sci_search::{SearchRefusal, Unwatched};
 use std::alloc::Global;
 use std::process::Abort;
 use std::test::Fail;

@@ -5,7 +5,7 @@ mod growths;
 mod ring;
 
 use ring::Ring;
-use sci_outcomes::{SearchRefusal, Unwatched, search};
+use sci_search::{SearchRefusal, Unwatched, search};
 use std::alloc::Global;
 use std::process::Abort;
 use std::test::Fail;

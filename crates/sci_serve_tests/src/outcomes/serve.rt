@@ -3,8 +3,8 @@ mod growths;
 mod plays;
 
 use super::races::LOADED;
-use sci_outcomes::Unwatched;
 use sci_script::ScriptRefusal;
+use sci_search::Unwatched;
 use sci_serve::{INPUT_LIMIT, RaceFault, SimFault, serve_outcomes};
 use std::alloc::Global;
 use std::io;

@@ -2,9 +2,9 @@
 //! tools/allocations runs it once for each growth of its table, with that one refused, and the test ends by saying which call
 //! answered it.
 use super::LOADED;
-use sci_outcomes::{SearchRefusal, Unwatched};
-use sci_races::{outcomes_text, race_after, search_outcomes};
+use sci_outcomes::{outcomes_text, race_after, search_outcomes};
 use sci_script::{ScriptRefusal, read_script};
+use sci_search::{SearchRefusal, Unwatched};
 use std::alloc::Global;
 use std::process::Abort;
 use std::test::Fail;

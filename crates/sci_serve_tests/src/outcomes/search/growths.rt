@@ -1,7 +1,7 @@
 //! Each growth of a search may be refused: it then answers 7, and a second search has the memory. tools/allocations runs this test
 //! once for each growth of its table, with that one refused.
 use super::finds;
-use sci_outcomes::SearchRefusal;
+use sci_search::SearchRefusal;
 use std::process::Abort;
 use std::test::Fail;
 

@@ -2,7 +2,7 @@
 ghost use Rattle.std.specs.Prelude.{◌<◌, ℕ, true};
 ghost use Rattle.sci_serve_tests.specs.Ring.{Leads, leads_below, same_number};
 
-use sci_outcomes::Graph;
+use sci_search::Graph;
 use std::alloc::{AllocError, Global};
 
 /// The numbers from 0 to the last. Turn 0 leads to the next, and from the last to 0; turn 1 leads to the half, and from 0 nowhere.

@@ -1,8 +1,8 @@
 //! Each growth of the command may be refused: it then answers 7, writes nothing, and a second try has the memory. With ample memory
 //! this test passes; tools/allocations runs it once for each growth.
 use super::LOAD;
-use sci_outcomes::Unwatched;
 use sci_script::ScriptRefusal;
+use sci_search::Unwatched;
 use sci_serve::{INPUT_LIMIT, RaceFault, SimFault, serve_outcomes, serve_play};
 use std::alloc::Global;
 use std::io::sink;

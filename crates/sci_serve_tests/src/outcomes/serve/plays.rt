@@ -1,9 +1,9 @@
 //! The states of a race: a node that loads a line which nobody has used, worked out by hand.
 use super::LOAD;
-use sci_outcomes::{SearchRefusal, Unwatched};
+use sci_outcomes::race_after;
 use sci_play::play_text;
-use sci_races::race_after;
 use sci_script::read_script;
+use sci_search::{SearchRefusal, Unwatched};
 use sci_serve::{INPUT_LIMIT, RaceFault, serve_play};
 use std::alloc::Global;
 use std::io::sink;
