@@ -56,13 +56,7 @@ asks_of size (Begin node line (Add word delta)) is small =
     )
 asks_of size (Begin node line Evict) is small =
     let (n, more) = and_parts _ _ is in let (l, w) = and_parts _ _ more in (ltb-true node size.nodes n, ltb-true line size.lines l, tt)
-asks_of size (Turn node) is small = tt
-asks_of size (Done node) is small = tt
-asks_of size (Rest lines) is small = tt
-asks_of size (End nodes lines) is small = tt
-asks_of size (ListLine line) is small = tt
-asks_of size (ShowTag line node) is small = tt
-asks_of size (Residents node) is small = tt
+asks_of size command is small = tt
 
 all_ask : (size : Size) (steps : List Step) → AreIn size steps → StoreSmall steps → AllAsk (asks size) steps
 all_ask size [] is small = tt

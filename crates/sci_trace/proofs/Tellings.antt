@@ -12,7 +12,7 @@ use Rattle.sci_script.specs.declared.commands.Command.{Command}
 use Rattle.sci_script.specs.declared.refusals.ScriptRefusal.{ScriptRefusal}
 use Rattle.sci_script.specs.declared.desk.Toward.{Toward}
 use Rattle.sci_script.specs.declared.watching.Passed.{Passed}
-use Rattle.sci_script.specs.Event.{Event, Began, Turned, Rested, SawMem, SawTag, SawResidents, IsEnd, IsNoEnd}
+use Rattle.sci_script.specs.Event.{Event, Turned, IsEnd, IsNoEnd}
 use Rattle.sci_script.specs.Request.{words_after}
 use Rattle.sci_script.specs.Run.{Repeats, Prints, StopsAt}
 use Rattle.sci_script.specs.Shared.{Shared, shared_does}
@@ -26,12 +26,7 @@ use Rattle.sci_trace.specs.Telling.{Telling, telling, is_wait, IsWait, AddsTold,
 
 -- what a run does that tells of its turns, the lines and nodes do
 pub told_does : (s : Telling) (event : Event) (t : Telling) → tells s event t → shared_does s.shared event t.shared
-told_does s (Began node request) t h = h.0
-told_does s (Turned node turn) t h = h.0
-told_does s (Rested line toward) t h = h.0
-told_does s (SawMem line mem) t h = h.0
-told_does s (SawTag line node tag) t h = h.0
-told_does s (SawResidents node lines) t h = h.0
+told_does s event t h = h.0
 
 -- a line that was added tells of this
 pub told_line : (node : ℕ) (goal : Option Goal) (passed : Passed) (stage : Stage) (wait : Option Wait) (mem : Mem) (entries : List (ℕ × Tag)) (before after : List ℕ) (cut still : Bool) (W : Option Wait → Type 0) (step : Stage) (word : Mem) (tags : ℕ → Tag) (width : ℕ)

@@ -7,7 +7,7 @@ use Rattle.sci_script.specs.declared.commands.Step.{Step}
 use Rattle.sci_script.specs.declared.refusals.ScriptRefusal.{ScriptRefusal}
 use Rattle.sci_script.specs.declared.refusals.ScriptRefusal.TheVariants.{OutOfMemory, BadCommand, BadNumber, NotDone, WriteFailed}
 use Rattle.sci_script.specs.declared.watching.Passed.{Passed}
-use Rattle.sci_script.specs.Event.{Event, Began, Turned, Rested, SawMem, SawTag, SawResidents}
+use Rattle.sci_script.specs.Event.{Event, Turned, Rested}
 use Rattle.sci_script.specs.declared.desk.Toward.{Toward}
 use Rattle.sci_script.specs.Passed.{passes_to_rest, shared_passes}
 use Rattle.sci_script.specs.Request.{no_words}
@@ -32,14 +32,15 @@ abbrev pub AddsRestEntries : Telling → ℕ → Toward → Telling → Type 0
 AddsRestEntries s line (Toward.Turned node) t = (t.is_cut ≡ true) ⊎ ((t.is_cut ≡ s.is_cut) × (passed : Passed) × passes_to_rest s.shared line node t.shared nothing passed × (t.notes ≡ s.notes ++ entries_of node passed))
 AddsRestEntries s line toward t = AddsNone s t
 
--- what lines and nodes do; each turn adds what passed in it, and nothing else adds anything
+-- each turn adds what passed in it, and nothing else adds anything
+abbrev pub adds_passed : Telling → Event → Telling → Type 0
+adds_passed s (Turned node turn) t = AddsEntries s node t
+adds_passed s (Rested line toward) t = AddsRestEntries s line toward t
+adds_passed s event t = AddsNone s t
+
+-- what lines and nodes do, with what passed
 abbrev pub logs : Telling → Event → Telling → Type 0
-logs s (Began node request) t = shared_does s.shared (Began node request) t.shared × AddsNone s t
-logs s (Turned node turn) t = shared_does s.shared (Turned node turn) t.shared × AddsEntries s node t
-logs s (Rested line toward) t = shared_does s.shared (Rested line toward) t.shared × AddsRestEntries s line toward t
-logs s (SawMem line mem) t = shared_does s.shared (SawMem line mem) t.shared × AddsNone s t
-logs s (SawTag line node tag) t = shared_does s.shared (SawTag line node tag) t.shared × AddsNone s t
-logs s (SawResidents node lines) t = shared_does s.shared (SawResidents node lines) t.shared × AddsNone s t
+logs s event t = shared_does s.shared event t.shared × adds_passed s event t
 
 -- the commands are run one after the other, and this is logged of it: the memory with what its lines open with, and behind that what
 -- passed in each turn, in order

@@ -6,7 +6,7 @@ use Rattle.sci_script.specs.declared.commands.Command.{Command}
 use Rattle.sci_script.specs.declared.commands.Step.{Step}
 use Rattle.sci_script.specs.declared.desk.Toward.{Toward}
 use Rattle.sci_script.specs.declared.watching.Passed.{Passed}
-use Rattle.sci_script.specs.Event.{Event, Began, Turned, Rested, SawMem, SawTag, SawResidents}
+use Rattle.sci_script.specs.Event.{Event, Turned, Rested}
 use Rattle.sci_script.specs.Passed.{passes_to_rest, shared_passes}
 use Rattle.sci_script.specs.Request.{words_after}
 use Rattle.sci_script.specs.Run.{Prints, Repeats, IsUnended}
@@ -67,14 +67,15 @@ abbrev pub AddsRestLine : Telling → ℕ → Toward → Telling → Type 0
 AddsRestLine s line (Toward.Turned node) t = AddsTold (passes_to_rest s.shared line node t.shared nothing) s node Turn.Moved 1 t
 AddsRestLine s line toward t = AddsNone s t
 
--- what lines and nodes do; each turn adds its line, and nothing else adds one
+-- each turn adds its line, and nothing else adds one
+abbrev pub adds_line : Telling → Event → Telling → Type 0
+adds_line s (Turned node turn) t = AddsLine s node turn 1 t
+adds_line s (Rested line toward) t = AddsRestLine s line toward t
+adds_line s event t = AddsNone s t
+
+-- what lines and nodes do, with their lines
 abbrev pub tells : Telling → Event → Telling → Type 0
-tells s (Began node request) t = shared_does s.shared (Began node request) t.shared × AddsNone s t
-tells s (Turned node turn) t = shared_does s.shared (Turned node turn) t.shared × AddsLine s node turn 1 t
-tells s (Rested line toward) t = shared_does s.shared (Rested line toward) t.shared × AddsRestLine s line toward t
-tells s (SawMem line mem) t = shared_does s.shared (SawMem line mem) t.shared × AddsNone s t
-tells s (SawTag line node tag) t = shared_does s.shared (SawTag line node tag) t.shared × AddsNone s t
-tells s (SawResidents node lines) t = shared_does s.shared (SawResidents node lines) t.shared × AddsNone s t
+tells s event t = shared_does s.shared event t.shared × adds_line s event t
 
 abbrev pub telling_is_open : Telling → ℕ → Bool
 telling_is_open s node = shared_is_open s.shared node

@@ -1,6 +1,6 @@
 use Rattle.std.proofs.Common.{take}
 use Rattle.sci_script.specs.declared.refusals.ScriptRefusal.TheVariants.{NotDone}
-use Rattle.sci_script.specs.Event.{Event, Began, Turned, Rested, SawMem, SawTag, SawResidents}
+use Rattle.sci_script.specs.Event.{Event}
 use Rattle.sci_script.specs.Request.{no_words}
 use Rattle.sci_script.specs.Shared.{Shared, shared_is_open, shared_does}
 use Rattle.sci_script.proofs.Through.{prints_all, stops_at}
@@ -11,12 +11,7 @@ use Rattle.sci_trace.proofs.laws.logged_rest_and_end_are_done.Goals as goal
 
 -- what is logged, the lines and nodes do
 logged_does : (s : Telling) (event : Event) (t : Telling) → logs s event t → shared_does s.shared event t.shared
-logged_does s (Began node request) t h = h.0
-logged_does s (Turned node turn) t h = h.0
-logged_does s (Rested line toward) t h = h.0
-logged_does s (SawMem line mem) t h = h.0
-logged_does s (SawTag line node tag) t h = h.0
-logged_does s (SawResidents node lines) t h = h.0
+logged_does s event t h = h.0
 
 abbrev seen : Telling → Shared
 seen s = s.shared
