@@ -11,7 +11,7 @@ use Rattle.sci_core.proofs.States.{opened_is_ruled}
 use Rattle.sci_dump.specs.ReadBack.{IsContent}
 use Rattle.sci_cache.specs.Nodes.{NodeState}
 use Rattle.sci_script.specs.declared.commands.Command.{Command}
-use Rattle.sci_script.specs.declared.commands.Command.TheVariants.{Begin, Turn, Done, Rest, End, List as ListLine, Tag as ShowTag, Residents}
+use Rattle.sci_script.specs.declared.commands.Command.TheVariants.{Begin}
 use Rattle.sci_script.specs.declared.commands.Opening.{Opening}
 use Rattle.sci_script.specs.declared.commands.Request.TheVariants.{Load, Store, Add, Evict}
 use Rattle.sci_script.specs.declared.commands.Size.{Size}
