@@ -4,15 +4,15 @@ use Rattle.sci_script.specs.declared.refusals.ScriptRefusal.TheVariants.{OutOfMe
 use Rattle.sci_work.specs.declared.refusals.WorkRefusal.{WorkRefusal}
 use Rattle.sci_serve.specs.declared.faults.SimFault.{SimFault}
 use Rattle.sci_serve.specs.declared.faults.SimFault.TheVariants.{CannotRead, CannotWrite, InputTooLong, Refused, NoDump, Unlawful, NoRun}
-use Rattle.sci_serve.specs.declared.settings.Settings.{Settings}
-use Rattle.sci_serve.specs.declared.settings.refusals.SettingsRefusal.{SettingsRefusal}
-use Rattle.sci_serve.specs.declared.settings.refusals.SettingsRefusal.TheVariants as settings
+use Rattle.sci_settings.specs.declared.settings.Settings.{Settings}
+use Rattle.sci_settings.specs.declared.refusals.SettingsRefusal.{SettingsRefusal}
+use Rattle.sci_settings.specs.declared.refusals.SettingsRefusal.TheVariants as settings
 use Rattle.sci_serve.specs.Fault.{settings_fault_of, work_fault_of}
 use Rattle.sci_serve.specs.Input.{IsReadFault}
 use Rattle.sci_serve.specs.declared.running.Shown.{Shown}
 use Rattle.sci_serve.specs.Runs.{AreSettings, ComesInRun}
 use Rattle.sci_serve.specs.Shown.{StopsPrinting}
-use Rattle.sci_serve.specs.Settings.{Fails, settings_of}
+use Rattle.sci_settings.specs.Settings.{Fails, settings_of}
 use Rattle.sci_serve.proofs.ReadFaults.{of_read_fault}
 
 -- a workload's refusal other than 22

@@ -6,8 +6,6 @@ pub mod Listing
 pub mod Telling
 pub mod Stopping
 pub mod Judging
-pub mod SettingsKeys
-pub mod SettingsItems
 pub mod SettingsLimits
 pub mod Declining
 pub mod Heard

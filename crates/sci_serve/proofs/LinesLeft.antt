@@ -3,9 +3,10 @@ use Rattle.std.proofs.Common.{◌≤◌, List, length, ap, arith}
 use Rattle.std.proofs.Math.Nat.{div-add-mod}
 use Rattle.sci_core.specs.Closed.{ClosedLine}
 use Rattle.sci_work.specs.Ended.{HaveNodes}
-use Rattle.sci_serve.specs.declared.settings.Settings.{Settings}
-use Rattle.sci_serve.specs.declared.settings.Settings.TheVariants.{Stencil, Ring, Count}
-use Rattle.sci_serve.specs.Runs.{AreLeftBy, AreWithin, nodes_of}
+use Rattle.sci_settings.specs.declared.settings.Settings.{Settings}
+use Rattle.sci_settings.specs.declared.settings.Settings.TheVariants.{Stencil, Ring, Count}
+use Rattle.sci_settings.specs.Settings.{nodes_of}
+use Rattle.sci_serve.specs.Runs.{AreLeftBy, AreWithin}
 
 -- there are as many nodes and lines as a dump or a history may have
 pub are_few : (s : Settings) (closed : List ClosedLine) → AreWithin s → AreLeftBy s closed

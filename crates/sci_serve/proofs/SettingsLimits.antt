@@ -5,11 +5,11 @@ use Rattle.std.proofs.lemmas.Bool.{and_parts, leb-true, eqb-true}
 use Rattle.std.proofs.lemmas.Option.{cond_some, same_Some}
 use Rattle.toml.specs.Data.{Members, get_member}
 use Rattle.toml.specs.Parse.{parse_document}
-use Rattle.sci_serve.specs.declared.settings.Settings.{Settings}
-use Rattle.sci_serve.specs.declared.settings.works.Work.{Work}
-use Rattle.sci_serve.specs.declared.settings.works.Work.TheVariants as work
+use Rattle.sci_settings.specs.declared.settings.Settings.{Settings}
+use Rattle.sci_settings.specs.declared.works.Work.{Work}
+use Rattle.sci_settings.specs.declared.works.Work.TheVariants as work
 use Rattle.sci_serve.specs.Runs.{AreWithin}
-use Rattle.sci_serve.specs.Settings.{◌>>=◌, within, number_in, number_at, numbers_at, if_so, are_cells, are_items, dump_at, work_at, has_keys_of, settings_for, settings_in, settings_of}
+use Rattle.sci_settings.specs.Settings.{◌>>=◌, within, number_in, number_at, numbers_at, if_so, are_cells, are_items, dump_at, work_at, has_keys_of, settings_for, settings_in, settings_of}
 
 -- what a step was taken from
 taken : {A B : Type 0} (o : Option A) (f : A → Option B) (y : B) → o >>= f ≡ Some y → (x : A) × (o ≡ Some x) × (f x ≡ Some y)

@@ -10,9 +10,9 @@ use Rattle.sci_serve.specs.declared.explaining.Text.{Text}
 use Rattle.sci_serve.specs.declared.explaining.Text.TheVariants as texts
 use Rattle.sci_serve.specs.declared.faults.SimFault.{SimFault}
 use Rattle.sci_serve.specs.declared.faults.SimFault.TheVariants.{NoDump, NoRun}
-use Rattle.sci_serve.specs.declared.settings.why.SettingsReason.{SettingsReason}
+use Rattle.sci_settings.specs.declared.why.SettingsReason.{SettingsReason}
 use Rattle.sci_serve.specs.Explained.{IsExplained}
-use Rattle.sci_serve.specs.Settings.{IsWhySettings}
+use Rattle.sci_settings.specs.Settings.{IsWhySettings}
 
 -- of settings: their reason, where they are refused 22
 abbrev pub OfSettings : SimFault → List ℕ → Option SettingsReason → Type 0

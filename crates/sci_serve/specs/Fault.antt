@@ -5,8 +5,8 @@ use Rattle.sci_script.specs.declared.refusals.ScriptRefusal.TheVariants.{OutOfMe
 use Rattle.sci_dump.specs.declared.refusals.DumpRefusal.{DumpRefusal}
 use Rattle.sci_dump.specs.declared.refusals.DumpRefusal.TheVariants.{OutOfMemory as NoMemory, DumpFault}
 use Rattle.sci_work.specs.declared.refusals.WorkRefusal.{WorkRefusal}
-use Rattle.sci_serve.specs.declared.settings.refusals.SettingsRefusal.{SettingsRefusal}
-use Rattle.sci_serve.specs.declared.settings.refusals.SettingsRefusal.TheVariants as settings
+use Rattle.sci_settings.specs.declared.refusals.SettingsRefusal.{SettingsRefusal}
+use Rattle.sci_settings.specs.declared.refusals.SettingsRefusal.TheVariants as settings
 use Rattle.sci_serve.specs.declared.faults.SimFault.{SimFault}
 use Rattle.sci_serve.specs.declared.faults.SimFault.TheVariants.{CannotRead, CannotWrite, InputTooLong, Refused, NoDump, Unlawful, NoRun}
 

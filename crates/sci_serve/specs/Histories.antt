@@ -8,8 +8,9 @@ use Rattle.sci_histories.specs.Rules.{IsLegalLine}
 use Rattle.sci_histories.specs.Text.{history_text}
 use Rattle.sci_work.specs.Ended.{AreHistories}
 use Rattle.sci_work.specs.Written.{AreWrittenAs}
-use Rattle.sci_serve.specs.declared.settings.Settings.{Settings}
-use Rattle.sci_serve.specs.Runs.{AreLeftBy, fits_of, nodes_of, writes_of}
+use Rattle.sci_settings.specs.declared.settings.Settings.{Settings}
+use Rattle.sci_settings.specs.Settings.{nodes_of}
+use Rattle.sci_serve.specs.Runs.{AreLeftBy, fits_of, writes_of}
 
 -- from zeros to what the line was closed with, and these receipts
 abbrev pub history_from : ClosedLine → List (List Receipt) → LineReceipts

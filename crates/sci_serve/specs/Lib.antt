@@ -5,7 +5,6 @@ pub mod Runs
 pub mod Histories
 pub mod Shown
 pub mod Serve
-pub mod Settings
 pub mod Verdicts
 pub mod Large
 pub mod Followed

@@ -11,11 +11,11 @@ use Rattle.sci_work.specs.Plain.{plain}
 use Rattle.sci_work.specs.Ring.{FitsRing, IsRingRun, ring_writes}
 use Rattle.sci_work.specs.Stencil.{FitsStencil, IsStencilSize, stencil_writes}
 use Rattle.sci_work.specs.Written.{AddsAlone, WritesAlone}
-use Rattle.sci_serve.specs.declared.settings.Settings.{Settings}
-use Rattle.sci_serve.specs.declared.settings.Settings.TheVariants.{Stencil, Ring, Count}
+use Rattle.sci_settings.specs.declared.settings.Settings.{Settings}
+use Rattle.sci_settings.specs.declared.settings.Settings.TheVariants.{Stencil, Ring, Count}
 use Rattle.sci_serve.specs.declared.faults.SimFault.{SimFault}
 use Rattle.sci_serve.specs.declared.faults.SimFault.TheVariants.{Refused, NoRun}
-use Rattle.sci_serve.specs.Settings.{settings_of}
+use Rattle.sci_settings.specs.Settings.{settings_of, nodes_of, wants_dump}
 use Rattle.sci_serve.specs.Works.{list_line, count_line}
 
 -- the input is a text of these settings
@@ -31,12 +31,6 @@ AreWithin (Count nodes adds capacity dump) = IsCountSize nodes adds capacity
 -- the dump of closed lines of so many nodes, where it is wanted
 abbrev pub dump_part : Bool → ℕ → List ClosedLine → List ℕ
 dump_part wanted nodes closed = if wanted then dump_text Two nodes closed else []
-
--- how many nodes there are
-abbrev pub nodes_of : Settings → ℕ
-nodes_of (Stencil nodes capacity phases cells dump) = nodes
-nodes_of (Ring lines capacity items dump) = 2
-nodes_of (Count nodes adds capacity dump) = nodes
 
 -- what is known of the words of each line of these settings
 abbrev pub fits_of : Settings → ℕ → List ℕ → Type 0
@@ -57,16 +51,11 @@ AreLeftBy (Stencil nodes capacity phases cells dump) closed = AreClosed (FitsSte
 AreLeftBy (Ring lines capacity items dump) closed = AreClosed (FitsRing items lines) (lines + 1) closed × HaveNodes 2 closed
 AreLeftBy (Count nodes adds capacity dump) closed = IsCounted ((nodes * adds) % 2 ^ 64) closed × HaveNodes nodes closed
 
--- the line of their result, and whether the dump is wanted too
+-- the line of their result
 abbrev pub result_line : Settings → List ℕ
 result_line (Stencil nodes capacity phases cells dump) = list_line (codes "cells") (plain cells phases)
 result_line (Ring lines capacity items dump) = list_line (codes "items") items
 result_line (Count nodes adds capacity dump) = count_line ((nodes * adds) % 2 ^ 64)
-
-abbrev pub wants_dump : Settings → Bool
-wants_dump (Stencil nodes capacity phases cells dump) = dump
-wants_dump (Ring lines capacity items dump) = dump
-wants_dump (Count nodes adds capacity dump) = dump
 
 -- the result of these settings, and the dump of the lines on which it was made
 abbrev pub IsTextOf : Settings → List ℕ → Type 0

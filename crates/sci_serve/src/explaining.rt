@@ -4,9 +4,9 @@ ghost use Rattle.sci_serve.specs.Explaining.{IsToldOf, OfSettings, OfDump, OfHis
 
 use crate::faults::SimFault;
 use crate::reasons::explanation;
-use crate::settings::{SettingsReason, why_settings};
 use sci_reasons::{RowFault, why_dump, why_history};
 use sci_script::Reason;
+use sci_settings::{SettingsReason, why_settings};
 use sci_work::WorkRefusal;
 use std::alloc::{AllocError, Global};
 use thiserror::Error;

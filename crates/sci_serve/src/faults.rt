@@ -5,9 +5,9 @@ ghost use Rattle.sci_serve.specs.Fault.{fault_of, dump_fault_of, settings_fault_
 ghost use Rattle.sci_serve.specs.declared.faults.SimFault.TheVariants.{CannotWrite, Refused};
 ghost use Rattle.sci_script.specs.declared.refusals.ScriptRefusal.TheVariants.{OutOfMemory};
 
-use crate::settings::SettingsRefusal;
 use sci_dump::DumpRefusal;
 use sci_script::{ScriptRefusal, WriteFailed};
+use sci_settings::SettingsRefusal;
 use sci_work::WorkRefusal;
 use std::alloc::AllocError;
 use thiserror::Error;

@@ -6,10 +6,10 @@ ghost use Rattle.sci_serve.specs.Histories.{IsHistoryTextOf, histories_from, his
 ghost use Rattle.sci_serve.specs.Runs.{AreWithin, ComesInRun};
 
 use crate::faults::SimFault;
-use crate::settings::Settings;
 use crate::workloads::run_workload;
 use sci_core::{Closed, Line, Receipt};
 use sci_histories::{History, LineHistory, NodeReceipts, history_text};
+use sci_settings::Settings;
 use sci_work::{ClosedMemory, Gate, Keeping};
 use std::alloc::{AllocError, Global};
 use std::sync::Wait;

@@ -5,7 +5,7 @@
 //! settings ask for, [`serve_history`] and [`serve_history_by`] write the history of its lines, [`serve_check`] checks a dump,
 //! [`serve_check_large`] one of any length, and [`serve_legal`] a history. Each answers Ok or a [`SimFault`], which has the program's
 //! status; [`serve_outcomes`] a [`RaceFault`].
-//! [`read_settings`] reads the settings of a workload, [`Beginning`] tells which text an input is, and [`explained`] why one is refused.
+//! [`Beginning`] tells which text an input is, and [`explained`] why one is refused.
 //! [`script_is_talked`], [`entries_are_read_back`], [`turns_are_followed`] and [`logs_follow`] are laws: they compute nothing.
 #![tactic(auto)]
 
@@ -26,7 +26,6 @@ mod reasons;
 mod results;
 mod running;
 mod scripts;
-mod settings;
 mod talking;
 mod verdicts;
 mod wholly;
@@ -48,9 +47,5 @@ pub use racing::{RaceFault, serve_outcomes};
 pub use reasons::{Explain, Told, Untold, explanation};
 pub use running::{serve_history, serve_history_by, serve_run, serve_run_by};
 pub use scripts::{Form, serve, serve_buffered, serve_draw, serve_script, serve_trace};
-pub use settings::{
-    Found, Misfit, Numbers, Settings, SettingsReason, SettingsRefusal, Wanted, Work, read_settings,
-    why_settings,
-};
 pub use talking::{serve_talk, serve_talk_by};
 pub use works::{cells_text, count_text, items_text};

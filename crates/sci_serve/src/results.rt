@@ -6,11 +6,11 @@ ghost use Rattle.sci_serve.specs.Runs.{AreWithin, ComesInRun, IsTextOf, dump_par
 ghost use Rattle.sci_serve.specs.Worked.{worked_line};
 
 use crate::faults::SimFault;
-use crate::settings::Settings;
 use crate::workloads::{Worked, run_workload};
 use crate::works::{cells_text, count_text, items_text};
 use sci_core::Closed;
 use sci_dump::dump;
+use sci_settings::Settings;
 use sci_work::{Gate, Keeping};
 use std::alloc::{AllocError, Global};
 use std::sync::Wait;

@@ -4,11 +4,12 @@ ghost use Rattle.std.specs.Prelude.{◌≡◌, map, IfOk, IfErr};
 ghost use Rattle.sci_work.specs.Ended.{AreKept, lists_in};
 ghost use Rattle.sci_work.specs.Written.{AreWrittenAs};
 ghost use Rattle.sci_work.specs.declared.keeping.Keeping as keepings;
-ghost use Rattle.sci_serve.specs.Runs.{AreLeftBy, AreWithin, ComesInRun, fits_of, nodes_of, result_line, writes_of};
+ghost use Rattle.sci_settings.specs.Settings.{nodes_of};
+ghost use Rattle.sci_serve.specs.Runs.{AreLeftBy, AreWithin, ComesInRun, fits_of, result_line, writes_of};
 ghost use Rattle.sci_serve.specs.Worked.{worked_line};
 
 use crate::faults::SimFault;
-use crate::settings::Settings;
+use sci_settings::Settings;
 use sci_work::{ClosedMemory, Gate, Keeping, count, ring, stencil};
 use std::alloc::Global;
 use std::sync::Wait;

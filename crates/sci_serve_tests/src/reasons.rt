@@ -1,7 +1,8 @@
 //! Why a text is refused, in words: settings by each of their rules, and one text of each kind.
 use crate::checks::same_at;
 use sci_script::ScriptRefusal;
-use sci_serve::{Explanation, SimFault, Text, explained, why_settings};
+use sci_serve::{Explanation, SimFault, Text, explained};
+use sci_settings::why_settings;
 use sci_work::WorkRefusal;
 use std::alloc::{AllocError, Global};
 use std::fmt::Display;

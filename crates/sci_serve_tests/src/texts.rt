@@ -1,9 +1,8 @@
 //! The texts of faults, of results and of pages, and what settings say.
 use crate::checks::{same, same_at, same_bytes_at};
 use sci_script::ScriptRefusal;
-use sci_serve::{
-    Settings, SettingsRefusal, SimFault, cells_text, count_text, items_text, read_settings,
-};
+use sci_serve::{SimFault, cells_text, count_text, items_text};
+use sci_settings::{Settings, SettingsRefusal, read_settings};
 use sci_trace::parts::{Coding, put_coded};
 use sci_work::WorkRefusal;
 use std::alloc::Global;

@@ -3,7 +3,8 @@ use Rattle.std.proofs.lemmas.List.{length-map}
 use Rattle.sci_histories.specs.Histories.{HasSizes, LineReceipts}
 use Rattle.sci_histories.specs.Text.{history_text}
 use Rattle.sci_work.specs.Ended.{lists_in}
-use Rattle.sci_serve.specs.Runs.{fits_of, nodes_of}
+use Rattle.sci_settings.specs.Settings.{nodes_of}
+use Rattle.sci_serve.specs.Runs.{fits_of}
 use Rattle.sci_serve.proofs.LineHistories.{legal_of, sizes}
 use Rattle.sci_serve.proofs.LinesLeft.{are_few}
 use Rattle.sci_serve.proofs.histories.history_of.Goals as goal

@@ -1,7 +1,8 @@
 use Rattle.std.proofs.Common.{◌∙◌, ◌++◌, ◌≤◌, ℕ, List, length, subst, sym, ap}
 use Rattle.sci_core.specs.Closed.{ClosedLine}
 use Rattle.sci_work.specs.Ended.{HaveNodes}
-use Rattle.sci_serve.specs.Runs.{AreLeftBy, dump_part, nodes_of, result_line}
+use Rattle.sci_settings.specs.Settings.{nodes_of}
+use Rattle.sci_serve.specs.Runs.{AreLeftBy, dump_part, result_line}
 use Rattle.sci_serve.proofs.LinesLeft.{are_few, have_nodes}
 use Rattle.sci_serve.proofs.results.result_text.Goals as goal
 

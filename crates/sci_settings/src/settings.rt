@@ -3,25 +3,15 @@
 ghost use Rattle.std.specs.Prelude.{◌≡◌, Some, true, false, IfOk, IfErr, IsUtf8};
 ghost use Rattle.toml.specs.Data.{Members};
 ghost use Rattle.toml.specs.View.{table_view};
-ghost use Rattle.sci_serve.specs.Settings.{Gives, Fails, IsWhy, has_array, suits, wanted_at};
-ghost use Rattle.sci_serve.specs.Settings.{settings_for, settings_in, settings_of, work_at};
+ghost use Rattle.sci_settings.specs.Settings.{Gives, Fails, IsWhy, has_array, suits, wanted_at};
+ghost use Rattle.sci_settings.specs.Settings.{settings_for, settings_in, settings_of, work_at};
 
-mod fields;
-mod misfits;
-mod refusals;
-mod why;
-mod works;
-
-pub use fields::Numbers;
-use fields::{dump_at, number_at, numbers_at};
-use misfits::Unread;
-pub use misfits::{Found, Misfit, Wanted};
-pub use refusals::SettingsRefusal;
+use crate::fields::{Numbers, dump_at, number_at, numbers_at};
+use crate::misfits::{Found, Misfit, Unread, Wanted};
+use crate::refusals::SettingsRefusal;
+use crate::works::{Work, foreign, foreign_key, work_at};
 use std::alloc::Global;
 use toml::{Table, table_from_slice};
-pub use why::{SettingsReason, why_settings};
-pub use works::Work;
-use works::{foreign, foreign_key, work_at};
 
 /// The settings of a run: its work, with what it works on.
 #[derive(Debug, Drop)]
@@ -64,10 +54,10 @@ pub enum Settings {
 }
 
 impl Settings {
-    ghost use Rattle.sci_serve.specs.Runs.{nodes_of, wants_dump};
+    ghost use Rattle.sci_settings.specs.Settings.{nodes_of, wants_dump};
 
     /// How many nodes work.
-    pub(crate) fn nodes(&self) -> u16
+    pub fn nodes(&self) -> u16
         ensures { result ≡ nodes_of self.now }
     {
         match self {
@@ -77,7 +67,7 @@ impl Settings {
     }
 
     /// Whether the dump is printed too.
-    pub(crate) fn wants_dump(&self) -> bool
+    pub fn wants_dump(&self) -> bool
         ensures { result ≡ wants_dump self.now }
     {
         match self {
@@ -155,8 +145,8 @@ fn count_in(alloc: Global, table: &Table) -> Result<Settings, Unread>
     })
 }
 
-#[tactic(auto, unfolding(crate::specs::Settings::settings_in), using(crate::proofs::SettingsKeys::why_of))]
-fn settings_in(alloc: Global, table: &Table) -> Result<Settings, Unread>
+#[tactic(auto, unfolding(crate::specs::Settings::settings_in), using(crate::proofs::Keys::why_of))]
+pub(crate) fn settings_in(alloc: Global, table: &Table) -> Result<Settings, Unread>
     ensures exact { Gives result (settings_in (table_view table.now)) }
     ensures why { IfErr result (IsWhy (work_at (table_view table.now)) (table_view table.now)) }
 {

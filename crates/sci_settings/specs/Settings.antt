@@ -4,23 +4,23 @@ use Rattle.std.specs.List.{list_all, list_any}
 use Rattle.std.specs.Str.{bytes_eq}
 use Rattle.toml.specs.Data.{Data, Items, no_items, item, Members, no_members, member, get_member, get_item, as_str, as_integer, as_bool, as_array, type_name}
 use Rattle.toml.specs.Parse.{parse_document}
-use Rattle.sci_serve.specs.declared.settings.refusals.SettingsRefusal.{SettingsRefusal}
-use Rattle.sci_serve.specs.declared.settings.refusals.SettingsRefusal.TheVariants.{OutOfMemory, BadSettings}
-use Rattle.sci_serve.specs.declared.settings.Settings.{Settings}
-use Rattle.sci_serve.specs.declared.settings.Settings.TheVariants.{Stencil, Ring, Count}
-use Rattle.sci_serve.specs.declared.settings.works.Work.{Work}
-use Rattle.sci_serve.specs.declared.settings.works.Work.TheVariants as work
-use Rattle.sci_serve.specs.declared.settings.misfits.Found.{Found}
-use Rattle.sci_serve.specs.declared.settings.misfits.Found.TheVariants.{Integer, Text, Array, Other}
-use Rattle.sci_serve.specs.declared.settings.misfits.Misfit.{Misfit}
-use Rattle.sci_serve.specs.declared.settings.misfits.Misfit.TheVariants.{Missing, Foreign, Item, Value}
-use Rattle.sci_serve.specs.declared.settings.misfits.Unread.{Unread}
-use Rattle.sci_serve.specs.declared.settings.misfits.Unread.TheVariants as unread
-use Rattle.sci_serve.specs.declared.settings.misfits.Wanted.{Wanted}
-use Rattle.sci_serve.specs.declared.settings.misfits.Wanted.TheVariants as wants
-use Rattle.sci_serve.specs.declared.settings.why.SettingsReason.{SettingsReason}
-use Rattle.sci_serve.specs.declared.settings.why.SettingsReason.TheVariants as reasons
-use Rattle.sci_serve.specs.declared.settings.why.SettingsReason.TheVariants.{NoToml}
+use Rattle.sci_settings.specs.declared.refusals.SettingsRefusal.{SettingsRefusal}
+use Rattle.sci_settings.specs.declared.refusals.SettingsRefusal.TheVariants.{OutOfMemory, BadSettings}
+use Rattle.sci_settings.specs.declared.settings.Settings.{Settings}
+use Rattle.sci_settings.specs.declared.settings.Settings.TheVariants.{Stencil, Ring, Count}
+use Rattle.sci_settings.specs.declared.works.Work.{Work}
+use Rattle.sci_settings.specs.declared.works.Work.TheVariants as work
+use Rattle.sci_settings.specs.declared.misfits.Found.{Found}
+use Rattle.sci_settings.specs.declared.misfits.Found.TheVariants.{Integer, Text, Array, Other}
+use Rattle.sci_settings.specs.declared.misfits.Misfit.{Misfit}
+use Rattle.sci_settings.specs.declared.misfits.Misfit.TheVariants.{Missing, Foreign, Item, Value}
+use Rattle.sci_settings.specs.declared.misfits.Unread.{Unread}
+use Rattle.sci_settings.specs.declared.misfits.Unread.TheVariants as unread
+use Rattle.sci_settings.specs.declared.misfits.Wanted.{Wanted}
+use Rattle.sci_settings.specs.declared.misfits.Wanted.TheVariants as wants
+use Rattle.sci_settings.specs.declared.why.SettingsReason.{SettingsReason}
+use Rattle.sci_settings.specs.declared.why.SettingsReason.TheVariants as reasons
+use Rattle.sci_settings.specs.declared.why.SettingsReason.TheVariants.{NoToml}
 
 infixl 10 ◌>>=◌
 abbrev pub ◌>>=◌ : {A B : Type 0} → Option A → (A → Option B) → Option B
@@ -230,3 +230,15 @@ abbrev pub IsOfItem : List ℕ → Items → Unread → Type 0
 IsOfItem key items (unread.Misfit (Item of_key place)) = (of_key.now ≡ key) × IsNoNumber (Some items) place
 IsOfItem key items (unread.Misfit misfit) = ⊥
 IsOfItem key items unread.OutOfMemory = Unit {0}
+
+-- how many nodes there are
+abbrev pub nodes_of : Settings → ℕ
+nodes_of (Stencil nodes capacity phases cells dump) = nodes
+nodes_of (Ring lines capacity items dump) = 2
+nodes_of (Count nodes adds capacity dump) = nodes
+
+-- whether the dump is wanted too
+abbrev pub wants_dump : Settings → Bool
+wants_dump (Stencil nodes capacity phases cells dump) = dump
+wants_dump (Ring lines capacity items dump) = dump
+wants_dump (Count nodes adds capacity dump) = dump

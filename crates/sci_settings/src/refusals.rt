@@ -1,7 +1,7 @@
 //! Why a text is refused as settings.
 
 ghost use Rattle.std.specs.Prelude.{◌≡◌};
-ghost use Rattle.sci_serve.specs.declared.settings.refusals.SettingsRefusal.TheVariants.{OutOfMemory};
+ghost use Rattle.sci_settings.specs.declared.refusals.SettingsRefusal.TheVariants.{OutOfMemory};
 
 use std::alloc::{AllocError, AllocFailed};
 use thiserror::Error;
@@ -18,7 +18,7 @@ pub enum SettingsRefusal {
 }
 
 impl SettingsRefusal {
-    ghost use Rattle.sci_serve.specs.Settings.{settings_refusal_number};
+    ghost use Rattle.sci_settings.specs.Settings.{settings_refusal_number};
 
     /// The refusal's number.
     pub fn number(self) -> u8

@@ -11,12 +11,12 @@ use Rattle.std.specs.Ordering.{match_ordering}
 use Rattle.toml.specs.Data.{Data, Members, get_member}
 use Rattle.toml.specs.View.{view, members_view}
 use Rattle.toml.specs.declared.value.Value.{Value}
-use Rattle.sci_serve.specs.declared.settings.misfits.Unread.{Unread}
-use Rattle.sci_serve.specs.declared.settings.misfits.Wanted.{Wanted}
-use Rattle.sci_serve.specs.declared.settings.misfits.Wanted.TheVariants as wants
-use Rattle.sci_serve.specs.declared.settings.works.Work.{Work}
-use Rattle.sci_serve.specs.Settings as settings
-use Rattle.sci_serve.specs.Settings.{IsWhy, is_needed, is_of_numbers, wanted_at}
+use Rattle.sci_settings.specs.declared.misfits.Unread.{Unread}
+use Rattle.sci_settings.specs.declared.misfits.Wanted.{Wanted}
+use Rattle.sci_settings.specs.declared.misfits.Wanted.TheVariants as wants
+use Rattle.sci_settings.specs.declared.works.Work.{Work}
+use Rattle.sci_settings.specs.Settings as settings
+use Rattle.sci_settings.specs.Settings.{IsWhy, is_needed, is_of_numbers, wanted_at}
 
 pub keys_view : (work : Work) (es : List (String Global × Value)) → list_all (λ k. settings.is_key_of work (string_bytes k)) (keys_of es) ≡ settings.has_keys_of work (members_view es)
 keys_view work [] = refl

@@ -1,7 +1,7 @@
 use Rattle.std.proofs.Common.{rules, Some, refl}
-use Rattle.sci_serve.specs.declared.settings.works.Work.TheVariants as work
-use Rattle.sci_serve.specs.Settings.{settings_for}
-use Rattle.sci_serve.proofs.settings.ring_in.Goals as goal
+use Rattle.sci_settings.specs.declared.works.Work.TheVariants as work
+use Rattle.sci_settings.specs.Settings.{settings_for}
+use Rattle.sci_settings.proofs.settings.ring_in.Goals as goal
 
 pub returns : goal.returns
 unfolding settings_for

@@ -1,9 +1,9 @@
 use Rattle.std.proofs.Common.{◌≡◌, ◌∙◌, ◌+◌, ℕ, List, [], ◌∷◌, drop, length, length-append, sym, ap, subst, refl, arith}
 use Rattle.toml.specs.View.{view, items_view}
 use Rattle.toml.specs.declared.value.Value.{Value}
-use Rattle.sci_serve.specs.Settings.{number_in, numbers_in}
-use Rattle.sci_serve.proofs.SettingsItems.{with_front, item_more, item_named}
-use Rattle.sci_serve.proofs.settings.fields.numbers_in.Goals as goal
+use Rattle.sci_settings.specs.Settings.{number_in, numbers_in}
+use Rattle.sci_settings.proofs.Items.{with_front, item_more, item_named}
+use Rattle.sci_settings.proofs.fields.numbers_in.Goals as goal
 
 pub loop-value-preserved : goal.loop-value-preserved
 loop-value-preserved c =

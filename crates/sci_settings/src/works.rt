@@ -3,10 +3,10 @@
 ghost use Rattle.std.specs.Prelude.{◌≡◌, Some, None, true, false, map, not, is_some, IfErr, IfSome, string_bytes};
 ghost use Rattle.toml.specs.Data.{Members, get_member};
 ghost use Rattle.toml.specs.View.{table_view};
-ghost use Rattle.sci_serve.specs.Settings.{Gives, IsWhy, has_keys_of, is_key_of, keys_of, named, work_at};
+ghost use Rattle.sci_settings.specs.Settings.{Gives, IsWhy, has_keys_of, is_key_of, keys_of, named, work_at};
 
-use super::fields::{misfit, value_at};
-use super::misfits::{Misfit, Unread, Wanted};
+use crate::fields::{misfit, value_at};
+use crate::misfits::{Misfit, Unread, Wanted};
 use std::alloc::{AllocError, Global};
 use std::fmt;
 use strsim::levenshtein;

@@ -1,11 +1,11 @@
 //! Why a text is no settings, in words.
 
 ghost use Rattle.std.specs.Prelude.{◌≡◌, Some, IfOk};
-ghost use Rattle.sci_serve.specs.Settings.{IsFound};
-ghost use Rattle.sci_serve.specs.declared.settings.misfits.Unread.TheVariants.{OutOfMemory, Misfit as OfMisfit};
+ghost use Rattle.sci_settings.specs.Settings.{IsFound};
+ghost use Rattle.sci_settings.specs.declared.misfits.Unread.TheVariants.{OutOfMemory, Misfit as OfMisfit};
 ghost use Rattle.toml.specs.View.{view};
 
-use super::works::Work;
+use crate::works::Work;
 use std::alloc::{AllocError, AllocFailed, Global};
 use std::fmt;
 use toml::Value;

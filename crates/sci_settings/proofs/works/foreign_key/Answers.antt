@@ -3,9 +3,9 @@ use Rattle.std.proofs.lemmas.Iterator.Consumers.{YieldsList-from_rest}
 use Rattle.std.proofs.lemmas.Iterator.Search.{find_from_yields_List}
 use Rattle.std.specs.Map.{keys_of}
 use Rattle.std.specs.Map.Iter.{deref}
-use Rattle.sci_serve.specs.Settings.{is_key_of}
-use Rattle.sci_serve.proofs.SettingsKeys.{keys_view, is_found, is_mapped, all_found_stand}
-use Rattle.sci_serve.proofs.settings.works.foreign_key.Goals as goal
+use Rattle.sci_settings.specs.Settings.{is_key_of}
+use Rattle.sci_settings.proofs.Keys.{keys_view, is_found, is_mapped, all_found_stand}
+use Rattle.sci_settings.proofs.works.foreign_key.Goals as goal
 
 pub returns-clause-exact : goal.returns-clause-exact
 returns-clause-exact c =

@@ -1,5 +1,5 @@
 use Rattle.toml.proofs.Views.{table_get}
-use Rattle.sci_serve.proofs.settings.fields.value_in.Goals as goal
+use Rattle.sci_settings.proofs.fields.value_in.Goals as goal
 
 pub returns : goal.returns
 returns c = table_get c.get.result c.args.key.now c.args.table.now.entries c.get.ensures.value

@@ -1,13 +1,13 @@
 //! What stands at the keys of a table of settings.
 
 ghost use Rattle.std.specs.Prelude.{◌≡◌, ◌≤◌, Option, Some, None, codes, option_map, true, false, IfOk, IfErr, pos};
-ghost use Rattle.sci_serve.specs.declared.settings.works.Work.{Work};
+ghost use Rattle.sci_settings.specs.declared.works.Work.{Work};
 ghost use Rattle.toml.specs.Data.{get_member};
 ghost use Rattle.toml.specs.View.{view, items_view, table_view};
-ghost use Rattle.sci_serve.specs.Settings.{Gives, IsWhy, IsWrong, IsMissing, IsOfItem, has_array, is_of_numbers, suits, wanted_at};
-ghost use Rattle.sci_serve.specs.Settings.{number_at, number_in, numbers_in, numbers_at, flag_of, dump_at};
+ghost use Rattle.sci_settings.specs.Settings.{Gives, IsWhy, IsWrong, IsMissing, IsOfItem, has_array, is_of_numbers, suits, wanted_at};
+ghost use Rattle.sci_settings.specs.Settings.{number_at, number_in, numbers_in, numbers_at, flag_of, dump_at};
 
-use super::misfits::{Found, Misfit, Unread, Wanted};
+use crate::misfits::{Found, Misfit, Unread, Wanted};
 use std::alloc::Global;
 use std::marker::Model;
 use toml::{Table, Value};
@@ -79,7 +79,7 @@ fn number_in(value: &Value) -> Option<u64>
 }
 
 /// The number at a key, from low to high.
-#[tactic(auto, using(crate::proofs::SettingsKeys::needed_at))]
+#[tactic(auto, using(crate::proofs::Keys::needed_at))]
 pub fn number_at(
     alloc: Global,
     table: &Table,
@@ -115,7 +115,7 @@ fn numbers_in(alloc: Global, key: &'static str, array: &[Value]) -> Result<Numbe
 }
 
 /// The numbers of the array at a key, where as many are wanted.
-#[tactic(auto, using(crate::proofs::SettingsItems::item_there, crate::proofs::SettingsKeys::needed_at, crate::proofs::SettingsKeys::numbers_needed))]
+#[tactic(auto, using(crate::proofs::Items::item_there, crate::proofs::Keys::needed_at, crate::proofs::Keys::numbers_needed))]
 pub fn numbers_at(
     alloc: Global,
     table: &Table,

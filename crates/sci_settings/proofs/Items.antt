@@ -5,7 +5,7 @@ use Rattle.toml.specs.Data.{Data, Items, item}
 use Rattle.toml.specs.View.{view, items_view}
 use Rattle.toml.specs.declared.value.Value.{Value}
 use Rattle.toml.proofs.Views.{get_item_within, items_view-drop}
-use Rattle.sci_serve.specs.Settings.{IsNoNumber, number_in, numbers_in, ◌>>=◌}
+use Rattle.sci_settings.specs.Settings.{IsNoNumber, number_in, numbers_in, ◌>>=◌}
 
 -- the numbers so far in front of those that are left
 abbrev pub with_front : List ℕ → Option (List ℕ) → Option (List ℕ)

@@ -1,10 +1,10 @@
 //! Why a text is refused as settings, in words, and where.
 
 ghost use Rattle.std.specs.Prelude.{IfOk};
-ghost use Rattle.sci_serve.specs.Settings.{IsWhySettings, Tells};
+ghost use Rattle.sci_settings.specs.Settings.{IsWhySettings, Tells};
 
-use super::misfits::{Misfit, Unread};
-use super::settings_in;
+use crate::misfits::{Misfit, Unread};
+use crate::settings::settings_in;
 use std::alloc::{AllocError, Global};
 use std::fmt;
 use toml::de::Error;
