@@ -10,7 +10,7 @@ pub returns-clause-ok : goal.returns-clause-ok
 returns-clause-ok g c =
     let desk = c.in_ok-desk.desk in
     ok_then c.draw.result _ _ c.draw.ensures.ok
-    (λ (traced, all, told, appended). (page_of c.args.input.now traced, (shared_of desk.desk, shared_of c.draw.new.desk.desk, traced, c.in_ok-desk.ensures.opened, all, told, refl), appended))
+    (λ (traced, told, appended). (page_of c.args.input.now traced, (shared_of desk.desk, shared_of c.draw.new.desk.desk, traced, c.in_ok-desk.ensures.opened, told, refl), appended))
 
 pub returns-clause-err : goal.returns-clause-err
 returns-clause-err g c =

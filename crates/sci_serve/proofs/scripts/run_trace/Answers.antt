@@ -9,7 +9,7 @@ pub returns-clause-ok : goal.returns-clause-ok
 returns-clause-ok g c =
     let desk = c.in_ok-desk.desk in
     ok_then c.trace.result _ _ c.trace.ensures.ok
-    (λ (text, traced, told, appended). (text, (shared_of desk.desk, shared_of c.trace.new.desk.desk, c.in_ok-desk.ensures.opened, traced, told), appended))
+    (λ (text, told, appended). (text, (shared_of desk.desk, shared_of c.trace.new.desk.desk, c.in_ok-desk.ensures.opened, told), appended))
 
 pub returns-clause-err : goal.returns-clause-err
 returns-clause-err g c =
