@@ -37,7 +37,7 @@ int main(int count, char **words) {
     FILE *script = fopen(words[2], "r"), *to = fdopen(ask[1], "w"), *from = fdopen(answer[0], "r");
     while (script && !refused && (length = getline(&command, &room, script)) > 0)
         refused = say(to, from, command, (size_t)length);
-    if (!script) perror(words[2]);
+    if (!script || ferror(script)) perror(words[2]);
     if (refused < 0) fputs("talk: no answer, or nobody reads on\n", stderr);
     if (refused > 0) fprintf(stderr, "refused %d: %s", refused, command);
     free(command);

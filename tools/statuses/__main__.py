@@ -12,6 +12,7 @@ import os
 import pathlib
 import resource
 import shutil
+import socket
 import signal
 import socket
 import subprocess
@@ -233,6 +234,7 @@ def odd_names(room):
         ([b"scisim", b"script"], {"executable": program, "env": {UNTOLD: UNTOLD}}, 0, text, b""),
         ([b"", b"script", b"script"], {"executable": program}, 0, text, b""),
         ([program, b"script", script], {}, 1, b"", bytes_of(READ)),
+        ([program, b"script", b"--why", script], {}, 1, b"", bytes_of(READ + "an argument: not UTF-8\n")),
     ]
     for words, how, *wanted in starts:
         ran = subprocess.run(words, cwd=folder, input=b"memory 1 1\nlist 0\n", capture_output=True, timeout=120, **how)
@@ -272,7 +274,9 @@ def ended_once(room):
 
 
 def kept_out(room):
-    """What is wrong with what is said of a file that nobody may read, and of an input that would block."""
+    """What is wrong with what is said of a file that nobody may read, of a socket, and of an input that would block."""
+    plug = socket.socket(socket.AF_UNIX)
+    plug.bind(f"{room}/socket")
     shut = pathlib.Path(room) / "shut"
     shut.write_text("memory 1 1\n", encoding="utf-8")
     shut.chmod(0)
@@ -283,12 +287,14 @@ def kept_out(room):
     shutil.copy(PROGRAM, program)
     program.chmod(0o755)
     os.chmod(room, 0o755)
-    for words, why, how in (["shut"], "shut: permission denied", hand), ([], "standard input: it would block", {}):
+    reasons_of = [(["shut"], "shut: permission denied", hand), (["socket"], "socket: error 6 of the system", {}), ([], "standard input: it would block", {})]
+    for words, why, how in reasons_of:
         ran = subprocess.run([program, "script", "--why", *words], stdin=reader, capture_output=True, text=True, cwd=room, timeout=120, **how)
         found = ran.returncode, ran.stdout, ran.stderr
         yield ["script", "--why", *words], "", [] if found == (1, "", READ + why + "\n") else [f"it ended with {found}"]
     os.close(reader)
     os.close(writer)
+    plug.close()
 
 
 def main():

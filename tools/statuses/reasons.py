@@ -65,7 +65,7 @@ ROWS = [
     ("scidump 2 0 1\n", 1, "word 3: a number from 1 to 1024 wanted, 0 found"),
     ("scidump 2 2 1\r\n", 1, "word 4: a number from 1 to 1024 wanted, 1\\r found"),
     ("scidump 2 2 1\nend\n", 2, "line 0 wanted, end found"),
-    ("scidump 2 2 1\nline 0 000000000000000 0 0 0 0 0 0 0 0 0\n", 2, "word 3: 16 hexadecimal digits in lower case wanted, 15 bytes found"),
+    ("scidump 2 2 1\nline 0 000000000000000 0 0 0 0 0 0 0 0 0\n", 2, "word 3: 16 hexadecimal digits in lower case wanted, 000000000000000 found"),
     ("scihistory 2 1 1\n", 1, "word 2: 1 wanted, 2 found"),
     ("scihistory 1 1 1\nclosed 0\n", 2, "line 0 wanted, closed found"),
 ]

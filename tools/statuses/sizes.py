@@ -53,6 +53,8 @@ LARGER = [
     (["script", "--why"], "memory 1 1\n" + "\n" * 2_000_000 + "list 1\n", 1, "", f"{refused('17 at line 2000002')}word 2: 0 wanted\n"),
     (["trace"], "memory 1 1\n" + "#\n" * 1_000_000 + "load 0 0 0\ndone 0\n", 0, Traced("node 0 read 0 stamp 0\n"), ""),
     (["outcomes"], "memory 1 1\n" + "#\n" * 1_000_000, 0, "states 1\noutcomes 1\n\nline 0 HOME\n", ""),
+    *(([name], Little("memory 1 1\n" + "#" * 30_000_000), 1, "", refused("7")) for name in ("script", "trace", "outcomes")),
+    (["script"], "memory 1024 1024\n" + "rest\n" * 1_000_000, 0, "", ""),
     (["check"], Little(LARGER_DUMP), 0, LARGER_LISTS, ""),
     (["check"], UNLAWFUL, 3, ITS_RULE, ""),
     (["check"], LARGER_DUMP.removesuffix("end\n"), 1, *NO_END),

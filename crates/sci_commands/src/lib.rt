@@ -5,5 +5,5 @@ mod arguments;
 mod help;
 mod options;
 
-pub use arguments::Named;
+pub use arguments::{Named, asks_why};
 pub use options::commands;

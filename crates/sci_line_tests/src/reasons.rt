@@ -85,11 +85,11 @@ const DUMPS: &[(&str, &str)] = &[
     ),
     (
         "scidump 2 2 1\nline 0 000000000000000 0 0 0 0 0 0 0 0 0\n",
-        "2: word 3: 16 hexadecimal digits in lower case wanted, 15 bytes found",
+        "2: word 3: 16 hexadecimal digits in lower case wanted, 000000000000000 found",
     ),
     (
         "scidump 2 2 1\nline 0 000000000000000A 0 0 0 0 0 0 0 0 0\n",
-        "2: word 3: 16 hexadecimal digits in lower case wanted, 16 bytes found",
+        "2: word 3: 16 hexadecimal digits in lower case wanted, 000000000000000A found",
     ),
     (
         "scidump 2 2 1\nline 0 ffffffffffffffff 0 0 0 0 0 0 0 0 0\n",
@@ -186,6 +186,30 @@ const DUMPS: &[(&str, &str)] = &[
     (
         "scidump 2 2 1\r\nline 0 0000000000020001 0 0 0 0 0 0 0 0 0\nend\n",
         "1: word 4: a number from 1 to 1024 wanted, 1\\r found",
+    ),
+    (
+        "scidump 2 3 3\nline 0 00000000ffff0000 0 0 0 0 0 0 0 0 0\nline 1 00000000ffff0000 0 0 0 0 0 0 0 0 0\nx\n",
+        "4: tag 1 or line 2 wanted, x found",
+    ),
+    (
+        "scidump 2 3 3\nline 0 00000000ffff0000 0 0 0 0 0 0 0 0 0\nline 1 00000000ffff0000 0 0 0 0 0 0 0 0 0\ntag 0 0 00000001ffff0007 0 0 0 0 0 0 0 0 0\n",
+        "4: word 2: 1 wanted, 0 found",
+    ),
+    (
+        "scidump 2 3 3\nline 0 00000000ffff0000 0 0 0 0 0 0 0 0 0\nline 1 00000000ffff0000 0 0 0 0 0 0 0 0 0\nline 1 00000000ffff0000 0 0 0 0 0 0 0 0 0\n",
+        "4: word 2: 2 wanted, 1 found",
+    ),
+    (
+        "scidump 1 3 1\nline 0 0000000000000201 0 0 0 0 0 0 0 0 x\n",
+        "2: word 12: a number from 0 to 18446744073709551615 wanted, x found",
+    ),
+    (
+        "scidump 1 3 1\nline 0 0000000000000201 0 0 0 0 0 0 0 0 0\ntag 0 0 000000000001ff07 0 0 0 0 0 0 0 0 x\n",
+        "3: word 13: a number from 0 to 18446744073709551615 wanted, x found",
+    ),
+    (
+        "scidump 2 3 1\nline 0 00000000ffff0000 0 0 0 0 0 0 0 0 0\ntag 0 0 0000ffffffff0000 0 0 0 0 0 0 0 0 0\n",
+        "3: word 4: a tag of the layout that isn't Invalid wanted, 0000ffffffff0000 found",
     ),
 ];
 
@@ -332,6 +356,14 @@ const HISTORIES: &[(&str, &str)] = &[
     (
         "scihistory 1 3 2\nline 0 0 0 0 0 0 0 0 0 0\nclosed 0 0 0 0 0 0 0 0 0 0\nline 1 0 0 0 0 0 0 0 0 0\nclosed 1 0 0 0 0 0 0 0 0 0\nend\n",
         "it is read",
+    ),
+    (
+        "scihistory 1 1 3\nline 0 0 0 0 0 0 0 0 0 0\nclosed 0 0 0 0 0 0 0 0 0 0\nline 1 0 0 0 0 0 0 0 0 0\nclosed 1 0 0 0 0 0 0 0 0 0\nline 1 0 0 0 0 0 0 0 0 0\n",
+        "6: word 2: 2 wanted, 1 found",
+    ),
+    (
+        "scihistory 1 1 3\nline 0 0 0 0 0 0 0 0 0 0\nclosed 0 0 0 0 0 0 0 0 0 0\nline 1 0 0 0 0 0 0 0 0 0\nclosed 1 0 0 0 0 0 0 0 0 0\nline 2 0 0 0 0 0 0 0 0 0\nx\n",
+        "7: closed 2 wanted, x found",
     ),
 ];
 

@@ -40,11 +40,6 @@ pub enum RowReason<'a> {
         wanted: Field,
         found: &'a [u8],
     },
-    /// This word isn't 16 digits, but so many bytes.
-    Digits {
-        place: usize,
-        found: usize,
-    },
 }
 
 impl RowFault {
@@ -106,12 +101,6 @@ impl fmt::Display for RowFault {
             } => {
                 write!(f, "word {place}: {wanted} wanted, ")?;
                 write_found(f, found)
-            }
-            RowReason::Digits { place, found } => {
-                write!(
-                    f,
-                    "word {place}: 16 hexadecimal digits in lower case wanted, {found} bytes found"
-                )
             }
         }
     }

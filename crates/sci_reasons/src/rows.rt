@@ -75,6 +75,8 @@ pub enum Field {
     Name,
     /// A number from the first to the second.
     Number(u64, u64),
+    /// A word in digits.
+    Digits,
     /// A memory word.
     Memory(Layout),
     /// A tag that isn't Invalid.
@@ -179,6 +181,7 @@ impl Field {
             Field::Number(low, high) => {
                 number_of(found).is_some_and(|value| low <= value && value <= high)
             }
+            Field::Digits => code_of(found).is_some(),
             Field::Memory(layout) => code_of(found).is_some_and(|code| is_memory(layout, code)),
             Field::Tag(layout) => code_of(found).is_some_and(|code| is_tag(layout, code)),
             Field::Over => found == b"over".as_slice(),
@@ -187,16 +190,14 @@ impl Field {
 
     /// Why this word, which is counted so, isn't what is wanted.
     fn fault(self, place: usize, found: &[u8]) -> RowReason<'_> {
-        match self {
-            Field::Memory(_) | Field::Tag(_) if code_of(found).is_none() => RowReason::Digits {
-                place,
-                found: found.len(),
-            },
-            wanted => RowReason::Word {
-                place,
-                wanted,
-                found,
-            },
+        let wanted = match self {
+            Field::Memory(_) | Field::Tag(_) if code_of(found).is_none() => Field::Digits,
+            wanted => wanted,
+        };
+        RowReason::Word {
+            place,
+            wanted,
+            found,
         }
     }
 }
@@ -207,6 +208,7 @@ impl fmt::Display for Field {
             Field::Name => f.write_str("a name"),
             Field::Number(low, high) if low == high => write!(f, "{low}"),
             Field::Number(low, high) => write!(f, "a number from {low} to {high}"),
+            Field::Digits => f.write_str("16 hexadecimal digits in lower case"),
             Field::Memory(_) => f.write_str("a memory word of the layout"),
             Field::Tag(_) => f.write_str("a tag of the layout that isn't Invalid"),
             Field::Over => f.write_str("over"),

@@ -8,7 +8,7 @@ use std::alloc::{AllocError, Global};
 use std::fmt::Display;
 
 /// Settings, and why they are refused.
-const SETTINGS: [(&str, &str); 23] = [
+const SETTINGS: [(&str, &str); 28] = [
     ("", "no work"),
     (
         "work = \"x\"\n",
@@ -63,7 +63,7 @@ const SETTINGS: [(&str, &str); 23] = [
     ),
     (
         "work = \"ring\"\nlines = 2\ncapacity = 1\nitems = [0, \"1\"]\n",
-        "line 4: items: an integer from 0 wanted as value 2",
+        "line 4: items: an integer from 0 wanted as value 2, \"1\" found",
     ),
     (
         "work = \"stencil\"\nnodes = 1\ncapacity = 1\nphases = 1000001\n",
@@ -75,7 +75,7 @@ const SETTINGS: [(&str, &str); 23] = [
     ),
     (
         "work = \"stencil\"\nnodes = 1\ncapacity = 1\nphases = 1\ncells = [-1, 0, 0, 0, 0, 0, 0]\n",
-        "line 5: cells: an integer from 0 wanted as value 1",
+        "line 5: cells: an integer from 0 wanted as value 1, -1 found",
     ),
     (
         "work = \"stencil\"\nnodes = 1\ncapacity = 1\nphases = 1\ncells = \"0\"\n",
@@ -84,6 +84,26 @@ const SETTINGS: [(&str, &str); 23] = [
     (
         "work = \"count\"\nwork = \"count\"\n",
         "line 2: duplicate key",
+    ),
+    (
+        "work = \"count\"\n'nodes' = 65\n",
+        "line 2: nodes = 65: 1 to 64 wanted",
+    ),
+    (
+        "work = \"count\"\n[nodes]\n",
+        "line 2: nodes: 1 to 64 wanted, table found",
+    ),
+    (
+        "# hello\nwork = \"count\"\n\"\" = 1\n",
+        "no key \"\" of a count",
+    ),
+    (
+        "work = \"ring\"\nitems = [\n\"lines\",\n]\nlines = 5000\ncapacity = 1\n",
+        "lines = 5000: 1 to 1023 wanted",
+    ),
+    (
+        "work = \"stencil\"\nnodes = 1\ncapacity = 1\nphases = 1\ncells = [0, 0, 0, 0, 0, 0, 0, 0]\n",
+        "line 5: cells: 7 to 3584 integers from 0, in tiles of seven, wanted, an array of 8 found",
     ),
     (
         "work = \"count\"\nnodes = 1\nadds = 1\ncapacity = 1\n",

@@ -5,7 +5,8 @@ use Rattle.toml.specs.Data.{Data, Items, item}
 use Rattle.toml.specs.View.{view, items_view}
 use Rattle.toml.specs.declared.value.Value.{Value}
 use Rattle.toml.proofs.Views.{get_item_within, items_view-drop}
-use Rattle.sci_settings.specs.Settings.{IsNoNumber, number_in, numbers_in, ◌>>=◌}
+use Rattle.sci_settings.specs.declared.misfits.Found.{Found}
+use Rattle.sci_settings.specs.Settings.{IsFound, IsNoNumber, number_in, numbers_in, ◌>>=◌}
 
 -- the numbers so far in front of those that are left
 abbrev pub with_front : List ℕ → Option (List ℕ) → Option (List ℕ)
@@ -36,9 +37,10 @@ pub items_done : (front : List ℕ) (vs : List Value) (i : ℕ) (all : Option (L
 items_done front vs i all full so_far = so_far ∙ ap (λ (ws : List Value). with_front front (numbers_in (items_view ws))) (drop_of_length-le vs full) ∙ ap Some (append-nil front)
 
 -- the value at this index is no number
-pub item_named : (vs : List Value) (i place : ℕ) (v : Value) → i < length vs → number_in (view (get_or vs i v)) ≡ None → place ≡ i + 1 → IsNoNumber (Some (items_view vs)) place
+pub item_named : (vs : List Value) (i place : ℕ) (v : Value) (found : Found) → i < length vs → number_in (view (get_or vs i v)) ≡ None → place ≡ i + 1 → IsFound (Some (view (get_or vs i v))) found
+    → IsNoNumber (Some (items_view vs)) place found
 unfolding IsNoNumber
-item_named vs i place v less e at = (i, at, view (get_or vs i v), sym (get_item_within vs i v less), e)
+item_named vs i place v found less e at is = (i, at, view (get_or vs i v), sym (get_item_within vs i v less), e, is)
 
-pub item_there : (there : Option Items) (items : Items) (place : ℕ) → IsNoNumber (Some items) place → there ≡ Some items → IsNoNumber there place
-item_there there items place none is = subst (λ (x : Option Items). IsNoNumber x place) (sym is) none
+pub item_there : (there : Option Items) (items : Items) (place : ℕ) (found : Found) → IsNoNumber (Some items) place found → there ≡ Some items → IsNoNumber there place found
+item_there there items place found none is = subst (λ (x : Option Items). IsNoNumber x place found) (sym is) none

@@ -181,16 +181,16 @@ is_of_numbers (Some wants.Cells) = true
 is_of_numbers (Some wants.Items) = true
 is_of_numbers wanted = false
 
--- the value at this place, counted from 1, is no integer from 0
-unfoldable pub IsNoNumber : Option Items → ℕ → Type 0
-IsNoNumber None place = ⊥
-IsNoNumber (Some items) place = (n : ℕ) × (place ≡ n + 1) × (d : Data) × (get_item n items ≡ Some d) × (number_in d ≡ None)
+-- the value at this place, counted from 1, is no integer from 0, but this
+unfoldable pub IsNoNumber : Option Items → ℕ → Found → Type 0
+IsNoNumber None place found = ⊥
+IsNoNumber (Some items) place found = (n : ℕ) × (place ≡ n + 1) × (d : Data) × (get_item n items ≡ Some d) × (number_in d ≡ None) × IsFound (Some d) found
 
 -- what is said so of a table that names this work, or none, is true, and it is no settings
 abbrev pub IsMisfit : Option Work → Members → Misfit → Type 0
 IsMisfit work ms (Missing key) = (is_needed (wanted_at work key.now) ≡ true) × (get_member key.now ms ≡ None)
 IsMisfit work ms (Foreign of_work key near) = (work ≡ Some of_work) × (is_key_of of_work (string_bytes key) ≡ false) × (is_some (get_member (string_bytes key) ms) ≡ true)
-IsMisfit work ms (Item key place) = (is_of_numbers (wanted_at work key.now) ≡ true) × IsNoNumber (get_member key.now ms >>= as_array) place
+IsMisfit work ms (Item key place found) = (is_of_numbers (wanted_at work key.now) ≡ true) × IsNoNumber (get_member key.now ms >>= as_array) place found
 IsMisfit work ms (Value key wanted found) = (wanted_at work key.now ≡ Some wanted) × (suits wanted key.now ms ≡ false) × IsFound (get_member key.now ms) found
 
 abbrev pub IsWhy : Option Work → Members → Unread → Type 0
@@ -227,7 +227,7 @@ IsMissing key misfit = ⊥
 
 -- it says that one of these values, those of the array at the key, is no number, and so it is
 abbrev pub IsOfItem : List ℕ → Items → Unread → Type 0
-IsOfItem key items (unread.Misfit (Item of_key place)) = (of_key.now ≡ key) × IsNoNumber (Some items) place
+IsOfItem key items (unread.Misfit (Item of_key place found)) = (of_key.now ≡ key) × IsNoNumber (Some items) place found
 IsOfItem key items (unread.Misfit misfit) = ⊥
 IsOfItem key items unread.OutOfMemory = Unit {0}
 

@@ -107,7 +107,8 @@ fn numbers_in(alloc: Global, key: &'static str, array: &[Value]) -> Result<Numbe
     for value in array {
         let Some(number) = number_in(value) else {
             let place = items.len() + 1;
-            return Err(Unread::Misfit(Misfit::Item { key, place }));
+            let found = Found::new(alloc, value)?;
+            return Err(Unread::Misfit(Misfit::Item { key, place, found }));
         };
         items.push(number)?;
     }

@@ -64,6 +64,17 @@ impl Found {
     }
 }
 
+impl fmt::Display for Found {
+    fn fmt<W: fmt::Write>(&self, f: &mut fmt::Formatter<W>) -> fmt::Result {
+        match self {
+            Found::Integer(integer) => write!(f, "{integer}"),
+            Found::Text(text) => write!(f, "{text:?}"),
+            Found::Array(count) => write!(f, "an array of {count}"),
+            Found::Other(name) => f.write_str(name),
+        }
+    }
+}
+
 /// Why a table is no settings.
 #[derive(Debug, PartialEq, Eq, Drop)]
 pub enum Misfit {
@@ -79,6 +90,7 @@ pub enum Misfit {
     Item {
         key: &'static str,
         place: usize,
+        found: Found,
     },
     /// At this key stands something else than what is wanted there.
     Value {
@@ -113,16 +125,18 @@ impl fmt::Display for Misfit {
                 key,
                 near: None,
             } => write!(f, "no key {key:?} of a {work}"),
-            Misfit::Item { key, place } => {
-                write!(f, "{key}: an integer from 0 wanted as value {place}")
+            Misfit::Item { key, place, found } => {
+                write!(
+                    f,
+                    "{key}: an integer from 0 wanted as value {place}, {found} found"
+                )
             }
             Misfit::Value { key, wanted, found } => match found {
-                Found::Integer(integer) => write!(f, "{key} = {integer}: {wanted} wanted"),
-                Found::Text(text) => write!(f, "{key} = {text:?}: {wanted} wanted"),
-                Found::Array(count) => {
-                    write!(f, "{key}: {wanted} wanted, an array of {count} found")
-                }
-                Found::Other(name) => write!(f, "{key}: {wanted} wanted, {name} found"),
+                Found::Integer(_) | Found::Text(_) => write!(f, "{key} = {found}: {wanted} wanted"),
+                Found::Array(_) | Found::Other(_) => write!(
+                    f,
+                    "{key}: {wanted} wanted, {found} found"
+                ),
             },
         }
     }

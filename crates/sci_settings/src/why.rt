@@ -15,7 +15,7 @@ use toml::table_from_slice;
 pub enum SettingsReason {
     /// From this line on it is no TOML.
     NoToml { line: u64, error: Error },
-    /// Its table is no settings; the first line that begins with the key, where one does.
+    /// Its table is no settings; the line that begins with the key, where just one does.
     Misfit { line: Option<u64>, misfit: Misfit },
 }
 
@@ -35,27 +35,29 @@ impl fmt::Display for SettingsReason {
     }
 }
 
-/// Whether a line of text begins with a key.
+/// Whether a line of text begins with a key, in quotes or brackets too.
 fn begins_with(line: &[u8], key: &[u8]) -> bool {
-    let line = line.trim_ascii_start();
-    let line = line.strip_prefix(b"\"").unwrap_or(line);
-    match line.strip_prefix(key) {
+    let start = line.iter().position(|byte| !matches!(*byte, b' ' | b'\t' | b'"' | b'\'' | b'['));
+    match line[start.unwrap_or(line.len())..].strip_prefix(key) {
         Some([]) => true,
         Some([next, ..]) => !next.is_ascii_alphanumeric() && !matches!(*next, b'_' | b'-'),
         None => false,
     }
 }
 
-/// The first line of a text that begins with a key.
+/// The line of a text that begins with a key, where just one does.
 fn line_of(text: &[u8], key: &str) -> Option<u64> {
-    let mut number = 0u64;
+    let (mut number, mut found) = (0u64, None);
     for line in text.split(|byte| *byte == b'\n') {
         number = number.saturating_add(1);
-        if begins_with(line, key.as_bytes()) {
-            return Some(number);
+        if !key.is_empty() && begins_with(line, key.as_bytes()) {
+            if found.is_some() {
+                return None;
+            }
+            found = Some(number);
         }
     }
-    None
+    found
 }
 
 /// The line of a text on which a byte stands.

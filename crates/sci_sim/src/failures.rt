@@ -1,6 +1,6 @@
 //! Why the program fails, and what is said of it.
 
-use crate::streams::{Input, Output};
+use crate::streams::{Input, Output, Said};
 use sci_serve::{RaceFault, SimFault, Text, explained};
 use std::alloc::{AllocError, Global};
 use std::fmt::{self, Display};
@@ -14,7 +14,7 @@ pub struct Failure {
 
 impl Failure {
     /// A fault of a file or a stream, and what the system says of it, where that is wanted.
-    pub fn of(alloc: Global, fault: SimFault, why: bool, name: &str, words: &str) -> Failure {
+    pub fn of(alloc: Global, fault: SimFault, why: bool, name: &str, words: Said) -> Failure {
         Failure {
             fault: RaceFault::Fault(fault),
             reason: if why {
@@ -85,7 +85,7 @@ impl Display for Shown<'_> {
 }
 
 /// What the system says of a file or a stream.
-fn said_of(alloc: Global, name: &str, words: &str) -> Option<String> {
+fn said_of(alloc: Global, name: &str, words: Said) -> Option<String> {
     let name = Shown(name);
     format!(in alloc; "{name}: {words}").ok()
 }

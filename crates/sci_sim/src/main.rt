@@ -9,14 +9,14 @@ mod tasks;
 
 use clap::{ArgMatches, Error, error};
 use failures::{Failure, stream_reason};
-use sci_commands::{Named, commands};
+use sci_commands::{Named, asks_why, commands};
 use sci_serve::{Form, INPUT_LIMIT, RaceFault, SimFault};
 use std::alloc::AllocError;
 use std::io::{ErrorKind, IsTerminal};
 use std::process::ExitCode;
 use std::sync::Wait;
 use std::thread::Threads;
-use streams::{Input, Output, words_of};
+use streams::{Input, Output, Said, words_of};
 use tasks::{Place, Task, check, serve, talk};
 
 /// The form in which `trace` writes a run.
@@ -121,7 +121,7 @@ fn words(rt: &HostRuntime, why: bool) -> Result<Vec<String>, Failure> {
         Ok(arguments) => Ok(arguments.collect(rt.alloc())?),
         Err(error) if error.kind() == ErrorKind::OutOfMemory => Err(Failure::from(AllocError)),
         Err(_) => {
-            let words = "not UTF-8";
+            let (why, words) = (why || asks_why(rt), Said::Words("not UTF-8"));
             Err(Failure::of(rt.alloc(), SimFault::CannotRead, why, "an argument", words))
         }
     }

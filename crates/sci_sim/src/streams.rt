@@ -2,6 +2,7 @@
 
 ghost use Rattle.std.specs.Prelude.{◌≤◌, length};
 
+use std::fmt;
 use std::fs::File;
 use std::io::{self, Error, ErrorKind, Read, Stdin, Stdout, Write};
 
@@ -11,18 +12,37 @@ const CLOSED: i32 = 9;
 /// The system's code of a device that fails.
 const FAILS: i32 = 5;
 
-/// What the system says of an error that it names by its code alone.
-fn words_of_code(code: Option<i32>) -> &'static str {
-    match code {
-        Some(CLOSED) => "closed",
-        Some(FAILS) => "the device fails",
-        _ => "an error of the system",
+/// What the system says of an error.
+#[derive(Clone, Copy, Drop)]
+pub enum Said {
+    /// In plain words.
+    Words(&'static str),
+    /// Of one that has none here: its code.
+    Code(i32),
+}
+
+impl fmt::Display for Said {
+    fn fmt<W: fmt::Write>(&self, f: &mut fmt::Formatter<W>) -> fmt::Result {
+        match *self {
+            Said::Words(words) => f.write_str(words),
+            Said::Code(code) => write!(f, "error {code} of the system"),
+        }
     }
 }
 
-/// What the system says of an error, in plain words.
-pub fn words_of(error: &Error) -> &'static str {
-    match error.kind() {
+/// What the system says of an error that it names by its code alone.
+fn words_of_code(code: Option<i32>) -> Said {
+    match code {
+        Some(CLOSED) => Said::Words("closed"),
+        Some(FAILS) => Said::Words("the device fails"),
+        Some(code) => Said::Code(code),
+        None => Said::Words("an error of the system"),
+    }
+}
+
+/// What the system says of an error.
+pub fn words_of(error: &Error) -> Said {
+    Said::Words(match error.kind() {
         ErrorKind::NotFound => "no such file",
         ErrorKind::PermissionDenied => "permission denied",
         ErrorKind::IsADirectory => "a folder",
@@ -36,8 +56,8 @@ pub fn words_of(error: &Error) -> &'static str {
         ErrorKind::StorageFull => "no space left",
         ErrorKind::QuotaExceeded => "its quota is used up",
         ErrorKind::FileTooLarge => "too large a file",
-        _ => words_of_code(error.raw_os_error()),
-    }
+        _ => return words_of_code(error.raw_os_error()),
+    })
 }
 
 /// Where bytes come from.
@@ -64,7 +84,7 @@ pub struct Input<'a> {
     source: Source,
     /// Whether it has come to its end: it isn't asked again, since a terminal would go on.
     is_ended: bool,
-    failed: Option<&'static str>,
+    failed: Option<Said>,
     /// What is read before the source is read on: so many line feeds, and what is left of these bytes.
     feeds: u64,
     front: Vec<u8>,
@@ -121,8 +141,8 @@ impl<'a> Input<'a> {
     }
 
     /// What the system said as it failed; where it never did, it has no end.
-    pub fn fault(&self) -> &'static str {
-        self.failed.unwrap_or("no end")
+    pub fn fault(&self) -> Said {
+        self.failed.unwrap_or(Said::Words("no end"))
     }
 }
 
@@ -156,7 +176,7 @@ impl Read for Input<'_> {
 #[derive(Drop)]
 pub struct Output {
     stdout: Stdout,
-    failed: Option<&'static str>,
+    failed: Option<Said>,
 }
 
 impl Output {
@@ -168,8 +188,8 @@ impl Output {
     }
 
     /// What the system said as it failed; where it never did, it took no byte.
-    pub fn fault(&self) -> &'static str {
-        self.failed.unwrap_or("it takes no byte")
+    pub fn fault(&self) -> Said {
+        self.failed.unwrap_or(Said::Words("it takes no byte"))
     }
 }
 

@@ -1,7 +1,7 @@
-use Rattle.std.proofs.Common.{◌≡◌, ◌∙◌, ◌+◌, ℕ, List, [], ◌∷◌, drop, length, length-append, sym, ap, subst, refl, arith}
+use Rattle.std.proofs.Common.{Some, ◌≡◌, ◌∙◌, ◌+◌, ℕ, List, [], ◌∷◌, drop, length, length-append, sym, ap, subst, refl, arith}
 use Rattle.toml.specs.View.{view, items_view}
 use Rattle.toml.specs.declared.value.Value.{Value}
-use Rattle.sci_settings.specs.Settings.{number_in, numbers_in}
+use Rattle.sci_settings.specs.Settings.{IsFound, number_in, numbers_in}
 use Rattle.sci_settings.proofs.Items.{with_front, item_more, item_named}
 use Rattle.sci_settings.proofs.fields.numbers_in.Goals as goal
 
@@ -19,4 +19,6 @@ loop-value-preserved c =
 pub returns-in_default-clause-why : goal.returns-in_default-clause-why
 returns-in_default-clause-why c =
     let is = ap (λ (x : Value). number_in (view x)) (sym c.value-item.is) ∙ sym c.number_in.ensures ∙ c.in_default.is in
-    (refl, item_named c.args.array.now c.loop-value.value-index _ c.value-item.result c.loop-value-test.true is (grind arith))
+    let found = c.in_ok-found.found in
+    let seen = subst (λ (x : Value). IsFound (Some (view x)) found) c.value-item.is c.in_ok-found.ensures in
+    (refl, item_named c.args.array.now c.loop-value.value-index _ c.value-item.result found c.loop-value-test.true is (grind arith) seen)
