@@ -112,8 +112,8 @@ static turned from_idle(uint16_t me, int stores) {
     if (own.kind == SCI_INVALID) return linked(me, SCI_QUEUE, mem().forw);
     if (!stores) return on_tag(me, SCI_HOLD, me);
     if (own.kind == SCI_DIRTY) return on_tag(me, SCI_BEGIN_PURGE, me);
-    if (own.kind == SCI_VALID) return on_tag(me, SCI_TO_ROLL, me);
-    return mem().forw == me ? on_tag(me, SCI_TO_CONVERT, me) : WAITS;
+    if (own.kind == SCI_VALID) return on_tag(me, SCI_EVENT_ROLL, me);
+    return mem().forw == me ? on_tag(me, SCI_EVENT_CONVERT, me) : WAITS;
 }
 
 static turned from_queueing(uint16_t me, int stores) {
@@ -162,7 +162,7 @@ static turned turn(uint16_t me, int stores, uint64_t value) {
     case SCI_COPYING: return bare(me, SCI_RETURN_COPY);
     case SCI_CONVERTING:
         return bare(me, step.flag ? SCI_CONVERTED : mem().forw == me ? SCI_FRESH_TO_GONE : SCI_UNCONVERTED);
-    case SCI_IN_PURGE: return from_purging(me, value);
+    case SCI_STEP_PURGING: return from_purging(me, value);
     case SCI_ADVANCING: return bare(me, SCI_ADVANCE);
     case SCI_CLEARING: return bare(me, SCI_CLEAR);
     case SCI_ROLLING: return from_rolling(me);

@@ -114,16 +114,20 @@ def shows(root, test, call):
 
 
 def growing_in(crate, rows, tests):
-    """The names of what grows in the tests that a crate's rows name."""
-    return {name for it in rows if it[0] == crate for test in named_in(it[4]) for name in tests.get(test, ())}
+    """The names of what grows in the tests that a crate's rows name, each with whether no call of its rows is said to grow by that name."""
+    own = [it for it in rows if it[0] == crate]
+    told = {call.split("::")[-1] for it in own if it[2] == "yes" for call in named_in(it[1])}
+    return {name: name not in told for it in own for test in named_in(it[4]) for name in tests.get(test, ())}
 
 
 def faults_of_none(root, call, takes, shown, growing):
-    """What isn't as it must be of a call that is said to take no memory. `growing` is what grows in the tests of its crate's rows."""
+    """What isn't as it must be of a call that is said to take no memory. `growing` is what grows in the tests of its crate's rows. One
+    that takes no allocator may have the name of another that grows."""
     has_alloc, _, changes = takes
     if has_alloc and not any(shows(root, it, call) for it in shown):
         yield f"{call}: no test shows that it takes no memory"
-    if (has_alloc or changes) and call.split("::")[-1] in growing:
+    name = call.split("::")[-1]
+    if name in growing and (has_alloc or changes and growing[name]):
         yield f"{call}: a test has growths of it, and it is said to take no memory"
 
 

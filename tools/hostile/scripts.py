@@ -1,6 +1,6 @@
 """Scripts by chance, and what the commands over scripts say of them."""
 from mutants import MOST, known, mutant
-from reader import read
+from reader import ARGUMENTS, read
 from running import LIMIT
 from talks import heard
 
@@ -8,6 +8,9 @@ KNOWN = known("*.txt", "*.race")
 STATES = "50"
 # Of how many nodes times lines a race is searched: each state has a word of each.
 SEARCHED = 128
+# What is drawn of a node whose call is open, and of one that has none.
+TURNS, CALLS = [b"turn", b"turn", b"done"], [b"load", b"store", b"add", b"evict"]
+OTHERS = [b"# no command", *(it for it in ARGUMENTS if it not in (b"memory", b"capacity", b"open", *TURNS, *CALLS))]
 TOO_MANY = 1, b"", f"scisim: too many states\nturns lead to more than {STATES} states\n".encode()
 
 
@@ -17,18 +20,11 @@ def script(by):
     rows, calls = [f"memory {nodes} {lines}"] + [f"capacity {by.choice((1, 2, 1024))}"] * by.randrange(2), {}
     rows += [f"open {by.randrange(lines)}" + 9 * f" {by.choice((0, 7, MOST - 1, MOST))}" for _ in range(by.choice((0, 0, 1, 2)))]
     for _ in range(by.randrange(20)):
-        node, line = by.choice((0, nodes - 1, by.randrange(nodes))), by.randrange(lines)
-        place, value = f"{node} {line} {by.randrange(8)}", by.choice((5, MOST))
-        if calls.get(node):
-            name = by.choice(("turn", "turn", "done"))
-            calls[node] = name == "turn"
-            rows.append(f"{name} {node}")
-        elif by.random() < 0.6:
-            calls[node] = True
-            rows.append(by.choice((f"load {place}", f"store {place} {value}", f"add {place} {value}", f"evict {node} {line}")))
-        else:
-            rows.append(by.choice(("rest", "end", f"list {line}", f"tag {line} {node}", f"residents {node}", "# no command")))
-            calls = {} if rows[-1] == "end" else calls
+        node = by.choice((0, nodes - 1, by.randrange(nodes)))
+        numbers = {"node": node, "line": by.randrange(lines), "word": by.randrange(8), "value": by.choice((5, MOST))}
+        name = by.choice(TURNS if calls.get(node) else CALLS if by.random() < 0.6 else OTHERS)
+        calls = {} if name == b"end" else calls | {node: name in (b"turn", *CALLS)}
+        rows.append(" ".join([name.decode(), *(str(numbers[it]) for it in ARGUMENTS.get(name, []))]))
     return "\n".join([*rows, ""]).encode()
 
 

@@ -1,8 +1,10 @@
-"""Writes the rows of docs/PROTOCOL.md, and docs/EVENTS.md: which row an event is in each state, where it misses, where it isn't in turn."""
+"""Writes the rows of docs/PROTOCOL.md, and docs/EVENTS.md: which row an event is in each state, where it misses, where it isn't in turn.
+With --check it also looks whether the events have these names and numbers wherever they stand."""
 import difflib
 import pathlib
 import re
 
+import names
 from clauses import TOP, read
 from rows import EVENTS, ROWS, STEP_FIELDS, Word, inside
 
@@ -255,5 +257,8 @@ def judge(name, made, is_check):
 def states(words):
     """Writes the pages; or, with --check, says where they aren't what would be written, and gives False."""
     faults = sum(judge(name, made, '--check' in words) for name, made in [('EVENTS.md', events_page), ('PROTOCOL.md', protocol_page)])
+    for it in names.faults() if '--check' in words else ():
+        print(f'states: {it}')
+        faults += 1
     print(f'states: {len(EVENTS)} events, {len(ROWS)} rows, {faults} faults')
     return not faults

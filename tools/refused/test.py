@@ -323,6 +323,18 @@ def plant_sums(root):
     (root / turns.FILE).write_text(tried.text(), encoding="utf-8")
 
 
+# changes of a crate's source, and whether crates above read what they say
+CHANGES = [
+    ("number / 2", "number / 3", "own"),
+    ("/// One more.", "/// The next.", "own"),
+    ("{ result ≤ number }", "{ result < number + 1 }", "all"),
+    ("pub fn below", "#[inline]\npub fn below", "all"),
+    ("struct Number(u32)", "struct Number(u64)", "all"),
+    ("pub fn below", "pub const fn below", "all"),
+    ("number / 3", "number / 2", "all"),
+]
+
+
 class Turns:
     """A crate, one above it, and one above that, each of 20 edits, of which a run refuses all but those that are to fail."""
 
@@ -353,10 +365,11 @@ class Turns:
         """Returns the crates of which a run tries all edits."""
         return [name for name, tried in self.run(**how).items() if len(tried) == 20]
 
-    def changed(self, path):
-        """Returns the crates of which all edits are tried once a file has changed, and once that is noted."""
-        with open(self.root / "crates" / path, "a", encoding="utf-8") as it:
-            it.write("\n")
+    def changed(self, path, was="", now="\n"):
+        """Returns the crates of which all edits are tried once a file has changed at its first such text, and once that is noted."""
+        file = self.root / "crates" / path
+        text = file.read_text(encoding="utf-8") if file.exists() else ""
+        file.write_text(text.replace(was, now, 1), encoding="utf-8")
         return self.whole(), self.whole()
 
 
@@ -366,9 +379,12 @@ def faults_of_turns():
         it = Turns(pathlib.Path(folder, "repository"))
         every, low = it.crates, it.crates[:1]
         told = [("with no file tried", it.whole(), every), ("as it was noted", it.whole(), []), ("with --all", it.whole(is_all=True), every)]
-        for path, wanted in (("src/lib.rt", every), ("specs/Halves.antt", every), ("proofs/third/Answers.antt", low), ("refused/lib.edits", low)):
+        for path, wanted in (("src/lib.rt", low), ("specs/Halves.antt", every), ("proofs/third/Answers.antt", low), ("refused/lib.edits", low)):
             told.append((f"behind a change of {path}", it.changed(f"lib_of_halves/{path}"), (wanted, [])))
-        told.append(("behind a change of the crate above", it.changed("lib_above/src/lib.rt"), (every[1:], [])))
+        for was, now, wanted in CHANGES:
+            found = it.changed("lib_of_halves/src/lib.rt", was, now)
+            told.append((f"where {now!r} stands in the place of {was!r}", found, (low if wanted == "own" else every, [])))
+        told.append(("behind a change of the crate above", it.changed("lib_above/src/lib.rt"), (every[1:2], [])))
         told.append(("behind a run in which the lower's fail", (it.whole(failing=low), it.whole()), ([], low)))
         logic, turns.logic = turns.logic, lambda: "other"
         told.append(("under another logic", it.whole(notes=False), every))

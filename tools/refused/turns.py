@@ -3,11 +3,14 @@
 The file `tried` beside this one has, by crate, the sum of what all its edits were tried over when they were last refused, and the turn of
 the next run. No run writes into it: each says what it tried, and `noted` takes that over."""
 
+import functools
 import hashlib
 import os
+import pathlib
 import re
 import zlib
 
+import functions
 from kit import RT, sum_of
 
 TURNS = 8
@@ -58,14 +61,31 @@ def of_turn(edits, turn, name):
 
 
 def sum_of_crate(crate):
-    """Returns the sum of what a crate's edits are tried over. Of the crates below, proofs don't count: what is above reads their statements."""
+    """Returns the sum of what a crate's edits are tried over. Of the crates below, proofs don't count, nor do the bodies of functions: what
+    is above reads what they state."""
     found = hashlib.blake2b(digest_size=16)
-    for it, parts in [(crate, (*RT.rtlib.PARTS, "refused")), *((it, ("src", "specs")) for it in crate.below())]:
-        for part in parts:
-            found.update(f"{it.name}/{part} ".encode() + sum_of(f"{it.folder}/{part}"))
+    for part in (*RT.rtlib.PARTS, "refused"):
+        found.update(f"{crate.name}/{part} ".encode() + sum_of(f"{crate.folder}/{part}"))
+    for it in crate.below():
+        found.update(f"{it.name}/specs ".encode() + sum_of(f"{it.folder}/specs") + sum_of_statements(it.folder, sum_of(f"{it.folder}/src")))
     words = [it.replace(RT.KIT, "").replace(os.path.dirname(crate.folder), "") for it in crate.words(["--jobs", "1"], keeps=False)]
     found.update(repr((words, logic())).encode())
     return found.hexdigest()
+
+
+@functools.cache
+def sum_of_statements(folder, _):
+    """Returns the sum of all that the files of src/ say outside the bodies of functions; a constant may be what such a body says where that
+    is `const`. The second argument is the sum of src/ as it stands."""
+    found = hashlib.blake2b()
+    files = sorted(it for it in pathlib.Path(folder, "src").rglob("*.rt"))
+    for file, tokens in zip(files, functions.tokens_of([*map(str, files)])):
+        path = str(file.relative_to(folder))
+        code = [text for kind, text, _, _ in tokens or () if kind == "Code"]
+        is_whole = tokens is None or ("const", "fn") in zip(code, code[1:])
+        said = file.read_bytes() if is_whole else repr(functions.items_of(path, tokens).rest).encode()
+        found.update(f"{path} {len(said)} ".encode() + said)
+    return found.digest()
 
 
 def logic():

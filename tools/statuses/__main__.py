@@ -41,7 +41,7 @@ import sizes
 import traces
 import wrong as wrongs
 from kinds import CLOSED, FOLDER, FULL, READ, UNREAD
-from kinds import Begins, Broken, Crowded, Drawn, Filled, Lawful, Legal, Little, Page, Traced, WholePage
+from kinds import Begins, Broken, Crowded, Drawn, Either, Filled, Lawful, Legal, Little, Page, Traced, WholePage
 
 PROGRAM = os.path.realpath(sys.argv[1] if sys.argv[1:] else HOME / "crates/sci_sim/out/sci_sim")
 TABLES = [scripts, commands, reasons, caches, sizes, cuts, shortages, traces, dumps, histories, logs, outcomes, runs, settings]
@@ -153,6 +153,8 @@ def is_wanted(said, wanted, room):
             return said.startswith(wanted) and (status, verdict) == (0, "legal\n")
         case Begins():
             return said.startswith(wanted)
+        case Either():
+            return said in wanted
         case str():
             return said == wanted
     return said == ""

@@ -35,6 +35,10 @@ class Legal(str):
     """The first line of a history that `check` calls legal."""
 
 
+class Either(tuple):
+    """Texts, one of which is wanted."""
+
+
 class Little(str):
     """Standard input of a run that gets little memory: so many bytes of address space."""
 

@@ -4,6 +4,7 @@ use Rattle.sci_words.specs.declared.tags.Tag.{Tag}
 use Rattle.sci_words.specs.Codes.{tag_code}
 use Rattle.sci_words.specs.Tag.{link_below}
 use Rattle.sci_core.specs.declared.events.Event.{Event}
+use Rattle.sci_core.specs.EventNumber.{event_number}
 use Rattle.sci_c.specs.declared.events.EventNumbers.{EventNumbers}
 use Rattle.sci_c.specs.Links.{link_number, link_meant, fits_tag}
 
@@ -20,47 +21,31 @@ abbrev pub finding : ℕ → Tag → EventNumbers
 finding event t = record { event = event; has = 0; link = 0; found = tag_code t; words = replicate 8 0 }
 
 -- Written
-abbrev pub writing : Option (List ℕ) → EventNumbers
-writing None = bare 14
-writing (Some words) = record { event = 14; has = 1; link = 0; found = 0; words = words }
+abbrev pub writing : ℕ → Option (List ℕ) → EventNumbers
+writing event None = bare event
+writing event (Some words) = record { event = event; has = 1; link = 0; found = 0; words = words }
 
--- the numbers of an event: what it doesn't have is 0
+-- the numbers of an event of this number: what it doesn't have is 0
+abbrev pub numbers_with : ℕ → Event → EventNumbers
+numbers_with event (Event.Queue f) = linking event f
+numbers_with event (Event.Requeue f) = linking event f
+numbers_with event (Event.AttachFresh t) = finding event t
+numbers_with event (Event.Hold t) = finding event t
+numbers_with event (Event.Convert t) = finding event t
+numbers_with event (Event.BeginPurge t) = finding event t
+numbers_with event (Event.Written words) = writing event words
+numbers_with event (Event.AttachDirty t) = finding event t
+numbers_with event (Event.PurgeOne t) = finding event t
+numbers_with event (Event.Roll t) = finding event t
+numbers_with event (Event.TellSuccessor t) = finding event t
+numbers_with event (Event.TellPredecessor t) = finding event t
+numbers_with event (Event.Adopt t) = finding event t
+numbers_with event (Event.Leave t) = finding event t
+numbers_with event (Event.Promote t) = finding event t
+numbers_with event _ = bare event
+
 abbrev pub event_numbers : Event → EventNumbers
-event_numbers Event.Look = bare 0
-event_numbers (Event.Queue f) = linking 1 f
-event_numbers (Event.Requeue f) = linking 2 f
-event_numbers Event.PrependValid = bare 3
-event_numbers Event.ReturnMemory = bare 4
-event_numbers (Event.AttachFresh t) = finding 5 t
-event_numbers Event.Settle = bare 6
-event_numbers (Event.Hold t) = finding 7 t
-event_numbers Event.Unhold = bare 8
-event_numbers (Event.Convert t) = finding 9 t
-event_numbers Event.FreshToGone = bare 10
-event_numbers Event.Converted = bare 11
-event_numbers Event.Unconverted = bare 12
-event_numbers (Event.BeginPurge t) = finding 13 t
-event_numbers (Event.Written words) = writing words
-event_numbers Event.PrependGone = bare 15
-event_numbers (Event.AttachDirty t) = finding 16 t
-event_numbers Event.ReturnCopy = bare 17
-event_numbers (Event.PurgeOne t) = finding 18 t
-event_numbers Event.Advance = bare 19
-event_numbers Event.Clear = bare 20
-event_numbers (Event.Roll t) = finding 21 t
-event_numbers (Event.TellSuccessor t) = finding 22 t
-event_numbers (Event.TellPredecessor t) = finding 23 t
-event_numbers (Event.Adopt t) = finding 24 t
-event_numbers Event.Rolled = bare 25
-event_numbers (Event.Leave t) = finding 26 t
-event_numbers (Event.Promote t) = finding 27 t
-event_numbers Event.PassOn = bare 28
-event_numbers Event.Stay = bare 29
-event_numbers Event.ReEnter = bare 30
-event_numbers Event.ReturnHomeFresh = bare 31
-event_numbers Event.ReturnHomeDirty = bare 32
-event_numbers Event.Left = bare 33
-event_numbers Event.HomeWrite = bare 34
+event_numbers e = numbers_with (event_number e) e
 
 -- an event has numbers: its link names a node, and its tag has a code
 abbrev pub fits_event : Event → Bool

@@ -63,16 +63,16 @@ fn finding(event: u8, found: &Tag) -> Option<EventNumbers>
 }
 
 // Written.
-fn writing(words: &Option<[u64; 8]>) -> EventNumbers
-    ensures { result ≡ writing words.now }
+fn writing(event: u8, words: &Option<[u64; 8]>) -> EventNumbers
+    ensures { result ≡ writing event words.now }
 {
     match words {
         Some(words) => EventNumbers {
             has: 1,
             words: *words,
-            ..bare(14)
+            ..bare(event)
         },
-        None => bare(14),
+        None => bare(event),
     }
 }
 
@@ -80,42 +80,23 @@ fn writing(words: &Option<[u64; 8]>) -> EventNumbers
 fn write_event(event: &Event) -> Option<EventNumbers>
     ensures { MatchOption result (fits_event event.now ≡ false) (λ n. IsEvent n event.now) }
 {
+    let number = event.number();
     match event {
-        Event::Look => Some(bare(0)),
-        Event::Queue(forw) => Some(linking(1, forw)),
-        Event::Requeue(forw) => Some(linking(2, forw)),
-        Event::PrependValid => Some(bare(3)),
-        Event::ReturnMemory => Some(bare(4)),
-        Event::AttachFresh(found) => finding(5, found),
-        Event::Settle => Some(bare(6)),
-        Event::Hold(found) => finding(7, found),
-        Event::Unhold => Some(bare(8)),
-        Event::Convert(found) => finding(9, found),
-        Event::FreshToGone => Some(bare(10)),
-        Event::Converted => Some(bare(11)),
-        Event::Unconverted => Some(bare(12)),
-        Event::BeginPurge(found) => finding(13, found),
-        Event::Written(words) => Some(writing(words)),
-        Event::PrependGone => Some(bare(15)),
-        Event::AttachDirty(found) => finding(16, found),
-        Event::ReturnCopy => Some(bare(17)),
-        Event::PurgeOne(found) => finding(18, found),
-        Event::Advance => Some(bare(19)),
-        Event::Clear => Some(bare(20)),
-        Event::Roll(found) => finding(21, found),
-        Event::TellSuccessor(found) => finding(22, found),
-        Event::TellPredecessor(found) => finding(23, found),
-        Event::Adopt(found) => finding(24, found),
-        Event::Rolled => Some(bare(25)),
-        Event::Leave(found) => finding(26, found),
-        Event::Promote(found) => finding(27, found),
-        Event::PassOn => Some(bare(28)),
-        Event::Stay => Some(bare(29)),
-        Event::ReEnter => Some(bare(30)),
-        Event::ReturnHomeFresh => Some(bare(31)),
-        Event::ReturnHomeDirty => Some(bare(32)),
-        Event::Left => Some(bare(33)),
-        Event::HomeWrite => Some(bare(34)),
+        Event::Queue(forw) | Event::Requeue(forw) => Some(linking(number, forw)),
+        Event::Written(words) => Some(writing(number, words)),
+        Event::AttachFresh(found)
+        | Event::Hold(found)
+        | Event::Convert(found)
+        | Event::BeginPurge(found)
+        | Event::AttachDirty(found)
+        | Event::PurgeOne(found)
+        | Event::Roll(found)
+        | Event::TellSuccessor(found)
+        | Event::TellPredecessor(found)
+        | Event::Adopt(found)
+        | Event::Leave(found)
+        | Event::Promote(found) => finding(number, found),
+        _ => Some(bare(number)),
     }
 }
 

@@ -1,8 +1,7 @@
 -- A request that is refused, and one that begins a call.
 use Rattle.std.proofs.Common.{◌≡◌, ◌≢◌, ◌⊎◌, inl, inr, ℕ, ◌<◌, ◌≤◌, Bool, true, false, nat_lt, not, if◌then◌else◌, Option, Some, None, IfSome, is_some, List, refl, sym, ap, subst, ◌∙◌, arith}
 use Rattle.std.proofs.lemmas.Bool.Decides.{nat_tests}
-use Rattle.sci_ops.specs.Operation.{Operation}
-use Rattle.sci_ops.specs.Table.{begun}
+use Rattle.sci_ops.specs.declared.goals.Goal.{Goal}
 use Rattle.sci_cache.specs.declared.refusals.NodeRefusal.{NodeRefusal}
 use Rattle.sci_cache.specs.declared.requests.Request.{Request}
 use Rattle.sci_cache.specs.Requests.{line_of, goal_of, is_evict, has_bad_word}
@@ -60,7 +59,7 @@ module _ (n now : NodeState) (view : n ≡ now) (r : Request) where
 
   -- the call that it makes is sound, since its line and its victim are
   sound_by : line_of r < n.lines → IsLine n.lines (victim_with n r) → IsSoundCall now.lines (Some (call_with now r))
-  sound_by inside victim = subst (λ (k : NodeState). IsSoundCall k.lines (Some (call_with k r))) view (inside, refl, victim)
+  sound_by inside victim = subst (λ (k : NodeState). IsSoundCall k.lines (Some (call_with k r))) view (inside, victim)
 
   pub sound_evict : is_evict r ≡ true → line_of r < n.lines → IsSoundCall now.lines (Some (call_with now r))
   sound_evict h inside = sound_by inside (subst (λ (o : Option ℕ). IsLine n.lines o) (sym (if_so (is_evict r) _ _ h)) tt)
@@ -87,12 +86,12 @@ none_bad false false false h is = let e = is in cc
 pub has_word : (n : NodeState) (r : Request) → refusal_of n r ≡ None → has_bad_word r ≡ true → ⊥
 has_word n r h is = none_bad (is_some n.call) (not (nat_lt (line_of r) n.lines)) (has_bad_word r) h is
 
-module _ (n : NodeState) (r : Request) (line : ℕ) (op : Operation) (victim : Option ℕ) (same : line ≡ line_of r) (is : op ≡ begun (goal_of r)) (out : victim ≡ victim_with n r) where
-  pub call_made : record { line = line; op = op; victim = victim } ≡ call_with n r
-  call_made = λ i. record { line = same i; op = is i; victim = out i }
+module _ (n : NodeState) (r : Request) (line : ℕ) (goal : Goal) (victim : Option ℕ) (same : line ≡ line_of r) (is : goal ≡ goal_of r) (out : victim ≡ victim_with n r) where
+  pub call_made : record { line = line; goal = goal; victim = victim } ≡ call_with n r
+  call_made = λ i. record { line = same i; goal = is i; victim = out i }
 
   -- that call is opened
-  pub opened : (m : NodeState) → m ≡ node_used n r → record m { call = Some record { line = line; op = op; victim = victim } } ≡ node_with n r
+  pub opened : (m : NodeState) → m ≡ node_used n r → record m { call = Some record { line = line; goal = goal; victim = victim } } ≡ node_with n r
   opened m h = λ i. record (h i) { call = Some (call_made i) }
 
 none_line : (a b d : Bool) → ◌≡◌ {A = Option NodeRefusal} (if a then Some NodeRefusal.CallOpen else (if not b then Some NodeRefusal.BadLine else (if d then Some NodeRefusal.BadWord else None))) None → b ≡ true

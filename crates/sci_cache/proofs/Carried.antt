@@ -17,8 +17,8 @@ module _ {U V : Type 0} (gives : U → ℕ → Call → U → Type 0) (given : V
       let l = line_by c.victim c.line in
       record {
         turn = h.turn;
-        calls = turn_through (λ s c t. gives s l c t) given f (λ _. l) (λ s c t k. (refl, each s l c t k)) (λ _. n.id) step (op_by c.victim c.op) h.turn l u v (f u) (f v) refl refl refl h.calls;
-        answers = answer_through (λ s c t. gives s l c t) given f (λ _. l) (λ s c t k. (refl, each s l c t k)) (λ _. n.id) step (op_by c.victim c.op) h.turn l u v (f u) (f v) refl refl refl h.answers;
+        calls = turn_through (λ s c t. gives s l c t) given f (λ _. l) (λ s c t k. (refl, each s l c t k)) (λ _. n.id) step (op_by c.victim c.goal) h.turn l u v (f u) (f v) refl refl refl h.calls;
+        answers = answer_through (λ s c t. gives s l c t) given f (λ _. l) (λ s c t k. (refl, each s l c t k)) (λ _. n.id) step (op_by c.victim c.goal) h.turn l u v (f u) (f v) refl refl refl h.answers;
         loads = h.loads;
         leaves = h.leaves;
         shows = h.shows;

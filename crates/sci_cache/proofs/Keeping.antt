@@ -54,17 +54,17 @@ no_less : (a b c : ℕ) → a ≤ b → b ≤ c → a ≤ c
 no_less a b c h k = omega (arith, h, k)
 
 -- all but room and marks
-pub record StaysReadied {U K : Type 0} (way : U → BankWay) (nodes_on : U → ℕ → ℕ) (keep : U → K) (step : U → ℕ → Pending) (told : U → ℕ → ReceiptList) (u v : U) : Type 0 where
+pub record StaysReadied {U K : Type 0} (way : U → BankWay) (nodes_on : U → ℕ → ℕ) (keep : U → K) (step : U → ℕ → Pending) (receipts : U → ℕ → ReceiptList) (u v : U) : Type 0 where
   pub same_way : way v ≡ way u
   pub same_nodes : (m : ℕ) → nodes_on v m ≡ nodes_on u m
   pub same_fact : keep v ≡ keep u
   pub same_steps : (m : ℕ) → step v m ≡ step u m
-  pub lists : (m : ℕ) → (told v m).list ≡ (told u m).list
-  pub grows : (m : ℕ) → (told u m).room ≤ (told v m).room
+  pub lists : (m : ℕ) → (receipts v m).list ≡ (receipts u m).list
+  pub grows : (m : ℕ) → (receipts u m).room ≤ (receipts v m).room
 
-module _ {U K : Type 0} (way : U → BankWay) (nodes_on : U → ℕ → ℕ) (keep : U → K) (readies : U → ℕ → Readying → U → Type 0) (step : U → ℕ → Pending) (told : U → ℕ → ReceiptList)
-    (law : (s : U) (line : ℕ) (r : Readying) (t : U) → readies s line r t → (way t ≡ way s) × ((m : ℕ) → nodes_on t m ≡ nodes_on s m) × (keep t ≡ keep s) × ((m : ℕ) → step t m ≡ step s m) × ChangesAt (Readies r) (told s) line (told t)) where
-  pub stays_readied : {u v : U} → IsReadied readies u v → StaysReadied way nodes_on keep step told u v
+module _ {U K : Type 0} (way : U → BankWay) (nodes_on : U → ℕ → ℕ) (keep : U → K) (readies : U → ℕ → Readying → U → Type 0) (step : U → ℕ → Pending) (receipts : U → ℕ → ReceiptList)
+    (law : (s : U) (line : ℕ) (r : Readying) (t : U) → readies s line r t → (way t ≡ way s) × ((m : ℕ) → nodes_on t m ≡ nodes_on s m) × (keep t ≡ keep s) × ((m : ℕ) → step t m ≡ step s m) × ChangesAt (Readies r) (receipts s) line (receipts t)) where
+  pub stays_readied : {u v : U} → IsReadied readies u v → StaysReadied way nodes_on keep step receipts u v
   stays_readied as_it_was = record { same_way = refl; same_nodes = λ m. refl; same_fact = refl; same_steps = λ m. refl; lists = λ m. refl; grows = λ m. omega arith }
   stays_readied {u} {v} (readied_on {w = w} line r h rest) =
       let l = law u line r w h in
@@ -74,16 +74,16 @@ module _ {U K : Type 0} (way : U → BankWay) (nodes_on : U → ℕ → ℕ) (ke
         same_nodes = λ m. s.same_nodes m ∙ l.1 m;
         same_fact = s.same_fact ∙ l.2;
         same_steps = λ m. s.same_steps m ∙ l.3 m;
-        lists = λ m. s.lists m ∙ list_at line r (told u) (told w) l.4 m;
-        grows = λ m. no_less (told u m).room (told w m).room (told v m).room (room_at line r (told u) (told w) l.4 m) (s.grows m);
+        lists = λ m. s.lists m ∙ list_at line r (receipts u) (receipts w) l.4 m;
+        grows = λ m. no_less (receipts u m).room (receipts w m).room (receipts v m).room (room_at line r (receipts u) (receipts w) l.4 m) (s.grows m);
       }
 
   module _ (gives : U → ℕ → Call → U → Type 0) where
     -- a node's work that only readied its receipts went on
-    pub readied_goes_on : {u v : U} → IsReadied readies u v → KeepsOn gives readies told u v
+    pub readied_goes_on : {u v : U} → IsReadied readies u v → KeepsOn gives readies receipts u v
     readied_goes_on {u} {v} h =
         let s = stays_readied h in
-        record { all = readied_keeps h; writes = λ m. ap writes_in (s.lists m); extends = λ m. extends_same (told u m).list (told v m).list (s.lists m) }
+        record { all = readied_keeps h; writes = λ m. ap writes_in (s.lists m); extends = λ m. extends_same (receipts u m).list (receipts v m).list (s.lists m) }
 
 -- ---- what is ready is provided
 
@@ -135,58 +135,58 @@ either_none : (b : Bool) (xs : List Receipt) → xs ≡ [] → (if b then xs els
 either_none true xs h = h
 either_none false xs h = refl
 
-module _ {U : Type 0} (gives : U → ℕ → Call → U → Type 0) (readies : U → ℕ → Readying → U → Type 0) (step : U → ℕ → Pending) (told : U → ℕ → ReceiptList) where
-  pub none_on : (u : U) → KeepsOn gives readies told u u
-  none_on u = record { all = keeps_none; writes = λ m. refl; extends = λ m. extends_none (told u m).list }
+module _ {U : Type 0} (gives : U → ℕ → Call → U → Type 0) (readies : U → ℕ → Readying → U → Type 0) (step : U → ℕ → Pending) (receipts : U → ℕ → ReceiptList) where
+  pub none_on : (u : U) → KeepsOn gives readies receipts u u
+  none_on u = record { all = keeps_none; writes = λ m. refl; extends = λ m. extends_none (receipts u m).list }
 
-  pub on_then : {u v w : U} → KeepsOn gives readies told u v → KeepsOn gives readies told v w → KeepsOn gives readies told u w
+  pub on_then : {u v w : U} → KeepsOn gives readies receipts u v → KeepsOn gives readies receipts v w → KeepsOn gives readies receipts u w
   on_then h k = record { all = keeps_then h.all k.all; writes = λ m. k.writes m ∙ h.writes m; extends = λ m. extends_then (h.extends m) (k.extends m) }
 
   -- a node's work with a turn more on a line
   pub record HasWorked (goal : Goal) (line : ℕ) (turn : Turn) (u v : U) : Type 0 where
-    pub all : KeepsAll gives readies told u v
-    pub writes : (m : ℕ) → writes_in (told v m).list ≡ writes_in (told u m).list ++ added goal line turn m
-    pub extends : (m : ℕ) → Extends (told u m).list (told v m).list
+    pub all : KeepsAll gives readies receipts u v
+    pub writes : (m : ℕ) → writes_in (receipts v m).list ≡ writes_in (receipts u m).list ++ added goal line turn m
+    pub extends : (m : ℕ) → Extends (receipts u m).list (receipts v m).list
 
   -- work that goes on, and has what it needs on the line
   pub record IsAtWork (goal : Goal) (line : ℕ) (u v : U) : Type 0 where
-    pub on : KeepsOn gives readies told u v
-    pub need : HasNeed goal (step v line) (told v line)
+    pub on : KeepsOn gives readies receipts u v
+    pub need : HasNeed goal (step v line) (receipts v line)
 
   module _ (goal : Goal) (line : ℕ) (op : Operation) (is : op ≡ begun goal) (u v : U) (turn : Turn) where
     -- a turn over the bank's port to the line, as `turn_at` tells of it
     abbrev pub KeptAt : ℕ → Type 0
-    KeptAt l = IsProvided op.goal op.answer (step u l) (told u l) → KeepsTurn (λ s call t. gives s l call t) (λ s. told s l) op u turn v (step v l)
+    KeptAt l = IsProvided op.goal op.answer (step u l) (receipts u l) → KeepsTurn (λ s call t. gives s l call t) (λ s. receipts s l) op u turn v (step v l)
 
     abbrev pub OthersAt : ℕ → Type 0
-    OthersAt l = (m : ℕ) → m ≢ l → told v m ≡ told u m
+    OthersAt l = (m : ℕ) → m ≢ l → receipts v m ≡ receipts u m
 
     module _ (kept : KeptAt line) (others : OthersAt line) {a : U} (work : IsAtWork goal line a u) where
-      kept_goal : KeepsTurn (λ s call t. gives s line call t) (λ s. told s line) (begun goal) u turn v (step v line)
+      kept_goal : KeepsTurn (λ s call t. gives s line call t) (λ s. receipts s line) (begun goal) u turn v (step v line)
       kept_goal =
-          subst (λ (o : Operation). KeepsTurn (λ s call t. gives s line call t) (λ s. told s line) o u turn v (step v line)) is
-          (kept (subst (λ (o : Operation). IsProvided o.goal o.answer (step u line) (told u line)) (sym is) work.need))
+          subst (λ (o : Operation). KeepsTurn (λ s call t. gives s line call t) (λ s. receipts s line) o u turn v (step v line)) is
+          (kept (subst (λ (o : Operation). IsProvided o.goal o.answer (step u line) (receipts u line)) (sym is) work.need))
 
-      writes_here : writes_in (told v line).list ≡ writes_in (told a line).list ++ added goal line turn line
+      writes_here : writes_in (receipts v line).list ≡ writes_in (receipts a line).list ++ added goal line turn line
       writes_here =
           kept_goal.writes
           ∙ ap (λ (l : List Receipt). l ++ adds_towards goal turn) (work.on.writes line)
-          ∙ ap (λ (l : List Receipt). writes_in (told a line).list ++ l) (sym (if_so (nat_eq line line) (adds_towards goal turn) [] (same_line line)))
+          ∙ ap (λ (l : List Receipt). writes_in (receipts a line).list ++ l) (sym (if_so (nat_eq line line) (adds_towards goal turn) [] (same_line line)))
 
-      writes_by : (m : ℕ) → writes_in (told v m).list ≡ writes_in (told a m).list ++ added goal line turn m
+      writes_by : (m : ℕ) → writes_in (receipts v m).list ≡ writes_in (receipts a m).list ++ added goal line turn m
       writes_by m = elim (cases_eq m line) [
-        | inl e ↦ subst (λ (k : ℕ). writes_in (told v k).list ≡ writes_in (told a k).list ++ added goal line turn k) (sym e) writes_here
+        | inl e ↦ subst (λ (k : ℕ). writes_in (receipts v k).list ≡ writes_in (receipts a k).list ++ added goal line turn k) (sym e) writes_here
         | inr ne ↦
             ap (λ (s : ReceiptList). writes_in s.list) (others m ne)
             ∙ work.on.writes m
-            ∙ sym (append-nil (writes_in (told a m).list))
-            ∙ ap (λ (l : List Receipt). writes_in (told a m).list ++ l) (sym (if_not (nat_eq line m) (adds_towards goal turn) [] (other_number line m ne)))
+            ∙ sym (append-nil (writes_in (receipts a m).list))
+            ∙ ap (λ (l : List Receipt). writes_in (receipts a m).list ++ l) (sym (if_not (nat_eq line m) (adds_towards goal turn) [] (other_number line m ne)))
       ]
 
-      extends_by : (m : ℕ) → Extends (told u m).list (told v m).list
+      extends_by : (m : ℕ) → Extends (receipts u m).list (receipts v m).list
       extends_by m = elim (cases_eq m line) [
-        | inl e ↦ subst (λ (k : ℕ). Extends (told u k).list (told v k).list) (sym e) kept_goal.extends
-        | inr ne ↦ extends_same (told u m).list (told v m).list (ap (λ (s : ReceiptList). s.list) (others m ne))
+        | inl e ↦ subst (λ (k : ℕ). Extends (receipts u k).list (receipts v k).list) (sym e) kept_goal.extends
+        | inr ne ↦ extends_same (receipts u m).list (receipts v m).list (ap (λ (s : ReceiptList). s.list) (others m ne))
       ]
 
       worked : HasWorked goal line turn a v
@@ -196,17 +196,17 @@ module _ {U : Type 0} (gives : U → ℕ → Call → U → Type 0) (readies : U
         extends = λ m. extends_then (work.on.extends m) (extends_by m);
       }
 
-      nothing_added : adds_towards goal turn ≡ [] → KeepsOn gives readies told a v
+      nothing_added : adds_towards goal turn ≡ [] → KeepsOn gives readies receipts a v
       nothing_added none =
           let w = worked in
           record {
             all = w.all;
-            writes = λ m. w.writes m ∙ ap (λ (l : List Receipt). writes_in (told a m).list ++ l) (either_none (nat_eq line m) (adds_towards goal turn) none) ∙ append-nil (writes_in (told a m).list);
+            writes = λ m. w.writes m ∙ ap (λ (l : List Receipt). writes_in (receipts a m).list ++ l) (either_none (nat_eq line m) (adds_towards goal turn) none) ∙ append-nil (writes_in (receipts a m).list);
             extends = w.extends;
           }
 
-      goes_need : GoesOn turn → HasNeed goal (step v line) (told v line)
-      goes_need on = need_after goal turn (step v line) (told v line) on kept_goal.provided
+      goes_need : GoesOn turn → HasNeed goal (step v line) (receipts v line)
+      goes_need on = need_after goal turn (step v line) (receipts v line) on kept_goal.provided
 
     -- the same, with the line by another name
     module _ (here : ℕ) (same : here ≡ line) (kept : KeptAt here) (others : OthersAt here) {a : U} (work : IsAtWork goal line a u) where
@@ -222,29 +222,29 @@ module _ {U : Type 0} (gives : U → ℕ → Call → U → Type 0) (readies : U
       pub still_at_work : GoesOn turn → IsAtWork goal line a v
       still_at_work on = record { on = nothing_added kept_line others_line work (adds_none goal turn on); need = goes_need kept_line others_line work on }
 
-      pub extends_on : Extends (told u line).list (told v line).list
+      pub extends_on : Extends (receipts u line).list (receipts v line).list
       extends_on = extends_by kept_line others_line work line
 
-      pub worked_on : adds_towards goal turn ≡ [] → KeepsOn gives readies told a v
+      pub worked_on : adds_towards goal turn ≡ [] → KeepsOn gives readies receipts a v
       worked_on none = nothing_added kept_line others_line work none
 
 -- ---- requests
 
-pub refused_leaves : {U : Type 0} (told : U → ℕ → ReceiptList) (e : NodeRefusal) (u : U) → LeavesReceipts told (Err e) u u
-refused_leaves told NodeRefusal.StampsSpent u = tt
-refused_leaves told NodeRefusal.OutOfMemory u = λ line. record { list = refl; passing = refl }
-refused_leaves told _ u = refl
+pub refused_leaves : {U : Type 0} (receipts : U → ℕ → ReceiptList) (e : NodeRefusal) (u : U) → LeavesReceipts receipts (Err e) u u
+refused_leaves receipts NodeRefusal.StampsSpent u = tt
+refused_leaves receipts NodeRefusal.OutOfMemory u = λ line. record { list = refl; passing = refl }
+refused_leaves receipts _ u = refl
 
 pub idle_but_same : (call : Option OpenCall) (before after : ℕ → Pending) → ((m : ℕ) → after m ≡ before m) → IsIdleBut call before → IsIdleBut call after
 idle_but_same None before after same h = λ m. same m ∙ h m
 idle_but_same (Some c) before after same h = λ m other. same m ∙ h m other
 
-module _ {U : Type 0} (gives : U → ℕ → Call → U → Type 0) (readies : U → ℕ → Readying → U → Type 0) (step : U → ℕ → Pending) (told : U → ℕ → ReceiptList) (r : Request) (u v : U) where
+module _ {U : Type 0} (gives : U → ℕ → Call → U → Type 0) (readies : U → ℕ → Readying → U → Type 0) (step : U → ℕ → Pending) (receipts : U → ℕ → ReceiptList) (r : Request) (u v : U) where
   -- one that is refused, or finds the stamp spent, adds nothing
-  pub refused_keeps : (e : NodeRefusal) → KeepsOn gives readies told u v → KeepsRequest gives readies told r u (Err e) v
-  refused_keeps e h = record { all = h.all; writes = λ m. h.writes m ∙ sym (append-nil (writes_in (told u m).list)); last = tt; extends = h.extends }
+  pub refused_keeps : (e : NodeRefusal) → KeepsOn gives readies receipts u v → KeepsRequest gives readies receipts r u (Err e) v
+  refused_keeps e h = record { all = h.all; writes = λ m. h.writes m ∙ sym (append-nil (writes_in (receipts u m).list)); last = tt; extends = h.extends }
 
-  pub answered_keeps : (answer : Answer) → HasWorked gives readies step told (goal_of r) (line_of r) (Turn.Done answer) u v → EndsWithAnswer (goal_of r) answer (told u (line_of r)).list (told v (line_of r)).list → KeepsRequest gives readies told r u (Ok answer) v
+  pub answered_keeps : (answer : Answer) → HasWorked gives readies step receipts (goal_of r) (line_of r) (Turn.Done answer) u v → EndsWithAnswer (goal_of r) answer (receipts u (line_of r)).list (receipts v (line_of r)).list → KeepsRequest gives readies receipts r u (Ok answer) v
   answered_keeps answer h last = record { all = h.all; writes = h.writes; last = last; extends = h.extends }
 
 -- a bank readied for a request, unless its node keeps no receipts, from which its turns have run so far

@@ -104,23 +104,23 @@ module _ {U X : Type 0} (gives : U → Call → U → Type 0) (step : U → Pend
 -- no call takes a port to another line
 module _ {S U : Type 0} (over : S → Call → S → Type 0) (gives : U → ℕ → Call → U → Type 0) (bank : S → U) (line : S → ℕ)
     (each : (s : S) (c : Call) (t : S) → over s c t → (line t ≡ line s) × gives (bank s) (line s) c (bank t))
-    (step : U → ℕ → Pending) (told : U → ℕ → ReceiptList) where
+    (step : U → ℕ → Pending) (receipts : U → ℕ → ReceiptList) where
   pub chain_line : (calls : List Call) (s t : S) → Chain over s calls t → line t ≡ line s
   chain_line [] s t h = ap line h
   chain_line (c ∷ cs) s t (mid, h, rest) = chain_line cs mid t rest ∙ (each s c mid h).0
 
-  roomy_through : (l : ℕ) (calls : List Call) (s t : S) → line s ≡ l → RoomyChain over (λ x. told (bank x) (line x)) s calls t → RoomyChain (λ a c b. gives a l c b) (λ a. told a l) (bank s) calls (bank t)
+  roomy_through : (l : ℕ) (calls : List Call) (s t : S) → line s ≡ l → RoomyChain over (λ x. receipts (bank x) (line x)) s calls t → RoomyChain (λ a c b. gives a l c b) (λ a. receipts a l) (bank s) calls (bank t)
   roomy_through l [] s t e h = ap bank h
   roomy_through l (c ∷ cs) s t e (mid, h, room, rest) =
       let w = each s c mid h in
-      (bank mid, subst (λ (k : ℕ). gives (bank s) k c (bank mid)) e w.1, subst (λ (k : ℕ). HasRoomFor c (told (bank s) k)) e room, roomy_through l cs mid t (w.0 ∙ e) rest)
+      (bank mid, subst (λ (k : ℕ). gives (bank s) k c (bank mid)) e w.1, subst (λ (k : ℕ). HasRoomFor c (receipts (bank s) k)) e room, roomy_through l cs mid t (w.0 ∙ e) rest)
 
   module _ (op : Operation) (turn : Turn) (s t : S) (same : line t ≡ line s) where
     abbrev KeepsOver : Type 0
-    KeepsOver = IsProvided op.goal op.answer (step (bank s) (line s)) (told (bank s) (line s)) → KeepsTurn over (λ x. told (bank x) (line x)) op s turn t (step (bank t) (line t))
+    KeepsOver = IsProvided op.goal op.answer (step (bank s) (line s)) (receipts (bank s) (line s)) → KeepsTurn over (λ x. receipts (bank x) (line x)) op s turn t (step (bank t) (line t))
 
     abbrev KeepsAt : ℕ → U → U → Type 0
-    KeepsAt l u v = IsProvided op.goal op.answer (step u l) (told u l) → KeepsTurn (λ a c b. gives a l c b) (λ a. told a l) op u turn v (step v l)
+    KeepsAt l u v = IsProvided op.goal op.answer (step u l) (receipts u l) → KeepsTurn (λ a c b. gives a l c b) (λ a. receipts a l) op u turn v (step v l)
 
     kept_over : KeepsOver → KeepsAt (line s) (bank s) (bank t)
     kept_over h p =
@@ -128,9 +128,9 @@ module _ {S U : Type 0} (over : S → Call → S → Type 0) (gives : U → ℕ 
         record {
           calls = k.calls;
           chain = roomy_through (line s) k.calls s t refl k.chain;
-          provided = subst (λ (n : ℕ). IsProvided op.goal (after_turn op turn).answer (step (bank t) n) (told (bank t) n)) same k.provided;
-          writes = subst (λ (n : ℕ). writes_in (told (bank t) n).list ≡ writes_in (told (bank s) (line s)).list ++ adds op.goal op.answer turn) same k.writes;
-          extends = subst (λ (n : ℕ). Extends (told (bank s) (line s)).list (told (bank t) n).list) same k.extends;
+          provided = subst (λ (n : ℕ). IsProvided op.goal (after_turn op turn).answer (step (bank t) n) (receipts (bank t) n)) same k.provided;
+          writes = subst (λ (n : ℕ). writes_in (receipts (bank t) n).list ≡ writes_in (receipts (bank s) (line s)).list ++ adds op.goal op.answer turn) same k.writes;
+          extends = subst (λ (n : ℕ). Extends (receipts (bank s) (line s)).list (receipts (bank t) n).list) same k.extends;
         }
 
     pub kept_through : (l : ℕ) (u v : U) → line s ≡ l → bank s ≡ u → bank t ≡ v → KeepsOver → KeepsAt l u v
@@ -139,10 +139,10 @@ module _ {S U : Type 0} (over : S → Call → S → Type 0) (gives : U → ℕ 
         (subst (λ (w : U). KeepsAt (line s) w v) from
         (subst (λ (w : U). KeepsAt (line s) (bank s) w) to (kept_over h)))
 
-pub last_through : {S U : Type 0} (bank : S → U) (line : S → ℕ) (told : U → ℕ → ReceiptList) (op : Operation) (turn : Turn) (s t : S) → line t ≡ line s → (l : ℕ) (u v : U) → line s ≡ l → bank s ≡ u → bank t ≡ v
-    → KeepsAnswer op turn (told (bank s) (line s)) (told (bank t) (line t)) → KeepsAnswer op turn (told u l) (told v l)
-last_through {U} bank line told op turn s t same l u v on from to h =
-    subst (λ (k : ℕ). KeepsAnswer op turn (told u k) (told v k)) on
-    (subst (λ (w : U). KeepsAnswer op turn (told w (line s)) (told v (line s))) from
-    (subst (λ (w : U). KeepsAnswer op turn (told (bank s) (line s)) (told w (line s))) to
-    (subst (λ (k : ℕ). KeepsAnswer op turn (told (bank s) (line s)) (told (bank t) k)) same h)))
+pub last_through : {S U : Type 0} (bank : S → U) (line : S → ℕ) (receipts : U → ℕ → ReceiptList) (op : Operation) (turn : Turn) (s t : S) → line t ≡ line s → (l : ℕ) (u v : U) → line s ≡ l → bank s ≡ u → bank t ≡ v
+    → KeepsAnswer op turn (receipts (bank s) (line s)) (receipts (bank t) (line t)) → KeepsAnswer op turn (receipts u l) (receipts v l)
+last_through {U} bank line receipts op turn s t same l u v on from to h =
+    subst (λ (k : ℕ). KeepsAnswer op turn (receipts u k) (receipts v k)) on
+    (subst (λ (w : U). KeepsAnswer op turn (receipts w (line s)) (receipts v (line s))) from
+    (subst (λ (w : U). KeepsAnswer op turn (receipts (bank s) (line s)) (receipts w (line s))) to
+    (subst (λ (k : ℕ). KeepsAnswer op turn (receipts (bank s) (line s)) (receipts (bank t) k)) same h)))

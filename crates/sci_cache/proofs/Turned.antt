@@ -31,7 +31,7 @@ out_chain gives step a [] u v h = absurd h
 out_chain gives step a (c ∷ []) u v h = answer_out a (step u) c h.1
 out_chain gives step a (c ∷ d ∷ cs) u v (mid, h, rest) = out_chain gives step a (d ∷ cs) mid v rest
 
-leaves_by : {U : Type 0} (gives : U → Call → U → Type 0) (step : U → Pending) (w : Option ℕ) (op : Operation) (me : ℕ) (u v : U) (t : Turn) → AnswersAt gives step (op_by w op) me u t v → LeavesBy w t
+leaves_by : {U : Type 0} (gives : U → Call → U → Type 0) (step : U → Pending) (w : Option ℕ) (goal : Goal) (me : ℕ) (u v : U) (t : Turn) → AnswersAt gives step (op_by w goal) me u t v → LeavesBy w t
 leaves_by gives step None op me u v t h = tt
 leaves_by gives step (Some x) op me u v (Turn.Done a) h = let b = h refl in out_chain gives step a b.calls u v b.chain
 leaves_by gives step (Some x) op me u v Turn.Moved h = tt
@@ -58,17 +58,17 @@ module _ {U : Type 0} (gives : U → ℕ → Call → U → Type 0) (step : U �
   abbrev pub after_by : Option ℕ → NodeState
   after_by w = record n { residents = residents_after c w t n.residents; call = call_after c w t }
 
-  pub turns_by : (o : Operation) (me : ℕ) (w : Option ℕ) (shown : Turn) (m : NodeState) → me ≡ now.id → c.victim ≡ w → o ≡ op_by w c.op → Worked o me (line_by w c.line) → shown ≡ shown_by w t → m ≡ after_by w → TurnsBy gives step now now.call u (Ok shown) v m
+  pub turns_by : (o : Operation) (me : ℕ) (w : Option ℕ) (shown : Turn) (m : NodeState) → me ≡ now.id → c.victim ≡ w → o ≡ op_by w c.goal → Worked o me (line_by w c.line) → shown ≡ shown_by w t → m ≡ after_by w → TurnsBy gives step now now.call u (Ok shown) v m
   turns_by o me w shown m mine victim op worked shows node =
-      let with_op : Worked (op_by w c.op) me (line_by w c.line) = subst (λ (x : Operation). Worked x me (line_by w c.line)) op worked in
-      let with_me : Worked (op_by w c.op) n.id (line_by w c.line) = subst (λ (k : ℕ). Worked (op_by w c.op) k (line_by w c.line)) (mine ∙ ap (λ (k : NodeState). k.id) (sym view)) with_op in
-      let at : Worked (op_by c.victim c.op) n.id (line_by c.victim c.line) = subst (λ (x : Option ℕ). Worked (op_by x c.op) n.id (line_by x c.line)) (sym victim) with_me in
+      let with_op : Worked (op_by w c.goal) me (line_by w c.line) = subst (λ (x : Operation). Worked x me (line_by w c.line)) op worked in
+      let with_me : Worked (op_by w c.goal) n.id (line_by w c.line) = subst (λ (k : ℕ). Worked (op_by w c.goal) k (line_by w c.line)) (mine ∙ ap (λ (k : NodeState). k.id) (sym view)) with_op in
+      let at : Worked (op_by c.victim c.goal) n.id (line_by c.victim c.line) = subst (λ (x : Option ℕ). Worked (op_by x c.goal) n.id (line_by x c.line)) (sym victim) with_me in
       let turns : TurnsAt gives step n c u shown v m = record {
         turn = t;
         calls = at.0;
         answers = at.1;
         loads = at.2;
-        leaves = leaves_by (λ a call b. gives a (line_by c.victim c.line) call b) (λ a. step a (line_by c.victim c.line)) c.victim c.op n.id u v t at.1;
+        leaves = leaves_by (λ a call b. gives a (line_by c.victim c.line) call b) (λ a. step a (line_by c.victim c.line)) c.victim c.goal n.id u v t at.1;
         shows = shows ∙ ap (λ (x : Option ℕ). shown_by x t) (sym victim);
         node = node ∙ ap after_by (sym victim);
       } in
@@ -76,32 +76,24 @@ module _ {U : Type 0} (gives : U → ℕ → Call → U → Type 0) (step : U �
       (subst (λ (x : Option OpenCall). TurnsBy gives step n x u (Ok shown) v m) (sym calls) turns)
 
 -- what it keeps of the receipts on the line at work
-module _ {U : Type 0} (gives : U → ℕ → Call → U → Type 0) (step : U → ℕ → Pending) (told : U → ℕ → ReceiptList) (n now : NodeState) (view : n ≡ now) (c : OpenCall) (u v : U) (t : Turn) where
+module _ {U : Type 0} (gives : U → ℕ → Call → U → Type 0) (step : U → ℕ → Pending) (receipts : U → ℕ → ReceiptList) (n now : NodeState) (view : n ≡ now) (c : OpenCall) (u v : U) (t : Turn) where
   abbrev KeptBy : Operation → ℕ → Type 0
-  KeptBy o line = IsProvided o.goal o.answer (step u line) (told u line) → KeepsTurn (λ s call r. gives s line call r) (λ s. told s line) o u t v (step v line)
+  KeptBy o line = IsProvided o.goal o.answer (step u line) (receipts u line) → KeepsTurn (λ s call r. gives s line call r) (λ s. receipts s line) o u t v (step v line)
 
   abbrev LastBy : Operation → ℕ → Type 0
-  LastBy o line = KeepsAnswer o t (told u line) (told v line)
+  LastBy o line = KeepsAnswer o t (receipts u line) (receipts v line)
 
-  pub kept_by : (o : Operation) (w : Option ℕ) (shown : Turn) (m : NodeState) → c.victim ≡ w → o ≡ op_by w c.op → KeptBy o (line_by w c.line) → LastBy o (line_by w c.line) → shown ≡ shown_by w t → m ≡ record n { residents = residents_after c w t n.residents; call = call_after c w t } → KeepsTurnOf gives step told now c u shown v m
+  pub kept_by : (o : Operation) (w : Option ℕ) (shown : Turn) (m : NodeState) → c.victim ≡ w → o ≡ op_by w c.goal → KeptBy o (line_by w c.line) → LastBy o (line_by w c.line) → shown ≡ shown_by w t → m ≡ record n { residents = residents_after c w t n.residents; call = call_after c w t } → KeepsTurnOf gives step receipts now c u shown v m
   kept_by o w shown m victim op kept last shows node =
-      let with_op : KeptBy (op_by w c.op) (line_by w c.line) = subst (λ (x : Operation). KeptBy x (line_by w c.line)) op kept in
-      let last_op : LastBy (op_by w c.op) (line_by w c.line) = subst (λ (x : Operation). LastBy x (line_by w c.line)) op last in
+      let with_op : KeptBy (op_by w c.goal) (line_by w c.line) = subst (λ (x : Operation). KeptBy x (line_by w c.line)) op kept in
+      let last_op : LastBy (op_by w c.goal) (line_by w c.line) = subst (λ (x : Operation). LastBy x (line_by w c.line)) op last in
       record {
         turn = t;
         shows = shows ∙ ap (λ (x : Option ℕ). shown_by x t) (sym victim);
         node = subst (λ (k : NodeState). m ≡ node_after k c t) view (node ∙ ap (λ (x : Option ℕ). record n { residents = residents_after c x t n.residents; call = call_after c x t }) (sym victim));
-        kept = subst (λ (x : Option ℕ). KeptBy (op_by x c.op) (line_by x c.line)) (sym victim) with_op;
-        last = subst (λ (x : Option ℕ). LastBy (op_by x c.op) (line_by x c.line)) (sym victim) last_op;
+        kept = subst (λ (x : Option ℕ). KeptBy (op_by x c.goal) (line_by x c.line)) (sym victim) with_op;
+        last = subst (λ (x : Option ℕ). LastBy (op_by x c.goal) (line_by x c.line)) (sym victim) last_op;
       }
-
--- the operation of a goal that goes on
-pub begun_is : (g : Goal) (op : Operation) → g ≡ op.goal → op.answer ≡ None → begun g ≡ op
-begun_is g op towards goes_on = λ i. record { goal = towards i; answer = sym goes_on i }
-
--- that of a goal read off an operation that has begun
-pub begun_as : (g k : Goal) (op : Operation) → g ≡ op.goal → op ≡ begun k → begun g ≡ begun k
-begun_as g k op towards begins = ap begun (towards ∙ ap (λ (o : Operation). o.goal) begins)
 
 -- a turn that ends nothing leaves the node as it is
 pub stays_on : (n : NodeState) (c : OpenCall) (w : Option ℕ) (t : Turn) → GoesOn t → n.call ≡ Some c → (t ≡ shown_by w t) × (n ≡ record n { residents = residents_after c w t n.residents; call = call_after c w t })
@@ -117,13 +109,13 @@ taken_other Goal.Load line xs h = refl
 taken_other (Goal.Write w) line xs h = refl
 
 -- the node where a call has ended
-module _ (n : NodeState) (c : OpenCall) (answer : Answer) (g : Goal) (is : g ≡ c.op.goal) where
+module _ (n : NodeState) (c : OpenCall) (answer : Answer) (g : Goal) (is : g ≡ c.goal) where
   pub ends_other : (g ≡ Goal.Evict → ⊥) → node_state n.id n.lines n.capacity n.keeps n.residents None ≡ record n { residents = residents_after c None (Turn.Done answer) n.residents; call = call_after c None (Turn.Done answer) }
   ends_other h = ap (λ (xs : List ℕ). node_state n.id n.lines n.capacity n.keeps xs None) (taken_other g c.line n.residents h ∙ ap (λ (k : Goal). taken_by k c.line n.residents) is)
 
   pub ends_evict : (capacity : ℕ) (xs : List ℕ) → g ≡ Goal.Evict → capacity ≡ n.capacity → xs ≡ without c.line n.residents → node_state n.id n.lines capacity n.keeps xs None ≡ record n { residents = residents_after c None (Turn.Done answer) n.residents; call = call_after c None (Turn.Done answer) }
   ends_evict capacity xs h same taken =
-      let all : xs ≡ taken_by c.op.goal c.line n.residents = taken ∙ ap (λ (k : Goal). taken_by k c.line n.residents) (sym h ∙ is) in
+      let all : xs ≡ taken_by c.goal c.line n.residents = taken ∙ ap (λ (k : Goal). taken_by k c.line n.residents) (sym h ∙ is) in
       λ i. node_state n.id n.lines (same i) n.keeps (all i) None
 
 -- ---- what a turn leaves of the node and of the pending steps
@@ -162,7 +154,7 @@ module _ (n now : NodeState) (view : n ≡ now) (c : OpenCall) (calls : n.call �
   pub call_has : (P : OpenCall → Type 0) → IfSome now.call P → P c
   call_has P h = subst (λ (o : Option OpenCall). IfSome o P) call_now h
 
-  pub sound : IsSoundCall n.lines n.call → (c.line < n.lines) × (c.op.answer ≡ None) × IsLine n.lines c.victim
+  pub sound : IsSoundCall n.lines n.call → (c.line < n.lines) × IsLine n.lines c.victim
   sound h = subst (IsSoundCall n.lines) calls h
 
   pub elsewhere_now : {P : ℕ → Type 0} (w : Option ℕ) → c.victim ≡ w → ((m : ℕ) → m ≢ line_by w c.line → P m) → IfSome now.call (λ (d : OpenCall). (m : ℕ) → m ≢ line_by d.victim d.line → P m)
@@ -171,7 +163,7 @@ module _ (n now : NodeState) (view : n ≡ now) (c : OpenCall) (calls : n.call �
   pub below_by : IsSoundCall n.lines n.call → IfSome now.call (λ (d : OpenCall). line_by d.victim d.line < now.lines)
   below_by h =
       let s = sound h in
-      of_call (λ (d : OpenCall). line_by d.victim d.line < now.lines) (subst (λ (k : NodeState). line_by c.victim c.line < k.lines) view (line_inside n.lines c.line c.victim s.0 s.2))
+      of_call (λ (d : OpenCall). line_by d.victim d.line < now.lines) (subst (λ (k : NodeState). line_by c.victim c.line < k.lines) view (line_inside n.lines c.line c.victim s.0 s.1))
 
   module _ (w : Option ℕ) (victim : c.victim ≡ w) (before after : ℕ → Pending) (others : (m : ℕ) → m ≢ line_by w c.line → after m ≡ before m) where
     pub others_now : IfSome now.call (λ (d : OpenCall). (m : ℕ) → m ≢ line_by d.victim d.line → after m ≡ before m)

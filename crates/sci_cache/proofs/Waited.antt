@@ -16,7 +16,7 @@ still_same h g = record { id = g.id ∙ h.id; lines = g.lines ∙ h.lines; capac
 
 -- what a request has at work, with a victim still or without
 abbrev pub call_of : Request → Option ℕ → OpenCall
-call_of r w = record { line = line_of r; op = begun (goal_of r); victim = w }
+call_of r w = record { line = line_of r; goal = goal_of r; victim = w }
 
 abbrev pub work_of : NodeState → Request → Option ℕ → NodeState
 work_of n r w = record n { residents = residents_with n r; call = Some (call_of r w) }

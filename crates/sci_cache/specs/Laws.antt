@@ -11,12 +11,12 @@ use Rattle.sci_cache.specs.declared.requests.Request.{Request}
 use Rattle.sci_cache.specs.Called.{IsProvidedFor, KeepsRequest, KeepsTurnOf}
 use Rattle.sci_cache.specs.Nodes.{GoesOn, NodeState, line_by, node_with}
 
-module _ {U : Type 0} (gives : U → ℕ → Call → U → Type 0) (step : U → ℕ → Pending) (told : U → ℕ → ReceiptList) where
+module _ {U : Type 0} (gives : U → ℕ → Call → U → Type 0) (step : U → ℕ → Pending) (receipts : U → ℕ → ReceiptList) where
   -- a turn of an open call, as `kept`, `others` and `other_receipts` of `Node::turn` tell
   pub record TurnKeeps (n : NodeState) (c : OpenCall) (u : U) (shown : Turn) (v : U) (m : NodeState) : Type 0 where
-    pub kept : KeepsTurnOf gives step told n c u shown v m
+    pub kept : KeepsTurnOf gives step receipts n c u shown v m
     pub steps : (l : ℕ) → l ≢ line_by c.victim c.line → step v l ≡ step u l
-    pub receipts : (l : ℕ) → l ≢ line_by c.victim c.line → told v l ≡ told u l
+    pub other_receipts : (l : ℕ) → l ≢ line_by c.victim c.line → receipts v l ≡ receipts u l
 
   abbrev pub TurnKeepsBy : NodeState → Option OpenCall → U → Turn → U → NodeState → Type 0
   TurnKeepsBy n None u shown v m = ⊥
@@ -30,5 +30,5 @@ module _ {U : Type 0} (gives : U → ℕ → Call → U → Type 0) (step : U �
 -- a request that was begun with what it needs, taken on by any number of turns that go on and then by one that ends it, has kept all:
 -- from the bank behind `begin` on
 abbrev pub RequestsAreKept : {U : Type 0} → (U → ℕ → Call → U → Type 0) → (U → ℕ → Readying → U → Type 0) → (U → ℕ → Pending) → (U → ℕ → ReceiptList) → Type 0
-RequestsAreKept {U} gives readies step told = (n : NodeState) (request : Request) (u : U) (before : NodeState) (at : U) (answer : Answer) (v : U) (m : NodeState) → IsProvidedFor (node_with n request).call (step u) (told u)
-    → TurnsKeep gives step told (node_with n request) u before at → TurnKeepsBy gives step told before before.call at (Turn.Done answer) v m → KeepsRequest gives readies told request u (Ok answer) v
+RequestsAreKept {U} gives readies step receipts = (n : NodeState) (request : Request) (u : U) (before : NodeState) (at : U) (answer : Answer) (v : U) (m : NodeState) → IsProvidedFor (node_with n request).call (step u) (receipts u)
+    → TurnsKeep gives step receipts (node_with n request) u before at → TurnKeepsBy gives step receipts before before.call at (Turn.Done answer) v m → KeepsRequest gives readies receipts request u (Ok answer) v

@@ -42,7 +42,7 @@ IsLine lines (Some line) = line < lines
 -- the call is on lines that there are, and goes on
 abbrev pub IsSoundCall : ℕ → Option OpenCall → Type 0
 IsSoundCall lines None = Unit {0}
-IsSoundCall lines (Some c) = (c.line < lines) × (c.op.answer ≡ None) × IsLine lines c.victim
+IsSoundCall lines (Some c) = (c.line < lines) × IsLine lines c.victim
 
 -- what is true of each node
 pub record IsSoundNode (n : NodeState) : Type 0 where
@@ -66,7 +66,7 @@ victim_with n r = if is_evict r then None else displaced_by n.capacity (line_of 
 
 -- the call that a request makes
 abbrev pub call_with : NodeState → Request → OpenCall
-call_with n r = record { line = line_of r; op = begun (goal_of r); victim = victim_with n r }
+call_with n r = record { line = line_of r; goal = goal_of r; victim = victim_with n r }
 
 -- the node that has used the request's line
 abbrev pub node_used : NodeState → Request → NodeState
@@ -81,9 +81,12 @@ abbrev pub line_by : Option ℕ → ℕ → ℕ
 line_by None line = line
 line_by (Some victim) line = victim
 
-abbrev pub op_by : Option ℕ → Operation → Operation
-op_by None op = op
-op_by (Some victim) op = begun Goal.Evict
+abbrev pub goal_by : Option ℕ → Goal → Goal
+goal_by None goal = goal
+goal_by (Some victim) goal = Goal.Evict
+
+abbrev pub op_by : Option ℕ → Goal → Operation
+op_by victim goal = begun (goal_by victim goal)
 
 -- the end of a victim's eviction is no end of the call
 abbrev pub shown_by : Option ℕ → Turn → Turn
@@ -97,7 +100,7 @@ LeavesBy victim turn = Unit {0}
 
 abbrev pub call_after : OpenCall → Option ℕ → Turn → Option OpenCall
 call_after c None (Turn.Done answer) = None
-call_after c (Some victim) (Turn.Done answer) = Some record { line = c.line; op = c.op; victim = None }
+call_after c (Some victim) (Turn.Done answer) = Some record { line = c.line; goal = c.goal; victim = None }
 call_after c victim turn = Some c
 
 -- an eviction that has ended takes its line out
@@ -106,7 +109,7 @@ taken_by Goal.Evict line xs = without line xs
 taken_by goal line xs = xs
 
 abbrev pub residents_after : OpenCall → Option ℕ → Turn → List ℕ → List ℕ
-residents_after c None (Turn.Done answer) xs = taken_by c.op.goal c.line xs
+residents_after c None (Turn.Done answer) xs = taken_by c.goal c.line xs
 residents_after c victim turn xs = xs
 
 abbrev pub node_after : NodeState → OpenCall → Turn → NodeState
@@ -161,9 +164,9 @@ module _ {U : Type 0} (gives : U → ℕ → Call → U → Type 0) (step : U �
   -- a turn of the call: of the operation at work, over the bank's port to the line at work
   pub record TurnsAt (n : NodeState) (c : OpenCall) (u : U) (shown : Turn) (v : U) (m : NodeState) : Type 0 where
     pub turn : Turn
-    pub calls : Takes (λ a call b. gives a (line_by c.victim c.line) call b) (turn_of (op_by c.victim c.op) n.id (step u (line_by c.victim c.line))) u turn v
-    pub answers : AnswersAt (λ a call b. gives a (line_by c.victim c.line) call b) (λ a. step a (line_by c.victim c.line)) (op_by c.victim c.op) n.id u turn v
-    pub loads : LoadsAtMost 3 (turn_of (op_by c.victim c.op) n.id (step u (line_by c.victim c.line)))
+    pub calls : Takes (λ a call b. gives a (line_by c.victim c.line) call b) (turn_of (op_by c.victim c.goal) n.id (step u (line_by c.victim c.line))) u turn v
+    pub answers : AnswersAt (λ a call b. gives a (line_by c.victim c.line) call b) (λ a. step a (line_by c.victim c.line)) (op_by c.victim c.goal) n.id u turn v
+    pub loads : LoadsAtMost 3 (turn_of (op_by c.victim c.goal) n.id (step u (line_by c.victim c.line)))
     pub leaves : LeavesBy c.victim turn
     pub shows : shown ≡ shown_by c.victim turn
     pub node : m ≡ node_after n c turn

@@ -7,5 +7,5 @@ use sci_port::Bank;
 /// left it what it needs, and each `Node::turn` went on but the last, which ended it, its receipts keep all, as those of the calls that
 /// wait do. This project's profile.
 pub fn requests_are_kept<B: Bank>()
-    ensures { RequestsAreKept B.gives B.readies B.at_step B.told }
+    ensures { RequestsAreKept B.gives B.readies B.at_step B.receipts }
 {}

@@ -16,7 +16,7 @@ use crate::requests::Request;
 use crate::tables::{last_of_full, make_recent, renew, take_out};
 use lru::LruCache;
 use sci_core::Line;
-use sci_ops::{Goal, Op, Turn};
+use sci_ops::{Goal, Turn};
 use sci_port::Bank;
 use sci_words::{LineNo, NodeId};
 use std::alloc::{AllocError, Global};
@@ -120,12 +120,12 @@ impl Node {
         ensures begun { OnOk result (self.new ≡ node_with self.old request) }
         ensures same { OnErr result (self.new ≡ self.old) }
         ensures same_node { IsSameNode self.old self.new }
-        ensures succeeds { refusal_of self.old request ≡ None → (is_evict request ≡ true) ⊎ (is_resident (line_of request) self.old.residents ≡ true) → HasNoNeed self.old.keeps request (B.told bank.old (line_of request)) → IsOk result }
+        ensures succeeds { refusal_of self.old request ≡ None → (is_evict request ≡ true) ⊎ (is_resident (line_of request) self.old.residents ≡ true) → HasNoNeed self.old.keeps request (B.receipts bank.old (line_of request)) → IsOk result }
         ensures readied { IsReadied B.readies bank.old bank.new }
-        ensures kept { IfErr result (λ e. LeavesBut B.told e bank.old bank.new) }
-        ensures provided { self.old.keeps ≡ true → OnOk result (IsProvidedFor self.new.call (B.at_step bank.new) (B.told bank.new)) }
-        ensures needs { self.old.keeps ≡ true → OnOk result ((m : ℕ) → need_on self.new.call (B.at_step bank.new) (B.told bank.new) m ≤ (B.told bank.new m).room) }
-        ensures others { LeavesOthers B.told self.old request bank.old bank.new }
+        ensures kept { IfErr result (λ e. LeavesBut B.receipts e bank.old bank.new) }
+        ensures provided { self.old.keeps ≡ true → OnOk result (IsProvidedFor self.new.call (B.at_step bank.new) (B.receipts bank.new)) }
+        ensures needs { self.old.keeps ≡ true → OnOk result ((m : ℕ) → need_on self.new.call (B.at_step bank.new) (B.receipts bank.new) m ≤ (B.receipts bank.new m).room) }
+        ensures others { LeavesOthers B.receipts self.old request bank.old bank.new }
         ensures unready { self.old.keeps ≡ false → bank.new ≡ bank.old }
         ensures same_way { B.way bank.new ≡ B.way bank.old }
         ensures same_nodes { (m : ℕ) → B.nodes_on bank.new m ≡ B.nodes_on bank.old m }
@@ -139,8 +139,10 @@ impl Node {
             return Err(NodeRefusal::OutOfMemory);
         };
         let line = request.line();
-        let Ok(op) = request.op() else { unreachable!() };
-        self.call = Some(OpenCall { line, op, victim });
+        let Ok(goal) = request.goal() else {
+            unreachable!()
+        };
+        self.call = Some(OpenCall { line, goal, victim });
         Ok(())
     }
 
@@ -148,17 +150,17 @@ impl Node {
     /// line, an eviction on the victim's. 0 on any other, and where no call is open.
     pub fn need<B: Bank>(&self, bank: &mut B, line: LineNo) -> usize
         requires lines { (B.way bank.old).lines ≡ self.now.lines }
-        ensures need { result ≡ need_on self.now.call (B.at_step bank.old) (B.told bank.old) line }
+        ensures need { result ≡ need_on self.now.call (B.at_step bank.old) (B.receipts bank.old) line }
         ensures same { bank.new ≡ bank.old }
     {
         let Some(call) = &self.call else {
             return 0;
         };
         if call.line == line {
-            return need_at(bank, line, &call.op);
+            return need_at(bank, line, &call.goal);
         }
         if call.victim == Some(line) {
-            return need_at(bank, line, &Op::evict());
+            return need_at(bank, line, &Goal::Evict);
         }
         0
     }
@@ -174,7 +176,7 @@ impl Node {
         if request.line() >= self.lines {
             return Some(NodeRefusal::BadLine);
         }
-        let Ok(_) = request.op() else {
+        let Ok(_) = request.goal() else {
             return Some(NodeRefusal::BadWord);
         };
         None
@@ -195,11 +197,11 @@ impl Node {
         ensures used { OnOk result (self.new ≡ node_used self.old request.now) }
         ensures same { OnErr result (self.new ≡ self.old) }
         ensures same_node { IsSameNode self.old self.new }
-        ensures succeeds { (is_evict request.now ≡ true) ⊎ (is_resident (line_of request.now) self.old.residents ≡ true) → HasNoNeed self.old.keeps request.now (B.told bank.old (line_of request.now)) → IsOk result }
+        ensures succeeds { (is_evict request.now ≡ true) ⊎ (is_resident (line_of request.now) self.old.residents ≡ true) → HasNoNeed self.old.keeps request.now (B.receipts bank.old (line_of request.now)) → IsOk result }
         ensures readied { IsReadied B.readies bank.old bank.new }
-        ensures kept { OnErr result ((m : ℕ) → IsSameButRoom (B.told bank.old m) (B.told bank.new m)) }
-        ensures ready { self.old.keeps ≡ true → OnOk result (AreReadyFor request.now (victim_with self.old request.now) (B.told bank.new)) }
-        ensures others { LeavesOthers B.told self.old request.now bank.old bank.new }
+        ensures kept { OnErr result ((m : ℕ) → IsSameButRoom (B.receipts bank.old m) (B.receipts bank.new m)) }
+        ensures ready { self.old.keeps ≡ true → OnOk result (AreReadyFor request.now (victim_with self.old request.now) (B.receipts bank.new)) }
+        ensures others { LeavesOthers B.receipts self.old request.now bank.old bank.new }
         ensures unready { self.old.keeps ≡ false → bank.new ≡ bank.old }
     {
         if !self.keeps {
@@ -228,9 +230,9 @@ impl Node {
         ensures same_node { IsSameNode self.old self.new }
         ensures succeeds { (is_evict request.now ≡ true) ⊎ (is_resident (line_of request.now) self.old.residents ≡ true) → IsOk result }
         ensures readied { IsReadied B.readies bank.old bank.new }
-        ensures same_receipts { (m : ℕ) → IsSameButRoom (B.told bank.old m) (B.told bank.new m) }
-        ensures room { IfOk result (λ v. IfSome v (λ w. most_needed Goal.Evict ≤ (B.told bank.new w).room)) }
-        ensures others { LeavesOthers B.told self.old request.now bank.old bank.new }
+        ensures same_receipts { (m : ℕ) → IsSameButRoom (B.receipts bank.old m) (B.receipts bank.new m) }
+        ensures room { IfOk result (λ v. IfSome v (λ w. most_needed Goal.Evict ≤ (B.receipts bank.new w).room)) }
+        ensures others { LeavesOthers B.receipts self.old request.now bank.old bank.new }
     {
         if request.is_evict() {
             return Ok(None);
@@ -277,25 +279,25 @@ impl Node {
 
     /// One turn of the open call: of the victim's eviction, as long as there is one, whose end is Moved, and then of the
     /// request's operation. At the end of an eviction its line leaves the table. Where the line at work has the mark and the room
-    /// that it needs, the turn keeps its receipts, as `Op::turn`. Refusal 15 where no call is open, and only there.
+    /// that it needs, the turn keeps its receipts, as `Goal::turn`. Refusal 15 where no call is open, and only there.
     #[inline(always)]
     pub fn turn<B: Bank>(&mut self, bank: &mut B) -> Result<Turn, NodeRefusal>
         requires node { (B.way bank.old).node ≡ self.old.id }
         requires lines { (B.way bank.old).lines ≡ self.old.lines }
-        requires fits { IfSome self.old.call (λ c. StoresFitting (B.Keep.fits (B.keep bank.old) c.line) c.op.goal) }
+        requires fits { IfSome self.old.call (λ c. StoresFitting (B.Keep.fits (B.keep bank.old) c.line) c.goal) }
         ensures turns { TurnsBy B.gives B.at_step self.old self.old.call bank.old result bank.new self.new }
         ensures below { IfSome self.old.call (λ c. line_by c.victim c.line < self.old.lines) }
         ensures same_node { IsSameNode self.old self.new }
-        ensures content { IfSome self.old.call (λ c. IfOk result (λ turn. ShowsAnswerTo (B.Keep.fits (B.keep bank.old) c.line) c.op.goal turn)) }
+        ensures content { IfSome self.old.call (λ c. IfOk result (λ turn. ShowsAnswerTo (B.Keep.fits (B.keep bank.old) c.line) c.goal turn)) }
         ensures idle { IfSome self.old.call (λ c. (self.new.call ≡ self.old.call) ⊎ (B.at_step bank.new (line_by c.victim c.line) ≡ Idle)) }
         ensures rest { IsIdleBut self.old.call (B.at_step bank.old) → IsIdleBut self.new.call (B.at_step bank.new) }
         ensures same_way { B.way bank.new ≡ B.way bank.old }
         ensures same_nodes { (m : ℕ) → B.nodes_on bank.new m ≡ B.nodes_on bank.old m }
         ensures same_fact { B.keep bank.new ≡ B.keep bank.old }
         ensures others { IfSome self.old.call (λ c. (m : ℕ) → m ≢ line_by c.victim c.line → B.at_step bank.new m ≡ B.at_step bank.old m) }
-        ensures kept { IfSome self.old.call (λ c. IfOk result (λ shown. KeepsTurnOf B.gives B.at_step B.told self.old c bank.old shown bank.new self.new)) }
-        ensures provided { IsProvidedFor self.old.call (B.at_step bank.old) (B.told bank.old) → IsProvidedFor self.new.call (B.at_step bank.new) (B.told bank.new) }
-        ensures other_receipts { IfSome self.old.call (λ c. (m : ℕ) → m ≢ line_by c.victim c.line → B.told bank.new m ≡ B.told bank.old m) }
+        ensures kept { IfSome self.old.call (λ c. IfOk result (λ shown. KeepsTurnOf B.gives B.at_step B.receipts self.old c bank.old shown bank.new self.new)) }
+        ensures provided { IsProvidedFor self.old.call (B.at_step bank.old) (B.receipts bank.old) → IsProvidedFor self.new.call (B.at_step bank.new) (B.receipts bank.new) }
+        ensures other_receipts { IfSome self.old.call (λ c. (m : ℕ) → m ≢ line_by c.victim c.line → B.receipts bank.new m ≡ B.receipts bank.old m) }
     {
         let Some(call) = &self.call else {
             return Err(NodeRefusal::NoCall);
@@ -309,16 +311,16 @@ impl Node {
                 Turn::Waiting => return Ok(Turn::Waiting),
                 Turn::Done(_) => (),
             }
-            let op = call.op;
+            let goal = call.goal;
             let victim = None;
-            self.call = Some(OpenCall { line, op, victim });
+            self.call = Some(OpenCall { line, goal, victim });
             return Ok(Turn::Moved);
         }
-        match turn_at(bank, line, call.op.goal(), &mut shown) {
+        match turn_at(bank, line, &call.goal, &mut shown) {
             Turn::Moved => Ok(Turn::Moved),
             Turn::Waiting => Ok(Turn::Waiting),
             Turn::Done(answer) => {
-                let goal = *call.op.goal();
+                let goal = call.goal;
                 self.call = None;
                 if let Goal::Evict = goal {
                     take_out(&mut self.table, line);

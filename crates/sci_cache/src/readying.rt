@@ -14,10 +14,10 @@ use std::alloc::AllocError;
 pub(crate) fn reserve_at<B: Bank>(bank: &mut B, line: LineNo, n: usize) -> Result<(), AllocError>
     requires line { line < (B.way bank.old).lines }
     ensures readied { IsReadied B.readies bank.old bank.new }
-    ensures room { OnOk result (n ≤ (B.told bank.new line).room) }
-    ensures enough { n ≤ (B.told bank.old line).room → IsOk result }
-    ensures same { (m : ℕ) → IsSameButRoom (B.told bank.old m) (B.told bank.new m) }
-    ensures others { (m : ℕ) → m ≢ line → B.told bank.new m ≡ B.told bank.old m }
+    ensures room { OnOk result (n ≤ (B.receipts bank.new line).room) }
+    ensures enough { n ≤ (B.receipts bank.old line).room → IsOk result }
+    ensures same { (m : ℕ) → IsSameButRoom (B.receipts bank.old m) (B.receipts bank.new m) }
+    ensures others { (m : ℕ) → m ≢ line → B.receipts bank.new m ≡ B.receipts bank.old m }
 {
     if n <= bank.room(line) {
         return Ok(());
@@ -33,9 +33,9 @@ const EXIT: usize = 2;
 pub(crate) fn reserve_out<B: Bank>(bank: &mut B, victim: Option<LineNo>) -> Result<(), AllocError>
     requires line { IsLine (B.way bank.old).lines victim }
     ensures readied { IsReadied B.readies bank.old bank.new }
-    ensures room { OnOk result (IfSome victim (λ w. most_needed Goal.Evict ≤ (B.told bank.new w).room)) }
-    ensures same { (m : ℕ) → IsSameButRoom (B.told bank.old m) (B.told bank.new m) }
-    ensures others { (m : ℕ) → IfSome victim (λ w. m ≢ w) → B.told bank.new m ≡ B.told bank.old m }
+    ensures room { OnOk result (IfSome victim (λ w. most_needed Goal.Evict ≤ (B.receipts bank.new w).room)) }
+    ensures same { (m : ℕ) → IsSameButRoom (B.receipts bank.old m) (B.receipts bank.new m) }
+    ensures others { (m : ℕ) → IfSome victim (λ w. m ≢ w) → B.receipts bank.new m ≡ B.receipts bank.old m }
 {
     let Some(victim) = victim else {
         return Ok(());
@@ -50,9 +50,9 @@ pub(crate) fn aim_at<B: Bank>(bank: &mut B, line: LineNo, passing: bool, victim:
     requires other { IsLine (B.way bank.old).lines victim }
     requires apart { IfSome victim (λ w. line ≢ w) }
     ensures readied { IsReadied B.readies bank.old bank.new }
-    ensures mark { (B.told bank.new line).passing ≡ passing }
-    ensures out { IfSome victim (λ w. (B.told bank.new w).passing ≡ true) }
-    ensures others { (m : ℕ) → m ≢ line → IfSome victim (λ w. m ≢ w) → B.told bank.new m ≡ B.told bank.old m }
+    ensures mark { (B.receipts bank.new line).passing ≡ passing }
+    ensures out { IfSome victim (λ w. (B.receipts bank.new w).passing ≡ true) }
+    ensures others { (m : ℕ) → m ≢ line → IfSome victim (λ w. m ≢ w) → B.receipts bank.new m ≡ B.receipts bank.old m }
 {
     bank.aim(line, passing);
     let Some(victim) = victim else {

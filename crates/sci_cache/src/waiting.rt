@@ -25,7 +25,7 @@ use std::sync::Wait;
 #[inline(never)]
 fn leave<B: Bank, R: Wait>(rt: &R, bank: &mut B, victim: LineNo)
     requires line { victim < (B.way bank.old).lines }
-    ensures { HasMadeWay B.way B.nodes_on B.keep B.gives B.readies B.at_step B.told (Some victim) bank.old bank.new }
+    ensures { HasMadeWay B.way B.nodes_on B.keep B.gives B.readies B.at_step B.receipts (Some victim) bank.old bank.new }
 {
     let mut shown = Line::ZERO;
     let backoff = Backoff::new();
@@ -43,7 +43,7 @@ fn leave<B: Bank, R: Wait>(rt: &R, bank: &mut B, victim: LineNo)
 #[inline(always)]
 fn make_way<B: Bank, R: Wait>(rt: &R, bank: &mut B, victim: Option<LineNo>)
     requires line { IsLine (B.way bank.old).lines victim }
-    ensures { HasMadeWay B.way B.nodes_on B.keep B.gives B.readies B.at_step B.told victim bank.old bank.new }
+    ensures { HasMadeWay B.way B.nodes_on B.keep B.gives B.readies B.at_step B.receipts victim bank.old bank.new }
 {
     let Some(victim) = victim else {
         return;
@@ -63,7 +63,7 @@ impl Node {
         requires node { (B.way bank.old).node ≡ self.old.id }
         requires lines { (B.way bank.old).lines ≡ self.old.lines }
         requires fits { StoresFitting (B.Keep.fits (B.keep bank.old) (line_of request)) (goal_of request) }
-        ensures { HasCalled B.way B.nodes_on B.keep B.Keep.fits B.gives B.readies B.at_step B.told self.old request bank.old result bank.new self.new }
+        ensures { HasCalled B.way B.nodes_on B.keep B.Keep.fits B.gives B.readies B.at_step B.receipts self.old request bank.old result bank.new self.new }
     {
         if let Some(refusal) = self.refusal(&request) {
             return Err(refusal);
@@ -73,8 +73,9 @@ impl Node {
         };
         make_way(rt, bank, victim);
         let line = request.line();
-        let Ok(op) = request.op() else { unreachable!() };
-        let goal = *op.goal();
+        let Ok(goal) = request.goal() else {
+            unreachable!()
+        };
         let mut shown = Line::ZERO;
         let backoff = Backoff::new();
         for _ in rt.forever() {
@@ -102,7 +103,7 @@ impl Node {
     ) -> Result<Answer, NodeRefusal>
         requires node { (B.way bank.old).node ≡ self.old.id }
         requires lines { (B.way bank.old).lines ≡ self.old.lines }
-        ensures { HasCalled B.way B.nodes_on B.keep B.Keep.fits B.gives B.readies B.at_step B.told self.old (request.Request.Load line) bank.old result bank.new self.new }
+        ensures { HasCalled B.way B.nodes_on B.keep B.Keep.fits B.gives B.readies B.at_step B.receipts self.old (request.Request.Load line) bank.old result bank.new self.new }
     {
         self.call(rt, bank, Request::Load { line })
     }
@@ -121,7 +122,7 @@ impl Node {
         requires node { (B.way bank.old).node ≡ self.old.id }
         requires lines { (B.way bank.old).lines ≡ self.old.lines }
         requires fits { StoresFitting (B.Keep.fits (B.keep bank.old) line) (goal.Goal.Write (write.Write.Store word value)) }
-        ensures { HasCalled B.way B.nodes_on B.keep B.Keep.fits B.gives B.readies B.at_step B.told self.old (request.Request.Store line word value) bank.old result bank.new self.new }
+        ensures { HasCalled B.way B.nodes_on B.keep B.Keep.fits B.gives B.readies B.at_step B.receipts self.old (request.Request.Store line word value) bank.old result bank.new self.new }
     {
         self.call(rt, bank, Request::Store { line, word, value })
     }
@@ -140,7 +141,7 @@ impl Node {
         requires node { (B.way bank.old).node ≡ self.old.id }
         requires lines { (B.way bank.old).lines ≡ self.old.lines }
         requires fits { StoresFitting (B.Keep.fits (B.keep bank.old) line) (goal.Goal.Write (write.Write.Add word delta)) }
-        ensures { HasCalled B.way B.nodes_on B.keep B.Keep.fits B.gives B.readies B.at_step B.told self.old (request.Request.Add line word delta) bank.old result bank.new self.new }
+        ensures { HasCalled B.way B.nodes_on B.keep B.Keep.fits B.gives B.readies B.at_step B.receipts self.old (request.Request.Add line word delta) bank.old result bank.new self.new }
     {
         self.call(rt, bank, Request::Add { line, word, delta })
     }
@@ -158,7 +159,7 @@ impl Node {
         requires node { (B.way bank.old).node ≡ self.old.id }
         requires lines { (B.way bank.old).lines ≡ self.old.lines }
         requires fits { StoresFitting (B.Keep.fits (B.keep bank.old) line) (goal.Goal.Write (write.Write.Line words)) }
-        ensures { HasCalled B.way B.nodes_on B.keep B.Keep.fits B.gives B.readies B.at_step B.told self.old (request.Request.WriteLine line words) bank.old result bank.new self.new }
+        ensures { HasCalled B.way B.nodes_on B.keep B.Keep.fits B.gives B.readies B.at_step B.receipts self.old (request.Request.WriteLine line words) bank.old result bank.new self.new }
     {
         self.call(rt, bank, Request::WriteLine { line, words })
     }
@@ -174,7 +175,7 @@ impl Node {
     ) -> Result<Answer, NodeRefusal>
         requires node { (B.way bank.old).node ≡ self.old.id }
         requires lines { (B.way bank.old).lines ≡ self.old.lines }
-        ensures { HasCalled B.way B.nodes_on B.keep B.Keep.fits B.gives B.readies B.at_step B.told self.old (request.Request.Evict line) bank.old result bank.new self.new }
+        ensures { HasCalled B.way B.nodes_on B.keep B.Keep.fits B.gives B.readies B.at_step B.receipts self.old (request.Request.Evict line) bank.old result bank.new self.new }
     {
         self.call(rt, bank, Request::Evict { line })
     }

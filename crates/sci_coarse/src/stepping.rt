@@ -57,7 +57,7 @@ impl<K: Keeps> Seat<K> {
         ensures made { HasMade K.fits self.old (Stepped event result) self.new }
         ensures receives { HasReceived self.old (Stepped event result) self.new }
     {
-        if self.receipts.keeps(&event) {
+        if self.receipts.has_room_for(&event) {
             self.make_kept(line, event)
         } else {
             self.make(line, event)

@@ -84,8 +84,8 @@ pub const OUTCOMES: &str = "\
 Takes the calls that a script leaves open through every order of their turns.
 
 Prints `states N`, how many there are; `outcomes N`; and each outcome behind an empty line: what the calls'
-ends print, by node, the list of each line, and a shortest order of turns that leads there: put behind the script, they lead `script`
-to it. An order that never ends has no outcome.
+ends print, by node, the list of each line, and a shortest order of turns that, put behind the script, leads there. An order that never
+ends has no outcome.
 
 --page: every state, in one file of HTML. In a browser a click on a node, or its key, 0 to 9, takes its turn; Backspace or the left
 arrow takes it back, the right arrow takes it again, R starts again, H hides what a turn will do. #path=0,1,1,2 behind the page's
@@ -100,7 +100,7 @@ Example:
 /// What `scisim talk --help` says behind its options.
 pub const TALK: &str = "\
 Answers each line before it reads on: what it prints, then `ok`, or `refused N` alone. A comment or blank line is answered `ok` too.
-`memory`, which begins anew, `capacity` and `open` come first; the next command opens the memory.
+Until a command opens the memory, `memory` begins anew.
 
 Refusals are those of `script`; 16 also a line of more than 1048576 bytes. Nothing was changed, but that on 18 the turns were taken, and
 on 7 what the command did before stays. With --why the reason of each stands on standard error.

@@ -10,7 +10,7 @@ use Rattle.sci_core.specs.declared.rows.Change.{Change}
 use Rattle.sci_core.specs.declared.rows.Place.{Place}
 use Rattle.sci_core.specs.declared.rows.Carry.{Carry}
 use Rattle.sci_core.specs.State.{State, update, word, held_word, unheld_word}
-use Rattle.sci_core.specs.Shape.{phase_of}
+use Rattle.sci_core.specs.Shape.{phase_of, kept_line}
 use Rattle.sci_core.specs.Law.{can_be_held, has_slot, is_valid}
 use Rattle.sci_core.specs.Row.{Row, exchange_with, queued_word, purging_word, settled_word}
 use Rattle.sci_core.specs.Table.{row_of}
@@ -22,7 +22,7 @@ use Rattle.sci_core.specs.Table.Rolling.{rolling_row}
 use Rattle.sci_core.specs.Step.{stepped, taken_line, tags_after, slots_after}
 use Rattle.sci_core.specs.Answers.{Makes, row_at}
 use Rattle.sci_core.specs.PendingStep.{IsOwnWord}
-use Rattle.sci_core.specs.Copies.{HasInHand, kept_line}
+use Rattle.sci_core.specs.Copies.{HasInHand}
 use Rattle.sci_core.specs.Run.{HasValue}
 
 -- the row makes its actor a valid sharer, with this line in its slot or in its hand

@@ -4,9 +4,9 @@ use Rattle.std.specs.Option.{option_or}
 use Rattle.sci_core.specs.declared.lines.Line.{Line}
 use Rattle.sci_core.specs.declared.pending.Pending.{Pending}
 use Rattle.sci_core.specs.State.{State}
-use Rattle.sci_core.specs.Shape.{Phase, shape, phase_of}
+use Rattle.sci_core.specs.Shape.{Phase, shape, phase_of, kept_line}
 use Rattle.sci_core.specs.Law.{Law, Witness}
-use Rattle.sci_core.specs.Copies.{IsCopy, IsCopying, IsMemoryCopy, kept_line}
+use Rattle.sci_core.specs.Copies.{IsCopy, IsCopying, IsMemoryCopy}
 use Rattle.sci_core.specs.Hands.{FindsKept, HasMemorySlot}
 use Rattle.sci_core.specs.Sharers.{IsValidSharer}
 use Rattle.sci_core.specs.Whole.{WholeLine, state_of, IsSound}

@@ -7,7 +7,8 @@ use Rattle.sci_core.specs.declared.lines.Line.{Line}
 use Rattle.sci_core.specs.State.{State}
 use Rattle.sci_core.specs.Chain.{IsPath, forward}
 use Rattle.sci_core.specs.Fronts.{IsFrontWord, IsBodyWord, IsLastFront}
-use Rattle.sci_core.specs.Copies.{IsCopy, IsMemoryCopy, kept_line}
+use Rattle.sci_core.specs.Copies.{IsCopy, IsMemoryCopy}
+use Rattle.sci_core.specs.Shape.{kept_line}
 use Rattle.sci_core.specs.Slots.{HasSlotsInHands}
 use Rattle.sci_core.specs.Lawful.{Lawful}
 use Rattle.sci_core.proofs.ReadBack.Chain.{path_unique}

@@ -3,23 +3,8 @@ use Rattle.std.specs.Prelude.{◌≡◌, ◌⊎◌, ℕ, true, Option, Some, Non
 use Rattle.sci_core.specs.declared.lines.Line.{Line}
 use Rattle.sci_core.specs.declared.pending.Pending.{Pending}
 use Rattle.sci_core.specs.State.{State}
-use Rattle.sci_core.specs.Shape.{phase_of}
+use Rattle.sci_core.specs.Shape.{kept_line, phase_of}
 use Rattle.sci_core.specs.Law.{has_slot, has_memory_slot}
-
--- the line that a step keeps
-abbrev pub kept_line : Pending → Option Line
-kept_line (Pending.Holding w line) = Some line
-kept_line (Pending.Fetching forw dirty line) = Some line
-kept_line (Pending.InQueue forw dirty copy) = copy
-kept_line (Pending.Copying forw w line) = Some line
-kept_line (Pending.Ready forw dirty line) = Some line
-kept_line (Pending.Purging line seen) = Some line
-kept_line (Pending.Advancing line victim w) = Some line
-kept_line (Pending.Clearing line victim w) = Some line
-kept_line (Pending.Leaving dirty line seen) = Some line
-kept_line (Pending.Promoted dirty line succ) = Some line
-kept_line (Pending.WritingBack line) = Some line
-kept_line _ = None
 
 -- it copies the bytes of node i
 abbrev pub IsCopying : Pending → ℕ → Type 0

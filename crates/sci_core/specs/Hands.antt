@@ -2,9 +2,8 @@
 use Rattle.std.specs.Prelude.{◌≡◌, ℕ, true, Option, Some, None}
 use Rattle.sci_core.specs.declared.lines.Line.{Line}
 use Rattle.sci_core.specs.declared.pending.Pending.{Pending}
-use Rattle.sci_core.specs.Shape.{phase_of}
+use Rattle.sci_core.specs.Shape.{phase_of, kept_line}
 use Rattle.sci_core.specs.Law.{has_memory_slot}
-use Rattle.sci_core.specs.Copies.{kept_line}
 
 -- it has memory's slot in hand
 abbrev pub HasMemorySlot : Pending → Type 0

@@ -5,6 +5,7 @@ pub mod Row
 pub mod Found
 pub mod Table
 pub mod Step
+pub mod EventNumber
 pub mod Ranges
 pub mod WellFormed
 pub mod Stage

@@ -7,9 +7,8 @@ use Rattle.sci_words.specs.declared.memory.MemState.{MemState}
 use Rattle.sci_core.specs.declared.lines.Line.{Line}
 use Rattle.sci_core.specs.declared.pending.Pending.{Pending}
 use Rattle.sci_core.specs.State.{State}
-use Rattle.sci_core.specs.Shape.{Phase, phase_of}
+use Rattle.sci_core.specs.Shape.{Phase, phase_of, kept_line}
 use Rattle.sci_core.specs.Fronts.{IsLastFront, IsWaitingFront}
-use Rattle.sci_core.specs.Copies.{kept_line}
 
 -- the step says that its bytes are dirty
 abbrev pub is_dirty_step : Pending → Bool

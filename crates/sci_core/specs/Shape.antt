@@ -1,5 +1,6 @@
 -- A line's state as functions of the node, field by field: what the law and its proofs read.
 use Rattle.std.specs.Prelude.{ℕ, Bool, true, false, Option, Some, None}
+use Rattle.std.specs.Option.{unwrap_or}
 use Rattle.sci_words.specs.declared.tags.Kind.{Kind}
 use Rattle.sci_words.specs.declared.tags.Tag.{Tag}
 use Rattle.sci_words.specs.declared.memory.MemState.{MemState}
@@ -131,19 +132,24 @@ abbrev pub has_copy : Pending → Bool
 has_copy (Pending.InQueue f d (Some l)) = true
 has_copy _ = false
 
+-- the line that a step keeps
+abbrev pub kept_line : Pending → Option Line
+kept_line (Pending.Holding w line) = Some line
+kept_line (Pending.Fetching forw dirty line) = Some line
+kept_line (Pending.InQueue forw dirty copy) = copy
+kept_line (Pending.Copying forw w line) = Some line
+kept_line (Pending.Ready forw dirty line) = Some line
+kept_line (Pending.Purging line seen) = Some line
+kept_line (Pending.Advancing line victim w) = Some line
+kept_line (Pending.Clearing line victim w) = Some line
+kept_line (Pending.Leaving dirty line seen) = Some line
+kept_line (Pending.Promoted dirty line succ) = Some line
+kept_line (Pending.WritingBack line) = Some line
+kept_line _ = None
+
+-- the same, or a blank one
 abbrev pub line_of : Pending → Line
-line_of (Pending.Holding w l) = l
-line_of (Pending.Fetching f d l) = l
-line_of (Pending.InQueue f d (Some l)) = l
-line_of (Pending.Copying f w l) = l
-line_of (Pending.Ready f d l) = l
-line_of (Pending.Purging l s) = l
-line_of (Pending.Advancing l v w) = l
-line_of (Pending.Clearing l v w) = l
-line_of (Pending.Leaving d l s) = l
-line_of (Pending.Promoted d l s) = l
-line_of (Pending.WritingBack l) = l
-line_of _ = blank
+line_of p = unwrap_or (kept_line p) blank
 
 abbrev pub shape : State → Shape
 shape s = record {

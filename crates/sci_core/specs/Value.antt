@@ -6,7 +6,8 @@ use Rattle.sci_core.specs.declared.lines.Line.{Line}
 use Rattle.sci_core.specs.State.{State}
 use Rattle.sci_core.specs.Fronts.{IsLastFront}
 use Rattle.sci_core.specs.Sharers.{IsValidSharer}
-use Rattle.sci_core.specs.Copies.{IsCopy, IsMemoryCopy, kept_line}
+use Rattle.sci_core.specs.Copies.{IsCopy, IsMemoryCopy}
+use Rattle.sci_core.specs.Shape.{kept_line}
 
 -- the value is the keeper's copy: memory's under HOME and FRESH, the last front's under GONE
 pub record IsValue (s : State) (nodes : List ℕ) (v : Line) : Type 0 where

@@ -1,7 +1,7 @@
 //! The lines of a `Whole` as they stand, in a slot or in the hand that has it.
 ghost use Rattle.std.specs.Prelude.{◌≡◌, ◌<◌, ◌↔◌, true, IsTrue, length};
 ghost use Rattle.sci_core.specs.declared.lines.Line as a_line;
-ghost use Rattle.sci_core.specs.Copies.{IsCopy, IsCopying, IsMemoryCopy, kept_line};
+ghost use Rattle.sci_core.specs.Copies.{IsCopy, IsCopying, IsMemoryCopy};
 ghost use Rattle.sci_core.specs.Hands.{FindsKept, HasMemorySlot};
 ghost use Rattle.sci_core.specs.Laid.{slot_of, memory_slot_of, step_laid};
 ghost use Rattle.sci_core.specs.Law.{has_memory_slot, has_slot};
@@ -17,28 +17,6 @@ use crate::stages::Stage;
 use crate::whole::Whole;
 use sci_words::{Mem, NodeId, Tag};
 use std::fmt;
-
-impl Pending {
-    // The line that the step keeps, where it keeps one.
-    fn kept_line(&self) -> Option<Line>
-        ensures { result ≡ kept_line self.now }
-    {
-        match self {
-            Pending::Holding { line, .. }
-            | Pending::Fetching { line, .. }
-            | Pending::Copying { line, .. }
-            | Pending::Ready { line, .. }
-            | Pending::Purging { line, .. }
-            | Pending::Advancing { line, .. }
-            | Pending::Clearing { line, .. }
-            | Pending::Leaving { line, .. }
-            | Pending::Promoted { line, .. }
-            | Pending::WritingBack { line } => Some(*line),
-            Pending::InQueue { copy, .. } => *copy,
-            _ => None,
-        }
-    }
-}
 
 /// Its stage, and the line that it keeps, where it keeps one.
 impl fmt::Debug for Pending {

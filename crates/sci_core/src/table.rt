@@ -2,7 +2,7 @@
 ghost use Rattle.std.specs.Prelude.{◌≡◌, ◌||◌, cond, Some, None};
 ghost use Rattle.sci_core.specs.declared.lines.Line as a_line;
 ghost use Rattle.sci_core.specs.Row.{exchange_with};
-ghost use Rattle.sci_core.specs.Shape.{line_of};
+ghost use Rattle.sci_core.specs.Shape.{kept_line, line_of};
 ghost use Rattle.sci_core.specs.Stage.{outline_of, pending_of, stage_of};
 ghost use Rattle.sci_core.specs.Table.{has_row, row_of};
 ghost use Rattle.sci_core.specs.Step.{look_of, is_look, CanCount};
@@ -192,9 +192,10 @@ impl Pending {
         }
     }
 
-    // The line that the step keeps, or a blank one.
-    fn line(&self) -> Line
-        ensures { result ≡ line_of self.now }
+    /// The line that the step keeps, where it keeps one.
+    #[inline(always)]
+    pub fn kept_line(&self) -> Option<Line>
+        ensures { result ≡ kept_line self.now }
     {
         match self {
             Pending::Holding { line, .. }
@@ -206,10 +207,17 @@ impl Pending {
             | Pending::Clearing { line, .. }
             | Pending::Leaving { line, .. }
             | Pending::Promoted { line, .. }
-            | Pending::WritingBack { line } => *line,
-            Pending::InQueue { copy, .. } => copy.unwrap_or(Line::ZERO),
-            _ => Line::ZERO,
+            | Pending::WritingBack { line } => Some(*line),
+            Pending::InQueue { copy, .. } => *copy,
+            _ => None,
         }
+    }
+
+    // The same, or a blank one.
+    fn line(&self) -> Line
+        ensures { result ≡ line_of self.now }
+    {
+        self.kept_line().unwrap_or(Line::ZERO)
     }
 
     /// Whether the node `me`, one of `nodes`, may make this event in this step: a look always, an exchange where the

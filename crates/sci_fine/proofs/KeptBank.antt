@@ -39,11 +39,11 @@ module _ {K : Type 0} {g : keeps.Ghosts K} where
   ready_keeps before after line r h all = replaced before after line h.later h.seats (stays_readied h.seat r h.later h.made (all line h.seat h.at)) all
 
   -- a bank whose calls are those of its seats
-  module _ {U : Type 0} (gives : U → ℕ → Call → U → Type 0) (readies : U → ℕ → Readying → U → Type 0) (told : U → ℕ → ReceiptList) (fits : K → ℕ → List ℕ → Type 0) (seats : U → List (Seat K g))
+  module _ {U : Type 0} (gives : U → ℕ → Call → U → Type 0) (readies : U → ℕ → Readying → U → Type 0) (receipts : U → ℕ → ReceiptList) (fits : K → ℕ → List ℕ → Type 0) (seats : U → List (Seat K g))
       (makes : (u : U) (line : ℕ) (call : Call) (v : U) → gives u line call v → MakesCall (λ (s : Seat K g) c t. HasMade fits s c t × HasReceived s c t) (seats u) line call (seats v))
       (makes_ready : (u : U) (line : ℕ) (r : Readying) (v : U) → readies u line r v → MakesReady (λ (s : Seat K g) r t. HasReadied s r t) (seats u) line r (seats v))
-      (tells : (u : U) (line : ℕ) → told u line ≡ receipts_at (receipts_of (λ (s : Seat K g). seating_of s) (seats u)) line) where
-    pub bank_keeps : {u v : U} → KeepsAll gives readies told u v → AllKept (seats u) → AllKept (seats v)
+      (tells : (u : U) (line : ℕ) → receipts u line ≡ receipts_at (receipts_of (λ (s : Seat K g). seating_of s) (seats u)) line) where
+    pub bank_keeps : {u v : U} → KeepsAll gives readies receipts u v → AllKept (seats u) → AllKept (seats v)
     bank_keeps keeps_none all = all
     bank_keeps {u = u} (keeps_call {w = w} line call given room rest) all = bank_keeps rest (call_keeps fits (seats u) (seats w) line call (makes u line call w given) (subst (HasRoomFor call) (tells u line) room) all)
     bank_keeps {u = u} (keeps_ready {w = w} line r given rest) all = bank_keeps rest (ready_keeps (seats u) (seats w) line r (makes_ready u line r w given) all)

@@ -115,10 +115,10 @@ impl<K: Keeps> Seat<K> {
         ensures made { HasMade K.fits self.old (Stepped event.now result) self.new }
         ensures receives { HasReceived self.old (Stepped event.now result) self.new }
     {
-        let keeps = self.receipts.keeps(event);
+        let is_kept = self.receipts.has_room_for(event);
         let before = self.standing.line();
         let outcome = self.make(line, event);
-        self.receipts.receive_if(keeps, event, &before, &outcome);
+        self.receipts.receive_if(is_kept, event, &before, &outcome);
         outcome
     }
 }

@@ -4,7 +4,7 @@ ghost use Rattle.std.specs.Prelude.{◌≡◌};
 ghost use Rattle.sci_follow.specs.LineText.{Gives, bare_told_at, bracketed_link_at, link_at, long_told_at, maybe_words_at, new_words_at, other_told_at, own_told_at, queue_at, requeue_at, some_node_at, tag_told_at, told_at, whose_at, written_at};
 
 use crate::event_names::{bare_event, other_asks, own_asks};
-use crate::fields::{closed, count, label, space, values};
+use crate::fields::{MOST_NODE, closed, count, label, space, values};
 use crate::parts::{Lack, Part};
 use crate::tag_text::asked;
 use crate::told::{Asks, Told};
@@ -17,7 +17,7 @@ use sci_words::NodeId;
 fn some_node(text: &[u8]) -> Result<(Option<NodeId>, &[u8]), Lack>
     ensures { Gives (λ x. (x.0, x.1.now)) result (some_node_at text.now) }
 {
-    let (node, rest) = count(Part::Link, 65534, text)?;
+    let (node, rest) = count(Part::Link, MOST_NODE, text)?;
     Ok((Some(NodeId::new(node).unwrap()), rest))
 }
 
@@ -85,7 +85,7 @@ fn whose(text: &[u8]) -> Result<(NodeId, &[u8]), Lack>
     ensures { Gives (λ x. (x.0, x.1.now)) result (whose_at text.now) }
 {
     let text = label(Part::Opened, b"(", text)?;
-    let (node, text) = count(Part::NodeNumber, 65534, text)?;
+    let (node, text) = count(Part::NodeNumber, MOST_NODE, text)?;
     let rest = space(text)?;
     Ok((NodeId::new(node).unwrap(), rest))
 }

@@ -7,6 +7,12 @@ use crate::parts::{Lack, Part};
 use sci_core::Line;
 use sci_dump::fields::{behind, capped, number};
 
+/// The highest number of a node that a word of layout 2 holds.
+pub(crate) const MOST_NODE: u16 = 65_534;
+
+/// The highest number of a line.
+pub(crate) const MOST_LINE: u16 = u16::MAX;
+
 /// These bytes, which are this part.
 #[tactic(auto, unfolding(crate::specs::LineText::label_at))]
 #[inline(always)]

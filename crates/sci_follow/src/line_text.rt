@@ -5,7 +5,7 @@ ghost use Rattle.sci_follow.specs.LineText.{Gives, busy_at, claim_at, done_at, e
 
 use crate::entries::Claim;
 use crate::event_text::told_event;
-use crate::fields::{content, count, end, label, space, word_and_space};
+use crate::fields::{MOST_LINE, MOST_NODE, content, count, end, label, space, word_and_space};
 use crate::parts::{Lack, Part};
 use crate::told::{Found, Noted, Told};
 use sci_core::Line;
@@ -131,7 +131,7 @@ fn ended(node: NodeId, line: LineNo, text: &[u8]) -> Result<Noted, Lack>
 fn placed(node: NodeId, text: &[u8]) -> Result<Noted, Lack>
     ensures { Gives (λ x. x) result (placed_at node text.now) }
 {
-    let (line, rest) = numbered(Part::OnLine, b"line", Part::LineNumber, 65535, text)?;
+    let (line, rest) = numbered(Part::OnLine, b"line", Part::LineNumber, MOST_LINE, text)?;
     ended(node, line, rest)
 }
 
@@ -141,7 +141,7 @@ fn placed(node: NodeId, text: &[u8]) -> Result<Noted, Lack>
 pub fn read_entry(text: &[u8]) -> Result<Noted, Lack>
     ensures { Gives (λ x. x) result (noted_at text.now) }
 {
-    let (node, rest) = numbered(Part::Node, b"node", Part::NodeNumber, 65534, text)?;
+    let (node, rest) = numbered(Part::Node, b"node", Part::NodeNumber, MOST_NODE, text)?;
     placed(NodeId::new(node).unwrap(), rest)
 }
 
@@ -151,8 +151,8 @@ pub fn read_memory(text: &[u8]) -> Result<Size, Lack>
     ensures { Gives (λ s. s) result (memory_at text.now) }
 {
     let size = Part::Number { low: 1, high: 1024 };
-    let (nodes, text) = numbered(Part::Memory, b"memory", size, 65535, text)?;
-    let (lines, rest) = count(size, 65535, text)?;
+    let (nodes, text) = numbered(Part::Memory, b"memory", size, MOST_LINE, text)?;
+    let (lines, rest) = count(size, MOST_LINE, text)?;
     end(rest)?;
     Ok(Size { nodes, lines })
 }
@@ -163,7 +163,7 @@ pub fn read_opening(text: &[u8]) -> Result<(LineNo, Line), Lack>
     ensures { Gives (λ x. x) result (opening_at text.now) }
 {
     let text = word_and_space(Part::Open, b"open", text)?;
-    let (line, text) = count(Part::LineNumber, 65535, text)?;
+    let (line, text) = count(Part::LineNumber, MOST_LINE, text)?;
     let content = content(Part::SpacedValue, text)?;
     Ok((line, content))
 }

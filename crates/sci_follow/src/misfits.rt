@@ -4,7 +4,7 @@ ghost use Rattle.sci_follow.specs.LineText.{Gives};
 ghost use Rattle.sci_follow.specs.Reasons.{event_misfit, line_misfit, memory_misfit, opening_misfit, whose_misfit};
 
 use crate::event_names::other_asks;
-use crate::fields::{count, label, space, word_and_space};
+use crate::fields::{MOST_LINE, MOST_NODE, count, label, space, word_and_space};
 use crate::parts::{Lack, Part};
 use sci_script::Size;
 
@@ -15,7 +15,7 @@ pub(crate) fn memory_misfit(text: &[u8]) -> Result<Lack, Lack>
 {
     let size = Part::Number { low: 1, high: 1024 };
     let place = word_and_space(Part::Memory, b"memory", text)?;
-    let (nodes, text) = count(size, 65535, place)?;
+    let (nodes, text) = count(size, MOST_LINE, place)?;
     let lines = space(text)?;
     let is_nodes = 1 <= nodes && nodes <= 1024;
     Ok(Lack::new(size, if is_nodes { lines } else { place }))
@@ -49,7 +49,7 @@ fn line_misfit(lines: u16, text: &[u8]) -> Result<Lack, Lack>
 {
     let text = space(text)?;
     let place = word_and_space(Part::OnLine, b"line", text)?;
-    let (line, text) = count(Part::LineNumber, 65535, place)?;
+    let (line, text) = count(Part::LineNumber, MOST_LINE, place)?;
     if line < lines {
         whose_misfit(space(text)?)
     } else {
@@ -63,7 +63,7 @@ pub(crate) fn event_misfit(size: Size, text: &[u8]) -> Result<Lack, Lack>
     ensures { Gives (λ l. l) result (event_misfit size text.now) }
 {
     let place = word_and_space(Part::Node, b"node", text)?;
-    let (node, text) = count(Part::NodeNumber, 65534, place)?;
+    let (node, text) = count(Part::NodeNumber, MOST_NODE, place)?;
     if node < size.nodes {
         line_misfit(size.lines, text)
     } else {

@@ -6,7 +6,7 @@ mod receipts;
 
 use crate::checks::same;
 use sci_core::{Event, Line, Outcome, Pending, Whole};
-use sci_port::recording::{Recorder, Trace};
+use sci_port::recording::{EventList, Recorder};
 use sci_port::*;
 use sci_words::{Kind, LineNo, MemState, NodeId, Tag};
 use std::alloc::Global;
@@ -53,7 +53,7 @@ fn step_of<P: Port<Keep = AnyWords>>(port: &mut P, event: Event) -> Option<Outco
 /// The same through a recorder of the port.
 fn record_of<P: Port<Keep = AnyWords>>(
     port: &mut P,
-    trace: &mut Trace,
+    trace: &mut EventList,
     event: Event,
 ) -> Option<Outcome> {
     step_of(&mut Recorder::new(port, trace), event)
@@ -62,7 +62,7 @@ fn record_of<P: Port<Keep = AnyWords>>(
 /// One event of a node through a port that records it, if there is that node and its step allows it.
 fn step(
     whole: &mut Whole<AnyWords>,
-    trace: &mut Trace,
+    trace: &mut EventList,
     number: u16,
     event: Event,
 ) -> Option<Outcome> {
@@ -75,10 +75,10 @@ fn step(
 }
 
 /// A line of two nodes, and a trace with so much room.
-fn opened(alloc: Global, room: usize) -> Result<(Whole<AnyWords>, Trace), Fail> {
+fn opened(alloc: Global, room: usize) -> Result<(Whole<AnyWords>, EventList), Fail> {
     let whole = Whole::open(alloc, 2, 0, LINE, AnyWords)?;
     let events = Vec::with_capacity(alloc, room)?;
-    Ok((whole, Trace::new(events)))
+    Ok((whole, EventList::new(events)))
 }
 
 /// A node's event, and what it comes to. None: it isn't allowed.
@@ -108,13 +108,13 @@ fn behind_the_miss() -> [Row; 3] {
 }
 
 // An event of a node through a port that records it comes to this.
-fn comes_to(rt: &impl Abort, whole: &mut Whole<AnyWords>, trace: &mut Trace, row: &Row) {
+fn comes_to(rt: &impl Abort, whole: &mut Whole<AnyWords>, trace: &mut EventList, row: &Row) {
     let (number, event, outcome) = *row;
     same(rt, &step(whole, trace, number, event), &outcome);
 }
 
 // What passed at the miss and behind it stands in the trace.
-fn shows_the_miss(rt: &impl Abort, trace: &Trace) -> Result<(), Fail> {
+fn shows_the_miss(rt: &impl Abort, trace: &EventList) -> Result<(), Fail> {
     let events = trace.events().ok_or("no room")?;
     let miss = [(node(0), Event::FreshToGone), (node(0), Event::Unconverted)];
     same(rt, &events.len(), &10);
@@ -157,7 +157,7 @@ fn says<P: Port>(port: &mut P) -> Says
 }
 
 // What node 2's port to a line says, through a recorder of it; if there is that node.
-fn says_recorded(whole: &mut Whole<AnyWords>, trace: &mut Trace) -> Option<Says> {
+fn says_recorded(whole: &mut Whole<AnyWords>, trace: &mut EventList) -> Option<Says> {
     let me = node(2);
     if me.get() >= whole.nodes() {
         return None;
@@ -170,7 +170,7 @@ fn says_recorded(whole: &mut Whole<AnyWords>, trace: &mut Trace) -> Option<Says>
 #[test]
 fn loads_the_words_that_stand(rt: HostRuntime) -> Result<(), Fail> {
     let mut whole = Whole::open(rt.alloc(), 3, 7, LINE, AnyWords)?;
-    let mut trace = Trace::new(Vec::with_capacity(rt.alloc(), 16)?);
+    let mut trace = EventList::new(Vec::with_capacity(rt.alloc(), 16)?);
     let said = says_recorded(&mut whole, &mut trace);
     let (home, invalid) = (Some(MemState::Home), Some(Kind::Invalid));
     let want = (2, 3, 7, Pending::Idle, home, [invalid; 2]);

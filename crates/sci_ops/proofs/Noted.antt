@@ -57,16 +57,16 @@ module _ (p : Pending) (r q : ReceiptList) (room : 0 < r.room) where
   appended Goal.Evict Answer.Out (Own (Some x)) mark h k = same_list r q (k.kept tt)
   appended _ a call mark h k = absurd h
 
-module _ {S : Type 0} (gives : S → Call → S → Type 0) (at_step : S → Pending) (told : S → ReceiptList) (receives : (s : S) (call : Call) (t : S) → gives s call t → ReceivesIfRoom (at_step s) call (told s) (told t)) where
+module _ {S : Type 0} (gives : S → Call → S → Type 0) (at_step : S → Pending) (receipts : S → ReceiptList) (receives : (s : S) (call : Call) (t : S) → gives s call t → ReceivesIfRoom (at_step s) call (receipts s) (receipts t)) where
   module _ (goal : Goal) (a : Answer) where
     -- a load leaves the receipts
-    back : (s mid t : S) → told mid ≡ told s → (0 < (told mid).room → IsAimedAt goal (told mid) → AppendsAnswer goal a (told mid).list (told t).list) → 0 < (told s).room → IsAimedAt goal (told s) → AppendsAnswer goal a (told s).list (told t).list
-    back s mid t same = subst (λ (r : ReceiptList). 0 < r.room → IsAimedAt goal r → AppendsAnswer goal a r.list (told t).list) same
+    back : (s mid t : S) → receipts mid ≡ receipts s → (0 < (receipts mid).room → IsAimedAt goal (receipts mid) → AppendsAnswer goal a (receipts mid).list (receipts t).list) → 0 < (receipts s).room → IsAimedAt goal (receipts s) → AppendsAnswer goal a (receipts s).list (receipts t).list
+    back s mid t same = subst (λ (r : ReceiptList). 0 < r.room → IsAimedAt goal r → AppendsAnswer goal a r.list (receipts t).list) same
 
     -- and the exchange behind the loads appends the answer
-    lasts : (plan : Plan) (s t : S) (calls : List Call) → Follows plan calls (Turn.Done a) → ChainTo gives (λ u call. IsAnswer goal a (at_step u) call) s calls t → 0 < (told s).room → IsAimedAt goal (told s) → AppendsAnswer goal a (told s).list (told t).list
+    lasts : (plan : Plan) (s t : S) (calls : List Call) → Follows plan calls (Turn.Done a) → ChainTo gives (λ u call. IsAnswer goal a (at_step u) call) s calls t → 0 < (receipts s).room → IsAimedAt goal (receipts s) → AppendsAnswer goal a (receipts s).list (receipts t).list
     lasts plan s t [] f chain room mark = absurd chain
-    lasts plan s t (c ∷ []) f chain room mark = appended (at_step s) (told s) (told t) room goal a c mark chain.1 (receives s c t chain.0)
+    lasts plan s t (c ∷ []) f chain room mark = appended (at_step s) (receipts s) (receipts t) room goal a c mark chain.1 (receives s c t chain.0)
     lasts (own next) s t (Own (Some x) ∷ d ∷ ds) f chain room mark = back s chain.0 t ((receives s (Own (Some x)) chain.0 chain.1).kept tt) (lasts (next x) chain.0 t (d ∷ ds) f chain.2) room mark
     lasts (mem next) s t (MemWas (Some x) ∷ d ∷ ds) f chain room mark = back s chain.0 t ((receives s (MemWas (Some x)) chain.0 chain.1).kept tt) (lasts (next x) chain.0 t (d ∷ ds) f chain.2) room mark
     lasts (tag node next) s t (TagWas y (Some x) ∷ d ∷ ds) f chain room mark = back s chain.0 t ((receives s (TagWas y (Some x)) chain.0 chain.1).kept tt) (lasts (next x) chain.0 t (d ∷ ds) f.1 chain.2) room mark
@@ -77,7 +77,7 @@ module _ {S : Type 0} (gives : S → Call → S → Type 0) (at_step : S → Pen
     lasts _ s t (c ∷ d ∷ ds) f chain room mark = absurd f
 
   -- the turn that ends an operation leaves its answer as the last receipt
-  pub keeps_answer : (op : Operation) (me : ℕ) (s t : S) (turn : Turn) → AnswersAt gives at_step op me s turn t → KeepsAnswer op turn (told s) (told t)
+  pub keeps_answer : (op : Operation) (me : ℕ) (s t : S) (turn : Turn) → AnswersAt gives at_step op me s turn t → KeepsAnswer op turn (receipts s) (receipts t)
   keeps_answer op me s t (Turn.Done a) h = λ none. let answers = h none in lasts op.goal a (turn_in op.goal me (at_step s)) s t answers.calls answers.follows answers.chain
   keeps_answer op me s t Turn.Moved h = tt
   keeps_answer op me s t Turn.Waiting h = tt

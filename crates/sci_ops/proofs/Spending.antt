@@ -447,70 +447,70 @@ spends goal me (Pending.Parted f) = by_exchange (quiet goal (Pending.Parted f) E
 spends goal me (Pending.Rolling told seen) = by_own (λ t. roll_spends goal me (look_of (Pending.Rolling told seen) t) (look_held (Pending.Rolling told seen) t) told t.forw t.back)
 spends goal me (Pending.Unlinked f b) = by_exchange (quiet goal (Pending.Unlinked f b) Event.Rolled (out_end goal) refl refl (out_adds goal))
 
-module _ {S : Type 0} (gives : S → Call → S → Type 0) (at_step : S → Pending) (told : S → ReceiptList) (nodes me : S → ℕ) (fits : S → List ℕ → Type 0) (owes : (s : S) (call : Call) (t : S) → gives s call t → Owes (nodes s) (fits s) (me s) (at_step s) call (at_step t)) (receives : (s : S) (call : Call) (t : S) → gives s call t → ReceivesIfRoom (at_step s) call (told s) (told t)) where
+module _ {S : Type 0} (gives : S → Call → S → Type 0) (at_step : S → Pending) (receipts : S → ReceiptList) (nodes me : S → ℕ) (fits : S → List ℕ → Type 0) (owes : (s : S) (call : Call) (t : S) → gives s call t → Owes (nodes s) (fits s) (me s) (at_step s) call (at_step t)) (receives : (s : S) (call : Call) (t : S) → gives s call t → ReceivesIfRoom (at_step s) call (receipts s) (receipts t)) where
   -- calls from s to t, which make this turn of an operation that goes on
   record Kept (goal : Goal) (turn : Turn) (s : S) (calls : List Call) (t : S) : Type 0 where
-    chain : RoomyChain gives told s calls t
-    need : Provided goal turn (at_step t) (told t)
-    writes : writes_in (told t).list ≡ writes_in (told s).list ++ adds_towards goal turn
-    extends : Extends (told s).list (told t).list
+    chain : RoomyChain gives receipts s calls t
+    need : Provided goal turn (at_step t) (receipts t)
+    writes : writes_in (receipts t).list ≡ writes_in (receipts s).list ++ adds_towards goal turn
+    extends : Extends (receipts s).list (receipts t).list
 
-  none_kept : (goal : Goal) (turn : Turn) (s t : S) → t ≡ s → adds_towards goal turn ≡ [] → HasNeed goal (at_step s) (told s) → Kept goal turn s [] t
+  none_kept : (goal : Goal) (turn : Turn) (s t : S) → t ≡ s → adds_towards goal turn ≡ [] → HasNeed goal (at_step s) (receipts s) → Kept goal turn s [] t
   none_kept goal turn s t e none need = subst (λ (u : S). Kept goal turn s [] u) (sym e) record {
     chain = refl;
-    need = provided goal turn (at_step s) (told s) need;
-    writes = same_writes (told s) (told s) (adds_towards goal turn) refl none;
-    extends = extends_none (told s).list;
+    need = provided goal turn (at_step s) (receipts s) need;
+    writes = same_writes (receipts s) (receipts s) (adds_towards goal turn) refl none;
+    extends = extends_none (receipts s).list;
   }
 
   -- a load in front leaves the receipts
-  front : (goal : Goal) (turn : Turn) (s mid t : S) (c : Call) (cs : List Call) → gives s c mid → HasRoomFor c (told s) → told mid ≡ told s → Kept goal turn mid cs t → Kept goal turn s (c ∷ cs) t
+  front : (goal : Goal) (turn : Turn) (s mid t : S) (c : Call) (cs : List Call) → gives s c mid → HasRoomFor c (receipts s) → receipts mid ≡ receipts s → Kept goal turn mid cs t → Kept goal turn s (c ∷ cs) t
   front goal turn s mid t c cs given room same k = record {
     chain = (mid, given, room, k.chain);
     need = k.need;
     writes = k.writes ∙ ap (λ (x : ReceiptList). writes_in x.list ++ adds_towards goal turn) same;
-    extends = subst (λ (x : ReceiptList). Extends x.list (told t).list) same k.extends;
+    extends = subst (λ (x : ReceiptList). Extends x.list (receipts t).list) same k.extends;
   }
 
   -- a load that got no word ends the turn
-  no_word : (goal : Goal) (turn : Turn) (p : Pending) (s mid t : S) (c : Call) → gives s c mid → HasRoomFor c (told s) → told mid ≡ told s → at_step mid ≡ p → HasNeed goal p (told s) → t ≡ mid → turn ≡ Turn.Waiting → Kept goal turn s (c ∷ []) t
+  no_word : (goal : Goal) (turn : Turn) (p : Pending) (s mid t : S) (c : Call) → gives s c mid → HasRoomFor c (receipts s) → receipts mid ≡ receipts s → at_step mid ≡ p → HasNeed goal p (receipts s) → t ≡ mid → turn ≡ Turn.Waiting → Kept goal turn s (c ∷ []) t
   no_word goal turn p s mid t c given room same after need e waiting =
       front goal turn s mid t c [] given room same
-      (none_kept goal turn mid t e (ap (adds_towards goal) waiting ∙ waiting_adds goal) (need_same goal p (at_step mid) (told s) (told mid) need same (ap is_held after)))
+      (none_kept goal turn mid t e (ap (adds_towards goal) waiting ∙ waiting_adds goal) (need_same goal p (at_step mid) (receipts s) (receipts mid) need same (ap is_held after)))
 
   -- the exchange
-  last_kept : (goal : Goal) (turn : Turn) (p : Pending) (event : Event) (end : End) (s mid t : S) (e : Event) (o : Outcome) → Spending goal p event end → at_step s ≡ p → gives s (Stepped e o) mid → t ≡ mid → e ≡ event → turn ≡ turn_after end o → HasNeed goal p (told s) → Kept goal turn s (Stepped e o ∷ []) t
+  last_kept : (goal : Goal) (turn : Turn) (p : Pending) (event : Event) (end : End) (s mid t : S) (e : Event) (o : Outcome) → Spending goal p event end → at_step s ≡ p → gives s (Stepped e o) mid → t ≡ mid → e ≡ event → turn ≡ turn_after end o → HasNeed goal p (receipts s) → Kept goal turn s (Stepped e o ∷ []) t
   last_kept goal turn p event end s mid t e o k at given last same after need =
       let row : TakesRow (nodes s) (me s) p event o (at_step mid) = subst (λ (z : Pending × Event). TakesRow (nodes s) (me s) z.0 z.1 o (at_step mid)) (λ i. (at i, same i)) (owes s (Stepped e o) mid given).1 in
       let got = receives s (Stepped e o) mid given in
-      let spent = k (nodes s) (me s) o (told s) (told mid) (at_step mid) need row (subst (λ (z : Pending × Event). ReceivesIfRoom z.0 (Stepped z.1 o) (told s) (told mid)) (λ i. (at i, same i)) got) in
-      let room : HasRoom e (told s) = subst (λ (x : Event). HasRoom x (told s)) (sym same) spent.room in
+      let spent = k (nodes s) (me s) o (receipts s) (receipts mid) (at_step mid) need row (subst (λ (z : Pending × Event). ReceivesIfRoom z.0 (Stepped z.1 o) (receipts s) (receipts mid)) (λ i. (at i, same i)) got) in
+      let room : HasRoom e (receipts s) = subst (λ (x : Event). HasRoom x (receipts s)) (sym same) spent.room in
       subst (λ (u : S). Kept goal turn s (Stepped e o ∷ []) u) (sym last) record {
         chain = (mid, given, room, refl);
-        need = subst (λ (u : Turn). Provided goal u (at_step mid) (told mid)) (sym after) spent.need;
-        writes = subst (λ (u : Turn). writes_in (told mid).list ≡ writes_in (told s).list ++ adds_towards goal u) (sym after) spent.writes;
-        extends = received_extends (told s) (told mid) (at_step s) (Stepped e o) (got.kept room);
+        need = subst (λ (u : Turn). Provided goal u (at_step mid) (receipts mid)) (sym after) spent.need;
+        writes = subst (λ (u : Turn). writes_in (receipts mid).list ≡ writes_in (receipts s).list ++ adds_towards goal u) (sym after) spent.writes;
+        extends = received_extends (receipts s) (receipts mid) (at_step s) (Stepped e o) (got.kept room);
       }
 
-  kept : {goal : Goal} {p : Pending} {plan : Plan} → Spends goal p plan → (s t : S) (turn : Turn) (calls : List Call) → at_step s ≡ p → Chain gives s calls t → Follows plan calls turn → HasNeed goal p (told s) → Kept goal turn s calls t
+  kept : {goal : Goal} {p : Pending} {plan : Plan} → Spends goal p plan → (s t : S) (turn : Turn) (calls : List Call) → at_step s ≡ p → Chain gives s calls t → Follows plan calls turn → HasNeed goal p (receipts s) → Kept goal turn s calls t
   kept {goal = goal} {p = p} (by_own f) s t turn (Own (Some x) ∷ cs) e chain h need =
-      let same : told chain.0 ≡ told s = (receives s (Own (Some x)) chain.0 chain.1).kept tt in
+      let same : receipts chain.0 ≡ receipts s = (receives s (Own (Some x)) chain.0 chain.1).kept tt in
       let after : at_step chain.0 ≡ look_of p x = (owes s (Own (Some x)) chain.0 chain.1).0 ∙ ap (λ (q : Pending). look_of q x) e in
-      front goal turn s chain.0 t (Own (Some x)) cs chain.1 tt same (kept (f x) chain.0 t turn cs after chain.2 h (need_same goal p (look_of p x) (told s) (told chain.0) need same (look_held p x)))
+      front goal turn s chain.0 t (Own (Some x)) cs chain.1 tt same (kept (f x) chain.0 t turn cs after chain.2 h (need_same goal p (look_of p x) (receipts s) (receipts chain.0) need same (look_held p x)))
   kept {goal = goal} {p = p} (by_own f) s t turn (Own None ∷ []) e chain h need =
       no_word goal turn p s chain.0 t (Own None) chain.1 tt ((receives s (Own None) chain.0 chain.1).kept tt) ((owes s (Own None) chain.0 chain.1).0 ∙ e) need chain.2 h
   kept (by_own f) s t turn _ e chain h need = absurd h
   kept {goal = goal} {p = p} (by_mem f) s t turn (MemWas (Some x) ∷ cs) e chain h need =
-      let same : told chain.0 ≡ told s = (receives s (MemWas (Some x)) chain.0 chain.1).kept tt in
+      let same : receipts chain.0 ≡ receipts s = (receives s (MemWas (Some x)) chain.0 chain.1).kept tt in
       let after : at_step chain.0 ≡ p = (owes s (MemWas (Some x)) chain.0 chain.1).0 ∙ e in
-      front goal turn s chain.0 t (MemWas (Some x)) cs chain.1 tt same (kept (f x) chain.0 t turn cs after chain.2 h (need_same goal p p (told s) (told chain.0) need same refl))
+      front goal turn s chain.0 t (MemWas (Some x)) cs chain.1 tt same (kept (f x) chain.0 t turn cs after chain.2 h (need_same goal p p (receipts s) (receipts chain.0) need same refl))
   kept {goal = goal} {p = p} (by_mem f) s t turn (MemWas None ∷ []) e chain h need =
       no_word goal turn p s chain.0 t (MemWas None) chain.1 tt ((receives s (MemWas None) chain.0 chain.1).kept tt) ((owes s (MemWas None) chain.0 chain.1).0 ∙ e) need chain.2 h
   kept (by_mem f) s t turn _ e chain h need = absurd h
   kept {goal = goal} {p = p} (by_tag f) s t turn (TagWas y (Some x) ∷ cs) e chain h need =
-      let same : told chain.0 ≡ told s = (receives s (TagWas y (Some x)) chain.0 chain.1).kept tt in
+      let same : receipts chain.0 ≡ receipts s = (receives s (TagWas y (Some x)) chain.0 chain.1).kept tt in
       let after : at_step chain.0 ≡ p = (owes s (TagWas y (Some x)) chain.0 chain.1).0 ∙ e in
-      front goal turn s chain.0 t (TagWas y (Some x)) cs chain.1 tt same (kept (f x) chain.0 t turn cs after chain.2 h.1 (need_same goal p p (told s) (told chain.0) need same refl))
+      front goal turn s chain.0 t (TagWas y (Some x)) cs chain.1 tt same (kept (f x) chain.0 t turn cs after chain.2 h.1 (need_same goal p p (receipts s) (receipts chain.0) need same refl))
   kept {goal = goal} {p = p} (by_tag f) s t turn (TagWas y None ∷ []) e chain h need =
       no_word goal turn p s chain.0 t (TagWas y None) chain.1 tt ((receives s (TagWas y None) chain.0 chain.1).kept tt) ((owes s (TagWas y None) chain.0 chain.1).0 ∙ e) need chain.2 h.1
   kept (by_tag f) s t turn _ e chain h need = absurd h
@@ -518,7 +518,7 @@ module _ {S : Type 0} (gives : S → Call → S → Type 0) (at_step : S → Pen
       last_kept goal turn p event end s chain.0 t x o k e chain.1 chain.2 h.0 h.1 need
   kept (by_exchange k) s t turn _ e chain h need = absurd h
   kept {goal = goal} {p = p} (by_end none) s t turn [] e chain h need =
-      none_kept goal turn s t chain (ap (adds_towards goal) h ∙ none) (subst (λ (q : Pending). HasNeed goal q (told s)) (sym e) need)
+      none_kept goal turn s t chain (ap (adds_towards goal) h ∙ none) (subst (λ (q : Pending). HasNeed goal q (receipts s)) (sym e) need)
   kept (by_end none) s t turn _ e chain h need = absurd h
 
   -- an operation after a turn has what it needs
@@ -527,27 +527,27 @@ module _ {S : Type 0} (gives : S → Call → S → Type 0) (at_step : S → Pen
   provided_after op Turn.Moved p s none h = subst (λ (x : Option Answer). IsProvided op.goal x p s) (sym none) h
   provided_after op Turn.Waiting p s none h = subst (λ (x : Option Answer). IsProvided op.goal x p s) (sym none) h
 
-  goes_on_keeps : (op : Operation) (i : ℕ) (s t : S) (turn : Turn) → op.answer ≡ None → Takes gives (turn_in op.goal i (at_step s)) s turn t → HasNeed op.goal (at_step s) (told s) → KeepsTurn gives told op s turn t (at_step t)
+  goes_on_keeps : (op : Operation) (i : ℕ) (s t : S) (turn : Turn) → op.answer ≡ None → Takes gives (turn_in op.goal i (at_step s)) s turn t → HasNeed op.goal (at_step s) (receipts s) → KeepsTurn gives receipts op s turn t (at_step t)
   goes_on_keeps op i s t turn none h need =
       let k : Kept op.goal turn s h.calls t = kept (spends op.goal i (at_step s)) s t turn h.calls refl h.chain h.follows need in
       record {
         calls = h.calls;
         chain = k.chain;
-        provided = provided_after op turn (at_step t) (told t) none k.need;
-        writes = k.writes ∙ ap (λ (x : Option Answer). writes_in (told s).list ++ adds op.goal x turn) (sym none);
+        provided = provided_after op turn (at_step t) (receipts t) none k.need;
+        writes = k.writes ∙ ap (λ (x : Option Answer). writes_in (receipts s).list ++ adds op.goal x turn) (sym none);
         extends = k.extends;
       }
 
   -- a turn of an operation that goes on keeps its receipts
-  pub keeps_turn : (op : Operation) (i : ℕ) (s t : S) (turn : Turn) → op.answer ≡ None → Takes gives (turn_in op.goal i (at_step s)) s turn t → IsProvided op.goal op.answer (at_step s) (told s) → KeepsTurn gives told op s turn t (at_step t)
-  keeps_turn op i s t turn none h given = goes_on_keeps op i s t turn none h (subst (λ (x : Option Answer). IsProvided op.goal x (at_step s) (told s)) none given)
+  pub keeps_turn : (op : Operation) (i : ℕ) (s t : S) (turn : Turn) → op.answer ≡ None → Takes gives (turn_in op.goal i (at_step s)) s turn t → IsProvided op.goal op.answer (at_step s) (receipts s) → KeepsTurn gives receipts op s turn t (at_step t)
+  keeps_turn op i s t turn none h given = goes_on_keeps op i s t turn none h (subst (λ (x : Option Answer). IsProvided op.goal x (at_step s) (receipts s)) none given)
 
 -- one that has ended asks nothing
-pub keeps_ended : {S : Type 0} (gives : S → Call → S → Type 0) (told : S → ReceiptList) (op : Operation) (answer : Answer) (s : S) (p : Pending) → op.answer ≡ Some answer → KeepsTurn gives told op s (Turn.Done answer) s p
-keeps_ended gives told op answer s p ended = record {
+pub keeps_ended : {S : Type 0} (gives : S → Call → S → Type 0) (receipts : S → ReceiptList) (op : Operation) (answer : Answer) (s : S) (p : Pending) → op.answer ≡ Some answer → KeepsTurn gives receipts op s (Turn.Done answer) s p
+keeps_ended gives receipts op answer s p ended = record {
   calls = [];
   chain = refl;
   provided = tt;
-  writes = same_writes (told s) (told s) (adds op.goal op.answer (Turn.Done answer)) refl (ap (λ (x : Option Answer). adds op.goal x (Turn.Done answer)) ended);
-  extends = extends_none (told s).list;
+  writes = same_writes (receipts s) (receipts s) (adds op.goal op.answer (Turn.Done answer)) refl (ap (λ (x : Option Answer). adds op.goal x (Turn.Done answer)) ended);
+  extends = extends_none (receipts s).list;
 }

@@ -62,12 +62,12 @@ adds goal None turn = adds_towards goal turn
 
 -- from the port s to t, in the pending step p, a turn of the operation made calls that each found room for its receipt. There is room for
 -- what it needs from here on. Of writes it added its own answer alone, and what stood in the list stands there
-pub record KeepsTurn {S : Type 0} (gives : S → Call → S → Type 0) (told : S → ReceiptList) (op : Operation) (s : S) (turn : Turn) (t : S) (p : Pending) : Type 0 where
+pub record KeepsTurn {S : Type 0} (gives : S → Call → S → Type 0) (receipts : S → ReceiptList) (op : Operation) (s : S) (turn : Turn) (t : S) (p : Pending) : Type 0 where
   pub calls : List Call
-  pub chain : RoomyChain gives told s calls t
-  pub provided : IsProvided op.goal (after_turn op turn).answer p (told t)
-  pub writes : writes_in (told t).list ≡ writes_in (told s).list ++ adds op.goal op.answer turn
-  pub extends : Extends (told s).list (told t).list
+  pub chain : RoomyChain gives receipts s calls t
+  pub provided : IsProvided op.goal (after_turn op turn).answer p (receipts t)
+  pub writes : writes_in (receipts t).list ≡ writes_in (receipts s).list ++ adds op.goal op.answer turn
+  pub extends : Extends (receipts s).list (receipts t).list
 
 -- so far, or to its end, an operation that had the room added its own answer alone to the writes, and what stood in the list stands there
 pub record KeepsSoFar (op : Operation) (s : ReceiptList) (turn : Turn) (t : ReceiptList) : Type 0 where

@@ -12,14 +12,14 @@ ghost use Rattle.sci_ops.specs.Kept.{KeepsAnswer};
 ghost use Rattle.sci_ops.specs.Plan.{Takes, LoadsAtMost};
 ghost use Rattle.sci_ops.specs.Ranking.{ranking};
 ghost use Rattle.sci_ops.specs.Rest.{due_turn, is_exchange, ComesTo};
-ghost use Rattle.sci_ops.specs.Room.{IsProvided, KeepsTurn, need_in, need_of};
+ghost use Rattle.sci_ops.specs.Room.{IsProvided, KeepsTurn, need_of};
 ghost use Rattle.sci_ops.specs.Table.{turn_of, begun, after_turn};
 ghost use Rattle.sci_ops.specs.Values.{IsTrueTurn};
 
 use crate::answers::{Answer, Turn};
 use crate::goals::{Goal, WordNo, Write};
 use crate::refusals::BadWord;
-use sci_core::{Keeps, Line, Pending, Whole};
+use sci_core::{Keeps, Line, Whole};
 use sci_port::{Port, Receipts, Solo};
 use sci_words::NodeId;
 use std::marker::Model;
@@ -42,8 +42,9 @@ impl Model for Op {
 }
 
 impl Op {
+    /// Towards this goal.
     #[inline(always)]
-    fn begin(goal: Goal) -> Op
+    pub fn towards(goal: Goal) -> Op
         ensures { result ≡ begun goal }
     {
         Op { goal, answer: None }
@@ -54,7 +55,7 @@ impl Op {
     pub fn load() -> Op
         ensures { result ≡ begun Goal.Load }
     {
-        Op::begin(Goal::Load)
+        Op::towards(Goal::Load)
     }
 
     /// To replace a word, 0 to 7, by this value. Refusal 10 above 7, and only there.
@@ -64,7 +65,7 @@ impl Op {
         ensures value { IfOk result (λ op. op ≡ begun (Goal.Write (a_write.Write.Store word value))) }
     {
         let word = WordNo::new(word)?;
-        Ok(Op::begin(Goal::Write(Write::Store { word, value })))
+        Ok(Op::towards(Goal::Write(Write::Store { word, value })))
     }
 
     /// To add this number to a word, 0 to 7, modulo 2 to the 64. Refusal 10 above 7, and only there.
@@ -74,7 +75,7 @@ impl Op {
         ensures value { IfOk result (λ op. op ≡ begun (Goal.Write (a_write.Write.Add word delta))) }
     {
         let word = WordNo::new(word)?;
-        Ok(Op::begin(Goal::Write(Write::Add { word, delta })))
+        Ok(Op::towards(Goal::Write(Write::Add { word, delta })))
     }
 
     /// To replace all eight words.
@@ -82,7 +83,7 @@ impl Op {
     pub fn write_line(words: [u64; 8]) -> Op
         ensures { result ≡ begun (Goal.Write (a_write.Write.Line words)) }
     {
-        Op::begin(Goal::Write(Write::Line(words)))
+        Op::towards(Goal::Write(Write::Line(words)))
     }
 
     /// To leave the line's sharing list.
@@ -90,7 +91,7 @@ impl Op {
     pub fn evict() -> Op
         ensures { result ≡ begun Goal.Evict }
     {
-        Op::begin(Goal::Evict)
+        Op::towards(Goal::Evict)
     }
 
     /// What it is for.
@@ -108,20 +109,14 @@ impl Op {
         self.answer
     }
 
-    /// For how many receipts there has to be room until its end, with the mark set for its goal. A load: one. A write two and an
-    /// eviction one, or one less where the last receipt is a Passed, whose place the next settle takes. Where the node still holds the
-    /// line, which it reads first, a write three and an eviction two. After the end none.
+    /// For how many receipts there has to be room until its end, with the mark set for its goal: as `Goal::need`, and none after the end.
     pub fn need<P: Port>(&self, port: &P) -> usize
-        ensures { result ≡ need_of self.now (P.at_step port.now) (P.told port.now) }
+        ensures { result ≡ need_of self.now (P.at_step port.now) (P.receipts port.now) }
     {
         if self.answer.is_some() {
             return 0;
         }
-        match self.goal {
-            Goal::Load => 1,
-            Goal::Write(_) => need_on_way(port) + 1,
-            Goal::Evict => need_on_way(port),
-        }
+        self.goal.need(port)
     }
 
     /// One turn, by the table of turns: at most three loads and then at most one exchange, which the pending step allows. An
@@ -138,8 +133,8 @@ impl Op {
         requires fits { StoresFitting (P.Keep.fits (P.keep port.old) (P.way port.old).number) self.old.goal }
         ensures calls { Takes P.gives (turn_of self.old (P.way port.old).node (P.at_step port.old)) port.old result port.new }
         ensures answers { AnswersAt P.gives P.at_step self.old (P.way port.old).node port.old result port.new }
-        ensures last { KeepsAnswer self.old result (P.told port.old) (P.told port.new) }
-        ensures kept { IsProvided self.old.goal self.old.answer (P.at_step port.old) (P.told port.old) → KeepsTurn P.gives P.told self.old port.old result port.new (P.at_step port.new) }
+        ensures last { KeepsAnswer self.old result (P.receipts port.old) (P.receipts port.new) }
+        ensures kept { IsProvided self.old.goal self.old.answer (P.at_step port.old) (P.receipts port.old) → KeepsTurn P.gives P.receipts self.old port.old result port.new (P.at_step port.new) }
         ensures loads { LoadsAtMost 3 (turn_of self.old (P.way port.old).node (P.at_step port.old)) }
         ensures op { self.new ≡ after_turn self.old result }
         ensures same_way { P.way port.new ≡ P.way port.old }
@@ -180,16 +175,5 @@ impl Op {
     {
         let mut receipts = Receipts::new(whole.allocator());
         self.turn(&mut Solo::new(whole, &mut receipts, node))
-    }
-}
-
-/// For how many receipts there has to be room on the way to a write or an exit.
-fn need_on_way<P: Port>(port: &P) -> usize
-    ensures value { result ≡ need_in Goal.Evict (P.at_step port.now) (P.told port.now) }
-    ensures few { result ≤ 2 }
-{
-    match port.pending() {
-        Pending::Holding { .. } => 2,
-        _ => usize::from(!port.last_passed()),
     }
 }

@@ -1,63 +1,12 @@
 //! A port that keeps what passes on its way.
-ghost use Rattle.std.specs.Prelude.{◌≡◌, Some};
-ghost use Rattle.sci_script.specs.declared.watching.Load.{Load};
-ghost use Rattle.sci_script.specs.Passed.{ending_of, looks_by, passed_by};
+ghost use Rattle.std.specs.Prelude.{◌≡◌};
+ghost use Rattle.sci_script.specs.Passed.{passed_by};
 
 use sci_core::{Event, Outcome, Pending, Stage};
 use sci_port::Port;
-use sci_script::{Ending, Load, Passed};
+use sci_script::{Load, Passed};
 use sci_words::{LineNo, Mem, NodeId, Tag};
 use std::alloc::AllocError;
-
-// With one more load.
-fn with_load(passed: &Passed, load: Load) -> Passed
-    ensures { result ≡ record { line = 0; looks = passed.now.looks; load = Some load; step = passed.now.step } }
-{
-    Passed {
-        line: 0,
-        looks: passed.looks,
-        load: Some(load),
-        step: passed.step,
-    }
-}
-
-// With one more look at the own tag.
-fn with_look(passed: &Passed, own: Option<Tag>) -> Passed
-    ensures { result ≡ record { line = 0; looks = looks_by passed.now.looks own; load = Some (Load.Own own); step = passed.now.step } }
-{
-    let looks = match own {
-        Some(_) => passed.looks.saturating_add(1),
-        None => passed.looks,
-    };
-    Passed {
-        line: 0,
-        looks,
-        load: Some(Load::Own(own)),
-        step: passed.step,
-    }
-}
-
-fn ending_of(outcome: &Outcome) -> Ending
-    ensures { result ≡ ending_of outcome.now }
-{
-    match outcome {
-        Outcome::Done(_) => Ending::Done,
-        Outcome::Missed(word) => Ending::Missed(*word),
-        Outcome::Busy => Ending::Busy,
-    }
-}
-
-// With the exchange that was tried.
-fn with_step(passed: &Passed, event: Event, ending: Ending) -> Passed
-    ensures { result ≡ record { line = 0; looks = passed.now.looks; load = passed.now.load; step = Some (event, ending) } }
-{
-    Passed {
-        line: 0,
-        looks: passed.looks,
-        load: passed.load,
-        step: Some((event, ending)),
-    }
-}
 
 /// A port, and what has passed through it, on a line that is called 0. Its answers are those of the port.
 #[derive(Drop)]
@@ -75,7 +24,7 @@ impl<P: Port + Drop> Port for Watched<P> {
 
     ghost at_step = { λ s. P.at_step s.port };
 
-    ghost told = { λ s. P.told s.port };
+    ghost receipts = { λ s. P.receipts s.port };
 
     ghost gives = { λ s call t. P.gives s.port call t.port × (t.passed ≡ passed_by s.passed 0 call) };
 
@@ -114,33 +63,28 @@ impl<P: Port + Drop> Port for Watched<P> {
     fn own(&mut self) -> Option<Tag> {
         let own = self.port.own();
         let answer = own;
-        let passed = with_look(&self.passed, answer);
-        self.passed = passed;
+        self.passed.look(0, answer);
         own
     }
 
     fn mem(&mut self) -> Option<Mem> {
         let mem = self.port.mem();
         let answer = mem;
-        let passed = with_load(&self.passed, Load::Mem(answer));
-        self.passed = passed;
+        self.passed.load(0, Load::Mem(answer));
         mem
     }
 
     fn tag(&mut self, node: NodeId) -> Option<Tag> {
         let tag = self.port.tag(node);
         let answer = tag;
-        let passed = with_load(&self.passed, Load::Tag(node, answer));
-        self.passed = passed;
+        self.passed.load(0, Load::Tag(node, answer));
         tag
     }
 
     fn step(&mut self, event: Event) -> Outcome {
         let passing = event;
         let outcome = self.port.step(event);
-        let ending = ending_of(&outcome);
-        let passed = with_step(&self.passed, passing, ending);
-        self.passed = passed;
+        self.passed.step(0, passing, &outcome);
         outcome
     }
 

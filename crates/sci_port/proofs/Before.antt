@@ -7,7 +7,7 @@ use Rattle.sci_core.specs.declared.events.Event.{Event}
 use Rattle.sci_core.specs.declared.outcomes.Outcome.{Outcome}
 use Rattle.sci_core.specs.Answers.{is_allowed}
 use Rattle.sci_port.specs.declared.calls.Call.TheVariants.{Own, MemWas, TagWas, Stepped}
-use Rattle.sci_port.specs.ReceiptList.{ReceiptList, HasRoom, Receives, ReceivesIfRoom, WritesOver, CountsOver, keeps, line_before, replaces}
+use Rattle.sci_port.specs.ReceiptList.{ReceiptList, HasRoom, Receives, ReceivesIfRoom, WritesOver, CountsOver, has_room_for, line_before, replaces}
 use Rattle.sci_port.proofs.Elements.{clash}
 
 -- a write that is allowed is one over the line that the step keeps
@@ -42,7 +42,7 @@ neither true b h = absurd (clash true refl h)
 neither false b h = (refl, h)
 
 -- an event that is kept has room
-pub room_to_keep : (e : Event) (s : ReceiptList) → keeps e s ≡ true → HasRoom e s
+pub room_to_keep : (e : Event) (s : ReceiptList) → has_room_for e s ≡ true → HasRoom e s
 room_to_keep Event.Unhold s h = above s.room h
 room_to_keep Event.Settle s h = λ k. above s.room (either (ltb 0 s.room) (replaces s) h k)
 room_to_keep (Event.Written (Some words)) s h = above s.room h
@@ -53,7 +53,7 @@ none_above : (m : ℕ) → ltb 0 m ≡ false → 0 < m → ⊥
 none_above m h k = grind (arith, nat_tests)
 
 -- and one that isn't leaves all as it was
-pub unkept : (p : Pending) (e : Event) (o : Outcome) (s : ReceiptList) → keeps e s ≡ false → ReceivesIfRoom p (Stepped e o) s s
+pub unkept : (p : Pending) (e : Event) (o : Outcome) (s : ReceiptList) → has_room_for e s ≡ false → ReceivesIfRoom p (Stepped e o) s s
 unkept p Event.Unhold o s h = record { kept = λ k. absurd (none_above s.room h k); full = λ k. refl }
 unkept p Event.Settle o s h = let b = neither (ltb 0 s.room) (replaces s) h in record { kept = λ k. absurd (none_above s.room b.0 (k b.1)); full = λ k. refl }
 unkept p (Event.Written (Some words)) o s h = record { kept = λ k. absurd (none_above s.room h k); full = λ k. refl }
@@ -66,7 +66,7 @@ unkept p _ (Outcome.Missed code) s h = record { kept = λ k. refl; full = λ k. 
 unkept p _ Outcome.Busy s h = record { kept = λ k. refl; full = λ k. refl }
 
 -- one that is kept leaves what it is to leave
-pub kept_so : (p : Pending) (e : Event) (o : Outcome) (s t : ReceiptList) → keeps e s ≡ true → Receives p (Stepped e o) s t → ReceivesIfRoom p (Stepped e o) s t
+pub kept_so : (p : Pending) (e : Event) (o : Outcome) (s t : ReceiptList) → has_room_for e s ≡ true → Receives p (Stepped e o) s t → ReceivesIfRoom p (Stepped e o) s t
 kept_so p e o s t h r = record { kept = λ k. r; full = λ k. absurd (k (room_to_keep e s h)) }
 
 -- a look has no receipt

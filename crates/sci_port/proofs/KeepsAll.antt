@@ -172,19 +172,19 @@ module _ {U : Type 0} {readies : U → ℕ → Readying → U → Type 0} where
   pub readied_once : {u v : U} (line : ℕ) (r : Readying) → readies u line r v → IsReadied readies u v
   readied_once line r h = readied_on line r h as_it_was
 
-  module _ {gives : U → ℕ → Call → U → Type 0} {told : U → ℕ → ReceiptList} where
+  module _ {gives : U → ℕ → Call → U → Type 0} {receipts : U → ℕ → ReceiptList} where
     -- one piece of work after another
-    pub keeps_then : {u v w : U} → KeepsAll gives readies told u v → KeepsAll gives readies told v w → KeepsAll gives readies told u w
+    pub keeps_then : {u v w : U} → KeepsAll gives readies receipts u v → KeepsAll gives readies receipts v w → KeepsAll gives readies receipts u w
     keeps_then keeps_none h = h
     keeps_then (keeps_call line call given room rest) h = keeps_call line call given room (keeps_then rest h)
     keeps_then (keeps_ready line r readied rest) h = keeps_ready line r readied (keeps_then rest h)
 
     -- what readies the receipts
-    pub readied_keeps : {u v : U} → IsReadied readies u v → KeepsAll gives readies told u v
+    pub readied_keeps : {u v : U} → IsReadied readies u v → KeepsAll gives readies receipts u v
     readied_keeps as_it_was = keeps_none
     readied_keeps (readied_on line r readied rest) = keeps_ready line r readied (readied_keeps rest)
 
     -- calls on one line
-    pub chain_keeps : (line : ℕ) (u v : U) (calls : List Call) → RoomyChain (λ s call t. gives s line call t) (λ s. told s line) u calls v → KeepsAll gives readies told u v
-    chain_keeps line u v [] h = subst (λ (w : U). KeepsAll gives readies told u w) (sym h) keeps_none
+    pub chain_keeps : (line : ℕ) (u v : U) (calls : List Call) → RoomyChain (λ s call t. gives s line call t) (λ s. receipts s line) u calls v → KeepsAll gives readies receipts u v
+    chain_keeps line u v [] h = subst (λ (w : U). KeepsAll gives readies receipts u w) (sym h) keeps_none
     chain_keeps line u v (c ∷ cs) (mid, given, room, rest) = keeps_call line c given room (chain_keeps line mid v cs rest)

@@ -40,8 +40,8 @@ pub record IsNewLast (before : List Receipt) (receipt : Receipt) (after : List R
 
 -- calls of a port, one after another, each of which finds room for its receipt
 abbrev pub RoomyChain : {S : Type 0} → (S → Call → S → Type 0) → (S → ReceiptList) → S → List Call → S → Type 0
-RoomyChain gives told s [] t = t ≡ s
-RoomyChain {S} gives told s (c ∷ cs) t = (mid : S) × gives s c mid × HasRoomFor c (told s) × RoomyChain gives told mid cs t
+RoomyChain gives receipts s [] t = t ≡ s
+RoomyChain {S} gives receipts s (c ∷ cs) t = (mid : S) × gives s c mid × HasRoomFor c (receipts s) × RoomyChain gives receipts mid cs t
 
 -- from one bank to another by calls that ready the receipts of lines, and no others
 pub data IsReadied {U : Type 0} (readies : U → ℕ → Readying → U → Type 0) : U → U → Type 0 where
@@ -49,7 +49,7 @@ pub data IsReadied {U : Type 0} (readies : U → ℕ → Readying → U → Type
   readied_on : {u w v : U} → (line : ℕ) → (r : Readying) → readies u line r w → IsReadied readies w v → IsReadied readies u v
 
 -- from one bank to another by calls on lines, each of which finds room for its receipt, and by such as ready the receipts
-pub data KeepsAll {U : Type 0} (gives : U → ℕ → Call → U → Type 0) (readies : U → ℕ → Readying → U → Type 0) (told : U → ℕ → ReceiptList) : U → U → Type 0 where
-  keeps_none : {u : U} → KeepsAll gives readies told u u
-  keeps_call : {u w v : U} → (line : ℕ) → (call : Call) → gives u line call w → HasRoomFor call (told u line) → KeepsAll gives readies told w v → KeepsAll gives readies told u v
-  keeps_ready : {u w v : U} → (line : ℕ) → (r : Readying) → readies u line r w → KeepsAll gives readies told w v → KeepsAll gives readies told u v
+pub data KeepsAll {U : Type 0} (gives : U → ℕ → Call → U → Type 0) (readies : U → ℕ → Readying → U → Type 0) (receipts : U → ℕ → ReceiptList) : U → U → Type 0 where
+  keeps_none : {u : U} → KeepsAll gives readies receipts u u
+  keeps_call : {u w v : U} → (line : ℕ) → (call : Call) → gives u line call w → HasRoomFor call (receipts u line) → KeepsAll gives readies receipts w v → KeepsAll gives readies receipts u v
+  keeps_ready : {u w v : U} → (line : ℕ) → (r : Readying) → readies u line r w → KeepsAll gives readies receipts w v → KeepsAll gives readies receipts u v

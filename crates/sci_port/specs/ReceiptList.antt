@@ -95,11 +95,11 @@ pub record ReceivesIfRoom (p : Pending) (call : Call) (s t : ReceiptList) : Type
   pub full : (HasRoomFor call s → ⊥) → t ≡ s
 
 -- an event has a receipt, and there is room for it
-abbrev pub keeps : Event → ReceiptList → Bool
-keeps Event.Unhold s = ltb 0 s.room
-keeps Event.Settle s = ltb 0 s.room || replaces s
-keeps (Event.Written (Some words)) s = ltb 0 s.room
-keeps e s = false
+abbrev pub has_room_for : Event → ReceiptList → Bool
+has_room_for Event.Unhold s = ltb 0 s.room
+has_room_for Event.Settle s = ltb 0 s.room || replaces s
+has_room_for (Event.Written (Some words)) s = ltb 0 s.room
+has_room_for e s = false
 
 -- these are the receipts of a node in this step, all of whose calls are these
 pub record AreReceiptsOf (log : List (ℕ × Call)) (p : Pending) (s : ReceiptList) : Type 0 where

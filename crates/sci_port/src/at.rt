@@ -41,7 +41,7 @@ impl<B: Bank> Port for At<'_, B> {
 
     ghost at_step = { λ s. B.at_step s.bank.now s.line };
 
-    ghost told = { λ s. B.told s.bank.now s.line };
+    ghost receipts = { λ s. B.receipts s.bank.now s.line };
 
     ghost gives = { λ s call t. (t.line ≡ s.line) × (t.bank.ghost_name ≡ s.bank.ghost_name) × B.gives s.bank.now s.line call t.bank.now };
 
@@ -53,9 +53,9 @@ impl<B: Bank> Port for At<'_, B> {
 
     ghost owes = { λ s call t h. subst (λ line. Owes (B.nodes_on s.bank.now s.line) (B.Keep.fits (B.keep s.bank.now) s.line) (B.way s.bank.now).node (B.at_step s.bank.now s.line) call (B.at_step t.bank.now line)) (sym h.0) (B.owes s.bank.now s.line call t.bank.now h.2) };
 
-    ghost receives = { λ s call t h. subst (λ line. ReceivesIfRoom (B.at_step s.bank.now s.line) call (B.told s.bank.now s.line) (B.told t.bank.now line)) (sym h.0) (B.receives s.bank.now s.line call t.bank.now h.2).here };
+    ghost receives = { λ s call t h. subst (λ line. ReceivesIfRoom (B.at_step s.bank.now s.line) call (B.receipts s.bank.now s.line) (B.receipts t.bank.now line)) (sym h.0) (B.receives s.bank.now s.line call t.bank.now h.2).here };
 
-    ghost readied = { λ s r t h. (λ i. way_at (h.1 i) ((B.readied s.bank.now s.line r t.bank.now h.2).0 i) ((B.readied s.bank.now s.line r t.bank.now h.2).1 (h.0 i) i) (h.0 i), (B.readied s.bank.now s.line r t.bank.now h.2).2, λ i. (B.readied s.bank.now s.line r t.bank.now h.2).3 (h.0 i) i, subst (λ line. Readies r (B.told s.bank.now s.line) (B.told t.bank.now line)) (sym h.0) (B.readied s.bank.now s.line r t.bank.now h.2).4.here) };
+    ghost readied = { λ s r t h. (λ i. way_at (h.1 i) ((B.readied s.bank.now s.line r t.bank.now h.2).0 i) ((B.readied s.bank.now s.line r t.bank.now h.2).1 (h.0 i) i) (h.0 i), (B.readied s.bank.now s.line r t.bank.now h.2).2, λ i. (B.readied s.bank.now s.line r t.bank.now h.2).3 (h.0 i) i, subst (λ line. Readies r (B.receipts s.bank.now s.line) (B.receipts t.bank.now line)) (sym h.0) (B.readied s.bank.now s.line r t.bank.now h.2).4.here) };
 
     fn node(&self) -> NodeId {
         self.bank.node()

@@ -38,7 +38,7 @@ pub trait Bank {
     ghost at_step: { Self → ℕ → Pending };
 
     /// The node's receipts on a line.
-    ghost told: { Self → ℕ → ReceiptList };
+    ghost receipts: { Self → ℕ → ReceiptList };
 
     /// From a bank as it stands, a call on a line may give this answer and leave the bank so.
     ghost gives: { Self → ℕ → Call → Self → Type 0 };
@@ -85,7 +85,7 @@ pub trait Bank {
         ensures same_nodes { (m : ℕ) → nodes_on self.new m ≡ nodes_on self.old m }
         ensures same_fact { keep self.new ≡ keep self.old }
         ensures others { (m : ℕ) → m ≢ line → at_step self.new m ≡ at_step self.old m }
-        ensures same_receipts { (m : ℕ) → told self.new m ≡ told self.old m }
+        ensures same_receipts { (m : ℕ) → receipts self.new m ≡ receipts self.old m }
         ensures look { at_step self.new line ≡ look_by (at_step self.old line) result }
         ensures own { IfSome result (λ t. IsOwnWord (at_step self.old line) t) }
         ensures form { IfSome result (λ t. IsTag (nodes_on self.old line) t) };
@@ -98,7 +98,7 @@ pub trait Bank {
         ensures same_nodes { (m : ℕ) → nodes_on self.new m ≡ nodes_on self.old m }
         ensures same_fact { keep self.new ≡ keep self.old }
         ensures same_steps { (m : ℕ) → at_step self.new m ≡ at_step self.old m }
-        ensures same_receipts { (m : ℕ) → told self.new m ≡ told self.old m }
+        ensures same_receipts { (m : ℕ) → receipts self.new m ≡ receipts self.old m }
         ensures form { IfSome result (λ m. IsMem (nodes_on self.old line) m) };
 
     /// A node's tag on the line. None: the line was not to be had.
@@ -110,7 +110,7 @@ pub trait Bank {
         ensures same_nodes { (m : ℕ) → nodes_on self.new m ≡ nodes_on self.old m }
         ensures same_fact { keep self.new ≡ keep self.old }
         ensures same_steps { (m : ℕ) → at_step self.new m ≡ at_step self.old m }
-        ensures same_receipts { (m : ℕ) → told self.new m ≡ told self.old m }
+        ensures same_receipts { (m : ℕ) → receipts self.new m ≡ receipts self.old m }
         ensures form { IfSome result (λ t. IsTag (nodes_on self.old line) t) };
 
     /// One event on the line that the node's pending step there allows. Where there is room for its receipt it is kept, and else
@@ -126,7 +126,7 @@ pub trait Bank {
         ensures others { (m : ℕ) → m ≢ line → at_step self.new m ≡ at_step self.old m }
         ensures row { TakesRow (nodes_on self.old line) (way self.old).node (at_step self.old line) event result (at_step self.new line) }
         ensures content { AnswerFits (Self.Keep.fits (keep self.old) line) result }
-        ensures receipts { ChangesAt (ReceivesIfRoom (at_step self.old line) (Stepped event result)) (told self.old) line (told self.new) };
+        ensures receipts { ChangesAt (ReceivesIfRoom (at_step self.old line) (Stepped event result)) (receipts self.old) line (receipts self.new) };
 
     /// Room for n more receipts on the line, at least; it never falls. `AllocError`: memory was refused, and the receipts are as
     /// before. No step.
@@ -137,17 +137,17 @@ pub trait Bank {
         ensures same_nodes { (m : ℕ) → nodes_on self.new m ≡ nodes_on self.old m }
         ensures same_fact { keep self.new ≡ keep self.old }
         ensures same_steps { (m : ℕ) → at_step self.new m ≡ at_step self.old m }
-        ensures reserves { ChangesAt (Reserves n (is_ok result)) (told self.old) line (told self.new) };
+        ensures reserves { ChangesAt (Reserves n (is_ok result)) (receipts self.old) line (receipts self.new) };
 
     /// For how many more receipts on the line there is room.
     fn room(&self, line: LineNo) -> usize
         requires { line < (way self.now).lines }
-        ensures { result ≡ (told self.now line).room };
+        ensures { result ≡ (receipts self.now line).room };
 
     /// The last receipt on the line is a Passed.
     fn last_passed(&self, line: LineNo) -> bool
         requires { line < (way self.now).lines }
-        ensures { result ≡ last_passed (told self.now line).list };
+        ensures { result ≡ last_passed (receipts self.now line).list };
 
     /// Sets whether the next settle on the line is only passed (`Passed`), or is a `Read`. No step.
     fn aim(&mut self, line: LineNo, passing: bool)
@@ -157,7 +157,7 @@ pub trait Bank {
         ensures same_nodes { (m : ℕ) → nodes_on self.new m ≡ nodes_on self.old m }
         ensures same_fact { keep self.new ≡ keep self.old }
         ensures same_steps { (m : ℕ) → at_step self.new m ≡ at_step self.old m }
-        ensures aims { ChangesAt (Aims passing) (told self.old) line (told self.new) };
+        ensures aims { ChangesAt (Aims passing) (receipts self.old) line (receipts self.new) };
 
     /// What a call gives is on the same ways, under the same fact, leaves the steps of the other lines, and is as every port
     /// to the line owes.
@@ -173,8 +173,8 @@ pub trait Bank {
 
     /// And it leaves the line's receipts as a step is to leave them where there is room, and else as they were, and the other
     /// lines' as they were.
-    ghost receives: { (s : Self) (line : ℕ) (call : Call) (t : Self) → gives s line call t → ChangesAt (ReceivesIfRoom (at_step s line) call) (told s) line (told t) };
+    ghost receives: { (s : Self) (line : ℕ) (call : Call) (t : Self) → gives s line call t → ChangesAt (ReceivesIfRoom (at_step s line) call) (receipts s) line (receipts t) };
 
     /// A call that readies a line's receipts is on the same ways, under the same fact and at the same steps, and does no more.
-    ghost readied: { (s : Self) (line : ℕ) (r : Readying) (t : Self) → readies s line r t → (way t ≡ way s) × ((m : ℕ) → nodes_on t m ≡ nodes_on s m) × (keep t ≡ keep s) × ((m : ℕ) → at_step t m ≡ at_step s m) × ChangesAt (Readies r) (told s) line (told t) };
+    ghost readied: { (s : Self) (line : ℕ) (r : Readying) (t : Self) → readies s line r t → (way t ≡ way s) × ((m : ℕ) → nodes_on t m ≡ nodes_on s m) × (keep t ≡ keep s) × ((m : ℕ) → at_step t m ≡ at_step s m) × ChangesAt (Readies r) (receipts s) line (receipts t) };
 }

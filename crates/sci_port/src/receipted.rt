@@ -39,7 +39,7 @@ impl<P: Port> Port for Receipted<'_, '_, P> {
 
     ghost at_step = { λ s. P.at_step s.port.now };
 
-    ghost told = { λ s. s.receipts.now };
+    ghost receipts = { λ s. s.receipts.now };
 
     ghost gives = { λ s call t. P.gives s.port.now call t.port.now × ReceivesIfRoom (P.at_step s.port.now) call s.receipts.now t.receipts.now × (t.port.ghost_name ≡ s.port.ghost_name) × (t.receipts.ghost_name ≡ s.receipts.ghost_name) };
 
@@ -91,7 +91,7 @@ impl<P: Port> Port for Receipted<'_, '_, P> {
 
     #[inline(always)]
     fn step(&mut self, event: Event) -> Outcome {
-        if !self.receipts.keeps(&event) {
+        if !self.receipts.has_room_for(&event) {
             return self.port.step(event);
         }
         let before = self.port.pending();

@@ -6,7 +6,7 @@ ghost use Rattle.sci_core.specs.declared.receipts.Receipt.TheVariants.{Read, Pas
 ghost use Rattle.sci_port.specs.declared.calls.Call.TheVariants.{Stepped};
 ghost use Rattle.sci_port.specs.KeepsTo.{is_passed};
 ghost use Rattle.sci_port.specs.Readying.{no_receipts};
-ghost use Rattle.sci_port.specs.ReceiptList.{Appends, CountsOver, HasRoom, Receives, ReceivesIfRoom, Replaces, Settles, WritesOver, keeps, last_passed, line_before, replaces};
+ghost use Rattle.sci_port.specs.ReceiptList.{Appends, CountsOver, HasRoom, Receives, ReceivesIfRoom, Replaces, Settles, WritesOver, has_room_for, last_passed, line_before, replaces};
 
 use sci_core::{Event, Line, Outcome, Pending, Receipt};
 use std::alloc::{AllocError, Global};
@@ -114,8 +114,8 @@ impl Receipts {
 
     /// The event has a receipt, and there is room for it.
     #[inline(always)]
-    pub fn keeps(&self, event: &Event) -> bool
-        ensures { result ≡ keeps event.now self.now }
+    pub fn has_room_for(&self, event: &Event) -> bool
+        ensures { result ≡ has_room_for event.now self.now }
     {
         match event {
             Event::Unhold | Event::Written(Some(_)) => self.room() > 0,
@@ -146,7 +146,7 @@ impl Receipts {
         outcome: &Outcome,
     )
         requires allowed { (n : ℕ) × (me : ℕ) × (is_allowed n me step.now event.now ≡ true) }
-        requires asked { is_kept ≡ keeps event.now self.old }
+        requires asked { is_kept ≡ has_room_for event.now self.old }
         ensures { ReceivesIfRoom step.now (Stepped event.now outcome.now) self.old self.new }
     {
         if is_kept {
@@ -263,7 +263,7 @@ impl Receipts {
     #[tactic(auto, using(crate::proofs::Before::room_to_keep, crate::proofs::Before::kept_so, crate::proofs::Before::unkept))]
     #[inline(always)]
     pub fn receive_if(&mut self, is_kept: bool, event: &Event, before: &Line, outcome: &Outcome)
-        requires asked { is_kept ≡ keeps event.now self.old }
+        requires asked { is_kept ≡ has_room_for event.now self.old }
         requires counts { CountsOver event.now before.now }
         ensures { (p : Pending) → WritesOver p event.now before.now → ReceivesIfRoom p (Stepped event.now outcome.now) self.old self.new }
     {

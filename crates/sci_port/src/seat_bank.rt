@@ -114,7 +114,7 @@ impl<L: SharedLine> Bank for SeatBank<'_, L> {
 
     ghost at_step = { λ s line. step_on (seated L.terms L.seating s.keep s.node s.lines.now s.seats.items) line };
 
-    ghost told = { λ s line. receipts_at (receipts_of L.seating s.seats.items) line };
+    ghost receipts = { λ s line. receipts_at (receipts_of L.seating s.seats.items) line };
 
     ghost gives = { λ s line call t. (t.lines ≡ s.lines) × MakesCall L.makes s.seats.items line call t.seats.items × CallsOn L.Keep.fits (seated L.terms L.seating s.keep s.node s.lines.now s.seats.items) line call (seated L.terms L.seating t.keep t.node t.lines.now t.seats.items) × ChangesAt (ReceivesIfRoom (step_on (seated L.terms L.seating s.keep s.node s.lines.now s.seats.items) line) call) (λ m. receipts_at (receipts_of L.seating s.seats.items) m) line (λ m. receipts_at (receipts_of L.seating t.seats.items) m) };
 

@@ -44,7 +44,7 @@ impl<L: SharedLine> Port for SeatPort<'_, L> {
 
     ghost at_step = { λ s. (L.seating s.seat.now).pending };
 
-    ghost told = { λ s. (L.seating s.seat.now).receipts };
+    ghost receipts = { λ s. (L.seating s.seat.now).receipts };
 
     ghost gives = { λ s call t. (t.line ≡ s.line) × (t.seat.ghost_name ≡ s.seat.ghost_name) × L.makes s.seat.now call t.seat.now };
 

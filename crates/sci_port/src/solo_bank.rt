@@ -5,7 +5,7 @@ ghost use Rattle.sci_core.specs.Whole.{WholeLine};
 ghost use Rattle.sci_port.specs.Banks.{AreLinesOf, GivesAt, lent_lines, lent_way, nodes_at, step_at};
 ghost use Rattle.sci_port.specs.declared.calls.Call.TheVariants.{Stepped};
 ghost use Rattle.sci_port.specs.Readying.{ChangesAt, Readies, receipts_at};
-ghost use Rattle.sci_port.specs.ReceiptList.{ReceivesIfRoom, keeps};
+ghost use Rattle.sci_port.specs.ReceiptList.{ReceivesIfRoom, has_room_for};
 
 use crate::bank::Bank;
 use crate::receipts::Receipts;
@@ -99,11 +99,11 @@ impl<K: Keeps> SoloBank<K> {
 
     // The event has a receipt, and there is room for it on the line.
     #[inline(always)]
-    fn keeps(&self, line: LineNo, event: &Event) -> bool
+    fn has_room_for(&self, line: LineNo, event: &Event) -> bool
         requires { line < length self.now.wholes.items }
-        ensures { result ≡ keeps event.now (receipts_at self.now.receipts.items line) }
+        ensures { result ≡ has_room_for event.now (receipts_at self.now.receipts.items line) }
     {
-        self.receipts[usize::from(line)].keeps(event)
+        self.receipts[usize::from(line)].has_room_for(event)
     }
 
     // An event on the line that the node's pending step there allows, without its receipt.
@@ -129,12 +129,12 @@ impl<K: Keeps> SoloBank<K> {
         ensures gives { GivesAt K.fits (lent_lines self.old.keep self.old.node self.old.wholes.items) line (Stepped event result) (lent_lines self.new.keep self.new.node self.new.wholes.items) }
         ensures receives { ChangesAt (ReceivesIfRoom (step_at (lent_lines self.old.keep self.old.node self.old.wholes.items) line) (Stepped event result)) (λ m. receipts_at self.old.receipts.items m) line (λ m. receipts_at self.new.receipts.items m) }
     {
-        let keeps = self.keeps(line, &event);
+        let is_kept = self.has_room_for(line, &event);
         let before = self.step_on(line);
         let asked = event;
         let outcome = self.make(line, event);
         let receipts = self.receipts.as_mut_slice();
-        receipts[usize::from(line)].keep_if(keeps, &before, &asked, &outcome);
+        receipts[usize::from(line)].keep_if(is_kept, &before, &asked, &outcome);
         outcome
     }
 }
@@ -150,7 +150,7 @@ impl<K: Keeps> Bank for SoloBank<K> {
 
     ghost at_step = { λ s line. step_at (lent_lines s.keep s.node s.wholes.items) line };
 
-    ghost told = { λ s line. receipts_at s.receipts.items line };
+    ghost receipts = { λ s line. receipts_at s.receipts.items line };
 
     ghost gives = { λ s line call t. GivesAt K.fits (lent_lines s.keep s.node s.wholes.items) line call (lent_lines t.keep t.node t.wholes.items) × ChangesAt (ReceivesIfRoom (step_at (lent_lines s.keep s.node s.wholes.items) line) call) (λ m. receipts_at s.receipts.items m) line (λ m. receipts_at t.receipts.items m) };
 

@@ -47,39 +47,16 @@ module _ (m : Mem) (tags : ℕ → Tag) (me : ℕ) (t : Tag) where
 
   load_waits : (k : Kind) → waits (idle_as Goal.Load me t k) ≡ is_kept_out Goal.Load (names me m.forw) k
   load_waits Kind.Invalid = refl
-  load_waits Kind.Queued = refl
-  load_waits Kind.Fresh = refl
-  load_waits Kind.Dirty = refl
-  load_waits Kind.Convert = refl
-  load_waits Kind.Purging = refl
-  load_waits Kind.Leaving = refl
-  load_waits Kind.Valid = refl
-  load_waits Kind.Roll = refl
-  load_waits Kind.Purged = refl
+  load_waits kind = refl
 
   write_waits : (w : Write) (k : Kind) → waits (idle_as (Goal.Write w) me t k) ≡ is_kept_out (Goal.Write w) (names me m.forw) k
-  write_waits w Kind.Invalid = refl
-  write_waits w Kind.Queued = refl
   write_waits w Kind.Fresh = at_front (names me m.forw) (Event.Convert t)
-  write_waits w Kind.Dirty = refl
-  write_waits w Kind.Convert = refl
-  write_waits w Kind.Purging = refl
-  write_waits w Kind.Leaving = refl
-  write_waits w Kind.Valid = refl
-  write_waits w Kind.Roll = refl
-  write_waits w Kind.Purged = refl
+  write_waits w kind = refl
 
   evict_waits : (k : Kind) → waits (idle_as Goal.Evict me t k) ≡ is_kept_out Goal.Evict (names me m.forw) k
-  evict_waits Kind.Invalid = refl
-  evict_waits Kind.Queued = refl
   evict_waits Kind.Fresh = at_front (names me m.forw) (Event.Leave t)
   evict_waits Kind.Dirty = at_front (names me m.forw) (Event.Leave t)
-  evict_waits Kind.Convert = refl
-  evict_waits Kind.Purging = refl
-  evict_waits Kind.Leaving = refl
-  evict_waits Kind.Valid = refl
-  evict_waits Kind.Roll = refl
-  evict_waits Kind.Purged = refl
+  evict_waits kind = refl
 
   kind_waits : (goal : Goal) (k : Kind) → waits (idle_as goal me t k) ≡ is_kept_out goal (names me m.forw) k
   kind_waits Goal.Load k = load_waits k

@@ -7,14 +7,14 @@ use Rattle.sci_ops.specs.declared.answers.Turn.TheVariants as turns
 use Rattle.sci_cache.specs.declared.calls.OpenCall.{OpenCall}
 use Rattle.sci_cache.specs.Nodes.{NodeState, node_after, call_after, shown_by}
 use Rattle.sci_script.specs.declared.commands.Command.{Command}
-use Rattle.sci_script.specs.declared.commands.Command.TheVariants.{Begin, Turn as TakeTurn, Done, Rest, End, List as ListLine, Tag as ShowTag, Residents}
+use Rattle.sci_script.specs.declared.commands.Command.TheVariants.{Begin, Turn as TakeTurn, Done}
 use Rattle.sci_script.specs.declared.commands.Opening.{Opening}
 use Rattle.sci_script.specs.declared.commands.Size.{Size}
 use Rattle.sci_script.specs.declared.commands.Step.{Step}
 use Rattle.sci_script.specs.declared.reasons.Reason.{Reason}
 use Rattle.sci_script.specs.declared.reasons.Reason.TheVariants.{CallOpen, NoCall}
 use Rattle.sci_script.specs.declared.refusals.ScriptRefusal.{ScriptRefusal}
-use Rattle.sci_script.specs.declared.refusals.ScriptRefusal.TheVariants.{OutOfMemory, BadCommand, BadNumber, NotDone, WriteFailed}
+use Rattle.sci_script.specs.declared.refusals.ScriptRefusal.TheVariants.{OutOfMemory, BadCommand, NotDone}
 use Rattle.sci_script.specs.Causes.{refused_for, IsRefusedFor, HasReason}
 use Rattle.sci_script.specs.Event.{IsNoEnd}
 use Rattle.sci_script.specs.Reasons.{IsWhy, IsUnendedBy, IsWhySaid, IsWhyTaken, wait_reason, unbegun_reason}
@@ -83,24 +83,17 @@ fits_by : (command : Command) (number nodes : ℕ) (s t : Shared) (e : ScriptRef
     → (e ≡ OutOfMemory → ⊥) → IsWhy t command why → HasReason command e why
 fits_by (Begin node line request) number nodes s t OutOfMemory why h some is = absurd (some refl)
 fits_by (Begin node line request) number nodes s t (BadCommand n) why h some is = begun_fits n number node s t why h is
-fits_by (Begin node line request) number nodes s t (BadNumber n) why h some is = absurd h
 fits_by (Begin node line request) number nodes s t (NotDone n) why h some is = absurd h.1
-fits_by (Begin node line request) number nodes s t WriteFailed why h some is = absurd h
+fits_by (Begin node line request) number nodes s t e why h some is = absurd h
 fits_by (TakeTurn node) number nodes s t OutOfMemory why h some is = absurd (some refl)
 fits_by (TakeTurn node) number nodes s t (BadCommand n) why h some is = turn_fits n number node s t why h is
-fits_by (TakeTurn node) number nodes s t (BadNumber n) why h some is = absurd h
 fits_by (TakeTurn node) number nodes s t (NotDone n) why h some is = absurd h.1
-fits_by (TakeTurn node) number nodes s t WriteFailed why h some is = absurd h
+fits_by (TakeTurn node) number nodes s t e why h some is = absurd h
 fits_by (Done node) number nodes s t OutOfMemory why h some is = absurd (some refl)
 fits_by (Done node) number nodes s t (BadCommand n) why h some is = done_fits n number node s t why h is
-fits_by (Done node) number nodes s t (BadNumber n) why h some is = absurd h
 fits_by (Done node) number nodes s t (NotDone n) why h some is = unended_fits n number node s t why h is
-fits_by (Done node) number nodes s t WriteFailed why h some is = absurd h
-fits_by (Rest lines) number nodes s t e why h some is = is
-fits_by (End ends lines) number nodes s t e why h some is = is
-fits_by (ListLine line) number nodes s t e why h some is = is
-fits_by (ShowTag line node) number nodes s t e why h some is = is
-fits_by (Residents node) number nodes s t e why h some is = is
+fits_by (Done node) number nodes s t e why h some is = absurd h
+fits_by command number nodes s t e why h some is = is
 
 pub reason_fits : (s t : Shared) (step : Step) (nodes : ℕ) (e : ScriptRefusal) (why : Option Reason) → StopsAt shared_is_open shared_does nodes s step e t → (e ≡ OutOfMemory → ⊥) → IsWhy t step.command why → HasReason step.command e why
 reason_fits s t step nodes e why h some is = fits_by step.command step.number nodes s t e why h some is
@@ -130,24 +123,17 @@ first_by : (size : Size) (capacity : ℕ) (openings : List Opening) (command : C
     → StopsAt shared_is_open shared_does size.nodes s (said_step command) e end → (e ≡ OutOfMemory → ⊥) → HasReason command e (unbegun_reason command)
 first_by size capacity openings (Begin node line request) OutOfMemory s end inside o h some = absurd (some refl)
 first_by size capacity openings (Begin node line request) (BadCommand n) s end inside o h some = absurd (begun_first size capacity openings s end node n o (below node size.nodes (first_of (nat_lt node size.nodes) (nat_lt line size.lines && is_request request) inside)) h)
-first_by size capacity openings (Begin node line request) (BadNumber n) s end inside o h some = absurd h
 first_by size capacity openings (Begin node line request) (NotDone n) s end inside o h some = absurd h.1
-first_by size capacity openings (Begin node line request) WriteFailed s end inside o h some = absurd h
+first_by size capacity openings (Begin node line request) e s end inside o h some = absurd h
 first_by size capacity openings (TakeTurn node) OutOfMemory s end inside o h some = absurd (some refl)
 first_by size capacity openings (TakeTurn node) (BadCommand n) s end inside o h some = (n, NoCall node, refl, refl)
-first_by size capacity openings (TakeTurn node) (BadNumber n) s end inside o h some = absurd h
 first_by size capacity openings (TakeTurn node) (NotDone n) s end inside o h some = absurd h.1
-first_by size capacity openings (TakeTurn node) WriteFailed s end inside o h some = absurd h
+first_by size capacity openings (TakeTurn node) e s end inside o h some = absurd h
 first_by size capacity openings (Done node) OutOfMemory s end inside o h some = absurd (some refl)
 first_by size capacity openings (Done node) (BadCommand n) s end inside o h some = (n, NoCall node, refl, refl)
-first_by size capacity openings (Done node) (BadNumber n) s end inside o h some = absurd h
 first_by size capacity openings (Done node) (NotDone n) s end inside o h some = absurd (done_first size capacity openings s end node n o (below node size.nodes inside) h)
-first_by size capacity openings (Done node) WriteFailed s end inside o h some = absurd h
-first_by size capacity openings (Rest lines) e s end inside o h some = refl
-first_by size capacity openings (End ends lines) e s end inside o h some = refl
-first_by size capacity openings (ListLine line) e s end inside o h some = refl
-first_by size capacity openings (ShowTag line node) e s end inside o h some = refl
-first_by size capacity openings (Residents node) e s end inside o h some = refl
+first_by size capacity openings (Done node) e s end inside o h some = absurd h
+first_by size capacity openings command e s end inside o h some = refl
 
 pub first_fits : (said : Sayings) (command : Command) (e : ScriptRefusal) → IsIn said.place.size command → FailsFirst said command e → (e ≡ OutOfMemory → ⊥) → HasReason command e (unbegun_reason command)
 first_fits said command e inside (s, end, o, h) some = first_by said.place.size said.capacity said.openings command e s end inside o h some

@@ -34,7 +34,7 @@ module _ (width : ℕ) (wholes after : List (WholeLine AnyWords)) (nodes : List 
   takes_turn n None here id count below h = h
   takes_turn n (Some c) here id count below h =
       let line = line_by c.victim c.line in
-      let op = op_by c.victim c.op in
+      let op = op_by c.victim c.goal in
       let w = whole_of wholes line in
       let v = whole_of after line in
       record {
@@ -54,7 +54,7 @@ pub passes_turn : (width : ℕ) (wholes after : List (WholeLine AnyWords)) (node
 passes_turn width wholes after nodes others node p q wide n None id count below h = h
 passes_turn width wholes after nodes others node p q wide n (Some c) id count below h =
     let line = line_by c.victim c.line in
-    let op = op_by c.victim c.op in
+    let op = op_by c.victim c.goal in
     let w = whole_of wholes line in
     let v = whole_of after line in
     subst (λ (k : ℕ). PassesOn k node line op (state_of w) (state_of v) p q) (wide line no_line (omega (arith, below, count)))

@@ -7,7 +7,7 @@ use Rattle.std.specs.List.{list_all}
 use Rattle.std.specs.Str.Lines.{lines}
 use Rattle.sci_core.specs.declared.lines.Line.{Line}
 use Rattle.sci_script.specs.declared.commands.Command.{Command}
-use Rattle.sci_script.specs.declared.commands.Command.TheVariants.{Begin, Turn, Done, Rest, End, List as ListLine, Tag as ShowTag, Residents}
+use Rattle.sci_script.specs.declared.commands.Command.TheVariants.{Begin}
 use Rattle.sci_script.specs.declared.commands.Opening.{Opening}
 use Rattle.sci_script.specs.declared.commands.Request.TheVariants.{Load, Store, Add, Evict}
 use Rattle.sci_script.specs.declared.commands.Size.{Size}
@@ -136,17 +136,7 @@ late_said : (size : Size) (verb : Verb) (ns : List ℕ) → is_in_time verb stan
 late_said size verbs.Memory ns e = absurd (cc)
 late_said size verbs.Capacity ns e = absurd (cc)
 late_said size verbs.Open ns e = absurd (cc)
-late_said size verbs.Load ns e = (_, refl)
-late_said size verbs.Store ns e = (_, refl)
-late_said size verbs.Add ns e = (_, refl)
-late_said size verbs.Evict ns e = (_, refl)
-late_said size verbs.Turn ns e = (_, refl)
-late_said size verbs.Done ns e = (_, refl)
-late_said size verbs.Rest ns e = (_, refl)
-late_said size verbs.End ns e = (_, refl)
-late_said size verbs.List ns e = (_, refl)
-late_said size verbs.Tag ns e = (_, refl)
-late_said size verbs.Residents ns e = (_, refl)
+late_said size verb ns e = (_, refl)
 
 abbrev pub behind_commands : Size → Place
 behind_commands size = record { stand = stands.Commands; size = size }

@@ -5,14 +5,14 @@ use Rattle.std.specs.Prelude.{slice_get}
 use Rattle.sci_words.specs.declared.tags.Tag.{Tag}
 use Rattle.sci_cache.specs.Requests.{line_of}
 use Rattle.sci_script.specs.declared.commands.Command.{Command}
-use Rattle.sci_script.specs.declared.commands.Command.TheVariants.{Begin, Turn, Done, Rest, End, List as ListLine, Tag as ShowTag, Residents}
+use Rattle.sci_script.specs.declared.commands.Command.TheVariants.{Begin, Turn, Done, Rest, End, List as ListLine, Tag as ShowTag, Show}
 use Rattle.sci_script.specs.declared.commands.Request.{Request}
-use Rattle.sci_script.specs.declared.commands.Request.TheVariants.{Load, Store, Add, Evict}
+use Rattle.sci_script.specs.declared.commands.Request.TheVariants.{Evict}
 use Rattle.sci_script.specs.declared.commands.Size.{Size}
 use Rattle.sci_script.specs.declared.commands.Step.{Step}
 use Rattle.sci_script.specs.declared.desk.Toward.{Toward}
 use Rattle.sci_script.specs.declared.refusals.ScriptRefusal.{ScriptRefusal}
-use Rattle.sci_script.specs.declared.refusals.ScriptRefusal.TheVariants.{OutOfMemory, BadCommand, BadNumber, NotDone, WriteFailed}
+use Rattle.sci_script.specs.declared.refusals.ScriptRefusal.TheVariants.{OutOfMemory, BadCommand, NotDone}
 use Rattle.sci_script.specs.Event.{Event, Turned, Rested, SawMem, SawTag}
 use Rattle.sci_script.specs.Request.{asked, words_after}
 use Rattle.sci_script.specs.Run.{Unended, Calms, CalmsTo, RestsLines, CallEnds, EndsOpenBy, EndsOpen, EndsTo, RestsNot, Repeats, Loads, Walked, Prints, PrintsAll, IsLost, IsUnended, WantsMemory, StopsAt}
@@ -20,10 +20,8 @@ use Rattle.sci_script.specs.Size.{IsIn}
 use Rattle.sci_script.proofs.Sound.{IsEventIn}
 
 asked_line : (line : ℕ) (request : Request) → line_of (asked line request) ≡ line
-asked_line line (Load word) = refl
-asked_line line (Store word value) = refl
-asked_line line (Add word delta) = refl
 asked_line line Evict = refl
+asked_line line request = refl
 
 begin_in : (size : Size) (node line : ℕ) (request : Request) → IsIn size (Begin node line request) → (node < size.nodes) × (line < size.lines)
 begin_in size node line request h = (grind (arith, nat_tests, h), grind (arith, nat_tests, h))
@@ -95,7 +93,7 @@ module _ {S : Type 0} (is_open : S → ℕ → Bool) (does : S → Event → S �
   prints_keeps words s (ListLine line) text t within h k =
       walked_keeps line h.1.forw h.2 None h.0 t h.4 (loads_keeps (SawMem line None) (SawMem line (Some h.1)) s h.0 tt tt h.3 k)
   prints_keeps words s (ShowTag line node) text t within h k = loads_keeps (SawTag line node None) (SawTag line node (Some h.0)) s t tt tt h.1 k
-  prints_keeps words s (Residents node) text t within h k = each s _ t tt h.1 k
+  prints_keeps words s (Show ask) text t within h k = each s _ t tt h.1 k
 
   -- commands of what there is
   pub all_keep : (words : List ℕ) (s : S) (steps : List Step) (text : List ℕ) (t : S) → ((i : ℕ) (step : Step) → slice_get steps i ≡ Some step → IsIn size step.command) → PrintsAll is_open does words s steps text t → Holds s → Holds t
@@ -118,8 +116,6 @@ module _ {S : Type 0} (is_open : S → ℕ → Bool) (does : S → Event → S �
       ⊎_elim (λ a. repeats_keeps (SawTag line h.1 None) 100000 h.2 t tt a mid) (λ b. subst (λ (x : S). Holds x) (sym b.1) mid) h.4
 
   unended_by_keeps : (nodes : ℕ) (s : S) (command : Command) (t : S) → IsIn size command → IsUnended is_open does nodes s command t → Holds s → Holds t
-  unended_by_keeps nodes s (Begin node line request) t within h k = absurd h
-  unended_by_keeps nodes s (Turn node) t within h k = absurd h
   unended_by_keeps nodes s (Done node) t within h k = unended_keeps node 100000 s t (node_in node size.nodes within) h.1 k
   unended_by_keeps nodes s (Rest lines) t within h k = rests_not_keeps lines s t (let e = same_in lines size.lines within in omega (arith, e)) h k
   unended_by_keeps nodes s (End ends lines) t within h k =
@@ -130,7 +126,7 @@ module _ {S : Type 0} (is_open : S → ℕ → Bool) (does : S → Event → S �
       ⊎_elim (λ a. repeats_keeps (SawMem line None) 100000 s t tt a k)
       (λ b. lost_keeps nodes line b.1.forw b.0 t b.3 (loads_keeps (SawMem line None) (SawMem line (Some b.1)) s b.0 tt tt b.2 k)) h
   unended_by_keeps nodes s (ShowTag line node) t within h k = repeats_keeps (SawTag line node None) 100000 s t tt h k
-  unended_by_keeps nodes s (Residents node) t within h k = absurd h
+  unended_by_keeps nodes s command t within h k = absurd h
 
   wants_keeps : (s : S) (command : Command) (t : S) → IsIn size command → WantsMemory is_open does s command t → Holds s → Holds t
   wants_keeps s (Begin node line request) t within h k = subst (λ (x : S). Holds x) (sym h.1) k
@@ -143,12 +139,11 @@ module _ {S : Type 0} (is_open : S → ℕ → Bool) (does : S → Event → S �
   wants_keeps s (ListLine line) t within h k =
       walked_keeps line h.1.forw h.3.0 h.3.1 h.0 t h.3.2 (loads_keeps (SawMem line None) (SawMem line (Some h.1)) s h.0 tt tt h.2 k)
   wants_keeps s (ShowTag line node) t within h k = loads_keeps (SawTag line node None) (SawTag line node (Some h.0)) s t tt tt h.1 k
-  wants_keeps s (Residents node) t within h k = subst (λ (x : S). Holds x) (sym h) k
+  wants_keeps s (Show ask) t within h k = subst (λ (x : S). Holds x) (sym h) k
 
   -- and every command that fails
   pub stops_keeps : (nodes : ℕ) (s : S) (step : Step) (e : ScriptRefusal) (t : S) → IsIn size step.command → StopsAt is_open does nodes s step e t → Holds s → Holds t
   stops_keeps nodes s step OutOfMemory t within h k = wants_keeps s step.command t within h k
   stops_keeps nodes s step (BadCommand n) t within h k = subst (λ (x : S). Holds x) (sym h.2) k
-  stops_keeps nodes s step (BadNumber n) t within h k = absurd h
   stops_keeps nodes s step (NotDone n) t within h k = unended_by_keeps nodes s step.command t within h.1 k
-  stops_keeps nodes s step WriteFailed t within h k = absurd h
+  stops_keeps nodes s step e t within h k = absurd h

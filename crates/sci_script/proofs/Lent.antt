@@ -44,7 +44,7 @@ module _ {U : Type 0} (lent : U → LentLines AnyWords) (gives : U → ℕ → C
   lent_over n None u turn v m id h = absurd (let e = h.0 in cc)
   lent_over n (Some c) u turn v m id h =
       let line = line_by c.victim c.line in
-      let op = op_by c.victim c.op in
+      let op = op_by c.victim c.goal in
       let calls : Takes (λ a call b. gives a line call b) (turn_of op (lent u).node (step_at (lent u) line)) u h.turn v =
       subst (λ (k : ℕ). Takes (λ a call b. gives a line call b) (turn_of op k (step_at (lent u) line)) u h.turn v) id h.calls in
       let taken : TakesTurn (nodes_at (lent u) line) any (lent u).node op (state_at (lent u) line) h.turn (state_at (lent v) line) =
@@ -68,7 +68,7 @@ module _ (width : ℕ) (wholes after : List (WholeLine AnyWords)) (nodes : List 
   takes_lent n None here id count below h = h
   takes_lent n (Some c) here id count below h =
       let line = line_by c.victim c.line in
-      let op = op_by c.victim c.op in
+      let op = op_by c.victim c.goal in
       let w = whole_of wholes line in
       let v = whole_of after line in
       let as_wide : nodes_of w ≡ width = wide line no_line (omega (arith, below, count)) in

@@ -17,7 +17,7 @@ use Rattle.sci_ops.specs.Table.{begun, turn_again, turn_in, turn_of}
 use Rattle.sci_ops.proofs.Resting.Going.{mover_turns}
 use Rattle.sci_ops.proofs.Resting.Reading.{turn_comes_to}
 use Rattle.sci_cache.specs.declared.calls.OpenCall.{OpenCall}
-use Rattle.sci_cache.specs.Nodes.{NodeState, line_by, op_by, shown_by}
+use Rattle.sci_cache.specs.Nodes.{NodeState, line_by, goal_by, op_by, shown_by}
 use Rattle.sci_script.specs.declared.commands.Command.{Command}
 use Rattle.sci_script.specs.declared.commands.Command.TheVariants.{Done}
 use Rattle.sci_script.specs.declared.commands.Opening.{Opening}
@@ -114,14 +114,14 @@ abbrev IsAtWork : Option OpenCall → ℕ → Type 0
 IsAtWork None line = ⊥
 IsAtWork (Some c) line = line ≡ line_by c.victim c.line
 
-goal_there : (line : ℕ) (c : OpenCall) → line ≡ line_by c.victim c.line → goal_on line (Some c) ≡ Some (op_by c.victim c.op).goal
+goal_there : (line : ℕ) (c : OpenCall) → line ≡ line_by c.victim c.line → goal_on line (Some c) ≡ Some (goal_by c.victim c.goal)
 goal_there line c is = grind (arith, nat_tests, is)
 
 -- a node whose next turn waits
 named_by : (s t : Shared) (node line : ℕ) (call : Option OpenCall) → TakesLentOf s node call Turn.Waiting t → IsAtWork call line → IsAwaitedTowards s.width (s.lines line) (goal_on line call) node None → ⊥
 named_by s t node line None h at none = absurd h
 named_by s t node line (Some c) h at none =
-    let op : Operation = op_by c.victim c.op in
+    let op : Operation = op_by c.victim c.goal in
     let work : ℕ = line_by c.victim c.line in
     let lent : TakesTurn s.width any node op (s.lines work) Turn.Waiting (t.lines work) =
     subst (λ (r : Turn). TakesTurn s.width any node op (s.lines work) r (t.lines work)) (shown_waits c.victim h.turn h.shows) h.lent in
@@ -132,7 +132,7 @@ named_by s t node line (Some c) h at none =
 passed_there : (s t : Shared) (node : ℕ) (call : Option OpenCall) (p q : Passed) → TakesTurnOf s node call Turn.Waiting t → PassesTurnOf s node call t p q → IsAtWork call q.line
 passed_there s t node None p q h k = absurd h
 passed_there s t node (Some c) p q h k =
-    let op : Operation = op_by c.victim c.op in
+    let op : Operation = op_by c.victim c.goal in
     let work : ℕ = line_by c.victim c.line in
     let made : TurnsOn s.width node op (s.lines work) Turn.Waiting (t.lines work) = subst (λ (r : Turn). TurnsOn s.width node op (s.lines work) r (t.lines work)) (shown_waits c.victim h.turn h.shows) h.made in
     calls_line s.width node work (s.lines work) (turn_of op node ((s.lines work).steps node)) (t.lines work) (t.lines work) p q (calls_again op.goal op.answer node ((s.lines work).steps node)) made k
@@ -151,7 +151,7 @@ somebody (Some y) is never h = (y, refl)
 turns_once : (s t u : Shared) (node : ℕ) (call : Option OpenCall) (a b : Turn) → TakesTurnOf s node call a t → TakesTurnOf s node call b u → a ≡ b
 turns_once s t u node None a b h k = absurd h
 turns_once s t u node (Some c) a b h k =
-    let op : Operation = op_by c.victim c.op in
+    let op : Operation = op_by c.victim c.goal in
     let line : State = s.lines (line_by c.victim c.line) in
     let once = made_once s.width node (turn_of op node (line.steps node)) line h.turn k.turn (t.lines (line_by c.victim c.line)) (u.lines (line_by c.victim c.line)) h.made k.made in
     h.shows ∙ ap (λ (r : Turn). shown_by c.victim r) once.0 ∙ sym k.shows

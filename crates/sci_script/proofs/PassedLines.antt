@@ -30,4 +30,4 @@ passed_line wholes after n None p q most below none h = absurd h
 passed_line wholes after n (Some c) p q most below none h =
     let line = line_by c.victim c.line in
     let s = state_of (whole_of wholes line) in
-    passes_line (nodes_of (whole_of wholes line)) n.id line s (turn_of (op_by c.victim c.op) n.id (s.steps n.id)) (state_of (whole_of after line)) p q most below (omega (arith, below, none)) h
+    passes_line (nodes_of (whole_of wholes line)) n.id line s (turn_of (op_by c.victim c.goal) n.id (s.steps n.id)) (state_of (whole_of after line)) p q most below (omega (arith, below, none)) h

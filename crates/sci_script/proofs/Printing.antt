@@ -4,14 +4,15 @@ use Rattle.sci_words.specs.declared.memory.Mem.{Mem}
 use Rattle.sci_words.specs.declared.tags.Tag.{Tag}
 use Rattle.sci_ops.specs.declared.answers.Turn.{Turn as Outcome}
 use Rattle.sci_script.specs.declared.commands.Command.{Command}
-use Rattle.sci_script.specs.declared.commands.Command.TheVariants.{Begin, Turn, Done, Rest, End, List as ListLine, Tag as ShowTag, Residents}
+use Rattle.sci_script.specs.declared.commands.Command.TheVariants.{Begin, Turn, Done, Rest, End, List as ListLine, Tag as ShowTag, Show}
+use Rattle.sci_script.specs.declared.desk.Look.{Look}
 use Rattle.sci_script.specs.declared.said.Read.{Read}
 use Rattle.sci_script.specs.declared.said.Read.TheVariants as reads
 use Rattle.sci_script.specs.Request.{no_words}
 use Rattle.sci_script.specs.Run.{EndsOpen, EndsOpenBy, Prints}
 use Rattle.sci_script.specs.Shared.{Shared, shared_is_open, shared_does}
 use Rattle.sci_script.specs.Talks.{Standing, Gathering, Going, Accepts, AcceptsBy, Takes}
-use Rattle.sci_script.specs.Text.{turn_text, list_line, tag_line, residents_line}
+use Rattle.sci_script.specs.Text.{turn_text, list_line, tag_line, look_line}
 use Rattle.sci_script.specs.Words.{is_skipped}
 
 -- this is so of nothing, of two texts together, and of each line that a command prints
@@ -21,7 +22,7 @@ pub record IsOfTexts (P : List ℕ → Type 0) : Type 0 where
   pub turn : (node word : ℕ) (turn : Outcome) → P (turn_text node word turn)
   pub list : (line : ℕ) (mem : Mem) (entries : List (ℕ × Tag)) → P (list_line line mem entries)
   pub tag : (line node : ℕ) (tag : Tag) → P (tag_line line node tag)
-  pub residents : (node : ℕ) (lines : List ℕ) → P (residents_line node lines)
+  pub look : (look : Look) → P (look_line look)
 
 of_nothing : (P : List ℕ → Type 0) → IsOfTexts P → (text : List ℕ) → text ≡ [] → P text
 of_nothing P is text e = subst P (sym e) is.none
@@ -44,17 +45,12 @@ of_printed P is shown s (Rest lines) text t k = of_nothing P is text k.1
 of_printed P is shown s (End nodes lines) text t k = of_ends P is shown nodes k.0 text t k.2
 of_printed P is shown s (ListLine line) text t k = subst P (sym k.5) (is.list line k.1 k.2)
 of_printed P is shown s (ShowTag line node) text t k = subst P (sym k.2) (is.tag line node k.0)
-of_printed P is shown s (Residents node) text t k = subst P (sym k.2) (is.residents node k.0)
+of_printed P is shown s (Show ask) text t k = subst P (sym k.2) (is.look k.0)
 
 of_taken : (P : List ℕ → Type 0) → IsOfTexts P → (s : Standing) (read : Read) (text : List ℕ) (t : Standing) → Takes s read text t → P text
-of_taken P is (Gathering said) (reads.Memory size) text t k = of_nothing P is text k.0
-of_taken P is (Gathering said) (reads.Capacity capacity) text t k = of_nothing P is text k.0
-of_taken P is (Gathering said) (reads.Open opening) text t k = of_nothing P is text k.0
 of_taken P is (Gathering said) (reads.Command command) text t k = of_printed P is no_words k.0 command text k.1 k.3
-of_taken P is (Going size shown s) (reads.Memory said) text t k = of_nothing P is text k.0
-of_taken P is (Going size shown s) (reads.Capacity capacity) text t k = of_nothing P is text k.0
-of_taken P is (Going size shown s) (reads.Open opening) text t k = of_nothing P is text k.0
 of_taken P is (Going size shown s) (reads.Command command) text t k = of_printed P is shown s command text k.0 k.1
+of_taken P is s read text t k = of_nothing P is text k.0
 
 of_by : (P : List ℕ → Type 0) → IsOfTexts P → (b : Bool) (s t : Standing) (line text : List ℕ) → AcceptsBy b s line text t → P text
 of_by P is true s t line text k = of_nothing P is text k.0

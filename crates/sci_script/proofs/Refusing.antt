@@ -7,7 +7,7 @@ use Rattle.sci_script.specs.declared.commands.Size.{Size}
 use Rattle.sci_script.specs.declared.commands.Step.{Step}
 use Rattle.sci_script.specs.declared.places.Place.{Place}
 use Rattle.sci_script.specs.declared.reasons.Reason.{Reason}
-use Rattle.sci_script.specs.declared.reasons.Reason.TheVariants.{BadByte, TooLong, Unknown, Early, Late, Words, Number, Digits, CallOpen, NoCall, WaitsFor, Unended}
+use Rattle.sci_script.specs.declared.reasons.Reason.TheVariants.{BadByte, Early, Late, Words, Number, Digits, WaitsFor, Unended}
 use Rattle.sci_script.specs.declared.refusals.ScriptRefusal.{ScriptRefusal}
 use Rattle.sci_script.specs.declared.said.Read.{Read}
 use Rattle.sci_script.specs.declared.verbs.Argument.{Argument}
@@ -27,18 +27,9 @@ IsOfReader (Unended node) = ⊥
 IsOfReader reason = Unit {0}
 
 pub fails_for : (X : Type 0) (n : ℕ) (reason : Reason) → IsOfReader reason → Fails {Y = X} (refused_for n reason) (Err (refused_for n reason))
-fails_for X n BadByte h = refl
-fails_for X n TooLong h = refl
-fails_for X n Unknown h = refl
-fails_for X n Early h = refl
-fails_for X n Late h = refl
-fails_for X n (Words wanted found) h = refl
-fails_for X n (Number word low high) h = refl
-fails_for X n (Digits word) h = refl
-fails_for X n (CallOpen node) h = refl
-fails_for X n (NoCall node) h = refl
 fails_for X n (WaitsFor node whom) h = absurd h
 fails_for X n (Unended node) h = absurd h
+fails_for X n reason h = refl
 
 -- what isn't taken has such a reason
 abbrev AreOfReader : {X : Type 0} → Result X Reason → Type 0

@@ -21,7 +21,7 @@ module _ {U : Type 0} (fits : AnyWords → ℕ → List ℕ → Type 0) (lent : 
   turned n None u turn v m id h = absurd (let e = h.0 in cc)
   turned n (Some c) u turn v m id h =
       let line = line_by c.victim c.line in
-      let op = op_by c.victim c.op in
+      let op = op_by c.victim c.goal in
       let calls : Takes (λ a call b. gives a line call b) (turn_of op (lent u).node (step_at (lent u) line)) u h.turn v =
       subst (λ (k : ℕ). Takes (λ a call b. gives a line call b) (turn_of op k (step_at (lent u) line)) u h.turn v) id h.calls in
       record {
@@ -41,7 +41,7 @@ module _ {U : Type 0} (fits : AnyWords → ℕ → List ℕ → Type 0) (lent : 
     watched n None u turn v m id h = absurd (let e = h.0 in cc)
     watched n (Some c) u turn v m id h =
         let line = line_by c.victim c.line in
-        let op = op_by c.victim c.op in
+        let op = op_by c.victim c.goal in
         let calls : Takes (λ a call b. gives a line call b) (turn_of op (lent u).node (step_at (lent u) line)) u h.turn v =
         subst (λ (k : ℕ). Takes (λ a call b. gives a line call b) (turn_of op k (step_at (lent u) line)) u h.turn v) id h.calls in
         passed_in (λ a call b. gives a line call b) (λ a. whole_at (lent a) line) (λ a. (lent a).node) (λ a words. fits (lent a).keep line words)

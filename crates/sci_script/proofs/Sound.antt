@@ -18,7 +18,7 @@ use Rattle.sci_cache.proofs.Ordered.{below_displaced, below_used, below_without}
 use Rattle.sci_script.specs.declared.commands.Size.{Size}
 use Rattle.sci_script.specs.declared.commands.Opening.{Opening}
 use Rattle.sci_script.specs.declared.desk.Toward.{Toward}
-use Rattle.sci_script.specs.Event.{Event, Began, Turned, Rested, SawMem, SawTag, SawResidents}
+use Rattle.sci_script.specs.Event.{Event, Began, Turned, Rested}
 use Rattle.sci_script.specs.Openings.{content_of, zeros}
 use Rattle.sci_script.specs.Resting.{any, TakesLentOf}
 use Rattle.sci_script.specs.ScriptText.{Opens}
@@ -36,10 +36,10 @@ line_if : (lines : ℕ) (b : Bool) (x : Option ℕ) → IsLine lines x → IsLin
 line_if lines true x h = tt
 line_if lines false x h = h
 
-sound_with : (k : NodeState) (r : Request) → line_of r < k.lines → IsSoundNode k → IsSoundNode (node_with k r)
+pub sound_with : (k : NodeState) (r : Request) → line_of r < k.lines → IsSoundNode k → IsSoundNode (node_with k r)
 sound_with k r inside h = record {
   residents = below_if k.lines (is_evict r) k.residents (used k.capacity (line_of r) k.residents) h.residents (below_used k.lines (line_of r) k.capacity k.residents inside h.residents);
-  call = (inside, refl, line_if k.lines (is_evict r) (displaced_by k.capacity (line_of r) k.residents) (below_displaced k.lines (line_of r) k.capacity k.residents h.residents));
+  call = (inside, line_if k.lines (is_evict r) (displaced_by k.capacity (line_of r) k.residents) (below_displaced k.lines (line_of r) k.capacity k.residents h.residents));
 }
 
 taken_below : (lines : ℕ) (goal : Goal) (line : ℕ) (xs : List ℕ) → AreBelow lines xs → AreBelow lines (taken_by goal line xs)
@@ -47,17 +47,17 @@ taken_below lines Goal.Evict line xs h = below_without lines line xs h
 taken_below lines _ line xs h = h
 
 sound_residents : (lines : ℕ) (c : OpenCall) (victim : Option ℕ) (turn : Turn) (xs : List ℕ) → AreBelow lines xs → AreBelow lines (residents_after c victim turn xs)
-sound_residents lines c None (Turn.Done answer) xs h = taken_below lines c.op.goal c.line xs h
+sound_residents lines c None (Turn.Done answer) xs h = taken_below lines c.goal c.line xs h
 sound_residents lines c None _ xs h = h
 sound_residents lines c (Some victim) turn xs h = h
 
 sound_call : (lines : ℕ) (c : OpenCall) (victim : Option ℕ) (turn : Turn) → IsSoundCall lines (Some c) → IsSoundCall lines (call_after c victim turn)
 sound_call lines c None (Turn.Done answer) h = tt
-sound_call lines c (Some victim) (Turn.Done answer) h = (h.0, h.1, tt)
+sound_call lines c (Some victim) (Turn.Done answer) h = (h.0, tt)
 sound_call lines c None _ h = h
 sound_call lines c (Some victim) _ h = h
 
-sound_after : (k : NodeState) (c : OpenCall) (turn : Turn) → k.call ≡ Some c → IsSoundNode k → IsSoundNode (node_after k c turn)
+pub sound_after : (k : NodeState) (c : OpenCall) (turn : Turn) → k.call ≡ Some c → IsSoundNode k → IsSoundNode (node_after k c turn)
 sound_after k c turn is h = record {
   residents = sound_residents k.lines c c.victim turn k.residents h.residents;
   call = sound_call k.lines c c.victim turn (subst (λ (x : Option OpenCall). IsSoundCall k.lines x) is h.call);
@@ -118,8 +118,8 @@ turn_keeps size s t node None shown is below k h = absurd k
 turn_keeps size s t node (Some c) shown is below k h =
     let sound : IsSoundCall size.lines (Some c) = call_in size s node (Some c) is below h in
     let work : ℕ = line_by c.victim c.line in
-    let op : Operation = op_by c.victim c.op in
-    let inside : work < size.lines = line_below size.lines c.line c.victim sound.0 sound.2 in
+    let op : Operation = op_by c.victim c.goal in
+    let inside : work < size.lines = line_below size.lines c.line c.victim sound.0 sound.1 in
     let made : TurnsOn size.nodes node op (s.lines work) k.turn (t.lines work) = subst (λ (n : ℕ). TurnsOn n node op (s.lines work) k.turn (t.lines work)) h.width k.made in
     let given = turn_given size.nodes node below op (s.lines work) k.turn (t.lines work) (h.lines work inside) made in
     let one = h.nodes node below in (
@@ -169,6 +169,4 @@ pub does_keeps : (size : Size) (s : Shared) (e : Event) (t : Shared) → IsEvent
 does_keeps size s (Began node request) t within k h = began_keeps size s t node request within.0 within.1 k h
 does_keeps size s (Turned node turn) t within k h = (turn_keeps size s t node (s.nodes node).call turn refl within k h).0
 does_keeps size s (Rested line toward) t within k h = rest_keeps size s t line toward within k h
-does_keeps size s (SawMem line mem) t within k h = subst (λ (x : Shared). IsSound size x) (sym k.1) h
-does_keeps size s (SawTag line node tag) t within k h = subst (λ (x : Shared). IsSound size x) (sym k.1) h
-does_keeps size s (SawResidents node lines) t within k h = subst (λ (x : Shared). IsSound size x) (sym k.1) h
+does_keeps size s event t within k h = subst (λ (x : Shared). IsSound size x) (sym k.1) h

@@ -28,10 +28,7 @@ IsSteady (Going size shown desk) = IsSize size × IsSound size desk
 
 begun_in : (size : Size) (first : Result Read Reason) (read : Read) → ((x : Read) → first ≡ Ok x → IsReadIn first_place.size x) → begun first ≡ Ok read → IsReadIn size read
 begun_in size (Ok (reads.Memory said)) read k e = subst (λ (x : Read). IsReadIn size x) (same_ok (reads.Memory said) read e) (k (reads.Memory said) refl)
-begun_in size (Ok (reads.Capacity capacity)) read k e = absurd (cc)
-begun_in size (Ok (reads.Open opening)) read k e = absurd (cc)
-begun_in size (Ok (reads.Command command)) read k e = absurd (cc)
-begun_in size (Err reason) read k e = absurd (cc)
+begun_in size first read k e = absurd (cc)
 
 late_in : (late : Bool) (size : Size) (first : Result Read Reason) (reason : Reason) (read : Read) → ((x : Read) → first ≡ Ok x → IsReadIn first_place.size x)
     → (if late then begun first else Err reason) ≡ Ok read → IsReadIn size read
@@ -59,11 +56,9 @@ takes_keep (Gathering said) (reads.Command command) text t fits h k =
     let size = said.place.size in
     subst (λ (x : Standing). IsSteady x) (sym h.4)
     (k, prints_keeps shared_is_open shared_does size (λ x. IsSound size x) (does_keeps size) no_words h.0 command text h.1 fits h.3 (opens_sound size said.capacity said.openings h.0 h.2))
-takes_keep (Going size shown s) (reads.Memory said) text t fits h k = steady_as (Going size shown s) t h.1 k
-takes_keep (Going size shown s) (reads.Capacity capacity) text t fits h k = steady_as (Going size shown s) t h.1 k
-takes_keep (Going size shown s) (reads.Open opening) text t fits h k = steady_as (Going size shown s) t h.1 k
 takes_keep (Going size shown s) (reads.Command command) text t fits h k =
     subst (λ (x : Standing). IsSteady x) (sym h.2) (k.0, prints_keeps shared_is_open shared_does size (λ x. IsSound size x) (does_keeps size) shown s command text h.0 fits h.1 k.1)
+takes_keep (Going size shown s) read text t fits h k = steady_as (Going size shown s) t h.1 k
 
 accepts_keep : (skips : Bool) (s : Standing) (line text : List ℕ) (t : Standing) → AcceptsBy skips s line text t → IsSteady s → IsSteady t
 accepts_keep true s line text t h k = steady_as s t h.1 k
@@ -75,10 +70,8 @@ stops_keep (Going size shown s) command e t fits h k =
     subst (λ (x : Standing). IsSteady x) (sym h.2) (k.0, stops_keeps shared_is_open shared_does size (λ x. IsSound size x) (does_keeps size) size.nodes s (said_step command) e h.0 fits h.1 k.1)
 
 declined_keep : (s : Standing) (read : Read) (e : ScriptRefusal) (t : Standing) → IsReadIn (place_of s).size read → IsDeclined s read e t → IsSteady s → IsSteady t
-declined_keep s (reads.Memory size) e t fits h k = steady_as s t h.1 k
-declined_keep s (reads.Capacity capacity) e t fits h k = steady_as s t h.1 k
-declined_keep s (reads.Open opening) e t fits h k = steady_as s t h.1 k
 declined_keep s (reads.Command command) e t fits h k = ⊎_elim (λ a. steady_as s t a.1 k) (λ b. stops_keep s command e t fits b k) h
+declined_keep s read e t fits h k = steady_as s t h.1 k
 
 declines_keep : (s : Standing) (r : Result Read Reason) (e : ScriptRefusal) (t : Standing) → ((read : Read) → r ≡ Ok read → IsReadIn (place_of s).size read) → Declines s r e t → IsSteady s → IsSteady t
 declines_keep s (Ok read) e t fits h k = declined_keep s read e t (fits read refl) h k

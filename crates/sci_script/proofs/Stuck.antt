@@ -33,23 +33,8 @@ back_turns goal me told seen f (Some b) = refl
 
 -- a look changes nothing of what a turn does
 look_turns : (goal : Goal) (me : ℕ) (p : Pending) (t : Tag) → turn_in goal me (look_of p t) ≡ turn_in goal me p
-look_turns goal me Pending.Idle t = refl
-look_turns goal me (Pending.Holding w l) t = refl
-look_turns goal me (Pending.Queueing f) t = refl
-look_turns goal me (Pending.Fetching f d l) t = refl
-look_turns goal me (Pending.InQueue f d copy) t = refl
-look_turns goal me (Pending.Copying x w l) t = refl
-look_turns goal me (Pending.Ready f d l) t = refl
-look_turns goal me (Pending.Converting f turned) t = refl
-look_turns goal me (Pending.Purging l seen) t = refl
-look_turns goal me (Pending.Advancing l x w) t = refl
-look_turns goal me (Pending.Clearing l x w) t = refl
-look_turns goal me (Pending.Leaving d l seen) t = refl
-look_turns goal me (Pending.Promoted d l x) t = refl
-look_turns goal me (Pending.WritingBack l) t = refl
-look_turns goal me (Pending.Parted f) t = refl
 look_turns goal me (Pending.Rolling told seen) t = back_turns goal me told seen t.forw t.back
-look_turns goal me (Pending.Unlinked f b) t = refl
+look_turns goal me p t = refl
 
 again_turns : (goal : Goal) (answer : Option Answer) (me : ℕ) (p : Pending) (t : Tag) → turn_again goal answer me (look_of p t) ≡ turn_again goal answer me p
 again_turns goal None me p t = look_turns goal me p t
@@ -149,7 +134,7 @@ waits_on s t node None is h = absurd h
 waits_on s t node (Some c) is h =
     let n : NodeState = s.nodes node in
     let line : ℕ = line_by c.victim c.line in
-    let op : Operation = op_by c.victim c.op in
+    let op : Operation = op_by c.victim c.goal in
     let waited : h.turn ≡ Turn.Waiting = shown_waits c.victim h.turn h.shows in
     let same : t.nodes node ≡ n = node_stays s t node c is h in
     let still : (t.nodes node).call ≡ Some c = ap (λ (m : NodeState). m.call) same ∙ is in

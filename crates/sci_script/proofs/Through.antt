@@ -3,11 +3,11 @@ use Rattle.std.proofs.Common.{ℕ, zero, suc, Bool, true, false, List, [], ◌�
 use Rattle.sci_words.specs.declared.tags.Tag.{Tag}
 use Rattle.sci_script.specs.declared.commands.Step.{Step}
 use Rattle.sci_script.specs.declared.commands.Command.{Command}
-use Rattle.sci_script.specs.declared.commands.Command.TheVariants.{Begin, Turn, Done, Rest, End, List as ListLine, Tag as ShowTag, Residents}
+use Rattle.sci_script.specs.declared.commands.Command.TheVariants.{Begin, Turn, Done, Rest, End, List as ListLine, Tag as ShowTag, Show}
 use Rattle.sci_script.specs.declared.refusals.ScriptRefusal.{ScriptRefusal}
 use Rattle.sci_script.specs.declared.refusals.ScriptRefusal.TheVariants.{OutOfMemory, BadCommand, BadNumber, NotDone, WriteFailed}
 use Rattle.sci_script.specs.declared.desk.Toward.{Toward}
-use Rattle.sci_script.specs.Event.{Event, Began, Turned, Rested, SawMem, SawTag, SawResidents}
+use Rattle.sci_script.specs.Event.{Event, Began, Turned, Rested, SawMem, SawTag, Saw}
 use Rattle.sci_script.specs.Request.{asked, no_words, words_after}
 use Rattle.sci_script.specs.Run.{Unended, Calms, CalmsTo, RestsLines, RestsNot, CallEnds, EndsOpenBy, EndsOpen, EndsTo, Repeats, Loads, Walked, Prints, PrintsAll, IsOutOfPlace, IsLost, IsUnended, WantsMemory, StopsAt, Leaves}
 
@@ -77,7 +77,7 @@ module _ {S T : Type 0} (f : S → T) (is_open : T → ℕ → Bool) (does_seen 
   prints words s (ListLine line) text t h =
       (f h.0, h.1, h.2, loads (SawMem line None) (SawMem line (Some h.1)) s h.0 h.3, walked line h.1.forw h.2 None h.0 t h.4, h.5)
   prints words s (ShowTag line node) text t h = (h.0, loads (SawTag line node None) (SawTag line node (Some h.0)) s t h.1, h.2)
-  prints words s (Residents node) text t h = (h.0, seen s (SawResidents node h.0) t h.1, h.2)
+  prints words s (Show ask) text t h = (h.0, seen s (Saw ask h.0) t h.1, h.2)
 
   pub prints_all : (words : List ℕ) (s : S) (steps : List Step) (text : List ℕ) (t : S) → PrintsAll open_seen does_seen words s steps text t → PrintsAll is_open does words (f s) steps text (f t)
   prints_all words s [] text t h = (h.0, ap f h.1)
@@ -94,8 +94,6 @@ module _ {S T : Type 0} (f : S → T) (is_open : T → ℕ → Bool) (does_seen 
   )
 
   no_end : (nodes : ℕ) (s : S) (command : Command) (t : S) → IsUnended open_seen does_seen nodes s command t → IsUnended is_open does nodes (f s) command (f t)
-  no_end nodes s (Begin node line request) t h = h
-  no_end nodes s (Turn node) t h = h
   no_end nodes s (Done node) t h = (h.0, unended node 100000 s t h.1)
   no_end nodes s (Rest lines) t h = rests_not lines s t h
   no_end nodes s (End ends lines) t h =
@@ -105,17 +103,11 @@ module _ {S T : Type 0} (f : S → T) (is_open : T → ℕ → Bool) (does_seen 
       ⊎_elim (λ a. inl (repeats (SawMem line None) 100000 s t a))
       (λ b. inr (f b.0, b.1, loads (SawMem line None) (SawMem line (Some b.1)) s b.0 b.2, lost nodes line b.1.forw b.0 t b.3)) h
   no_end nodes s (ShowTag line node) t h = repeats (SawTag line node None) 100000 s t h
-  no_end nodes s (Residents node) t h = h
+  no_end nodes s command t h = h
 
   out_of_place : (s : S) (command : Command) → IsOutOfPlace open_seen s command → IsOutOfPlace is_open (f s) command
   out_of_place s (Begin node line request) h = h
-  out_of_place s (Turn node) h = h
-  out_of_place s (Done node) h = h
-  out_of_place s (Rest lines) h = h
-  out_of_place s (End nodes lines) h = h
-  out_of_place s (ListLine line) h = h
-  out_of_place s (ShowTag line node) h = h
-  out_of_place s (Residents node) h = h
+  out_of_place s command h = h
 
   wants_memory : (s : S) (command : Command) (t : S) → WantsMemory open_seen does_seen s command t → WantsMemory is_open does (f s) command (f t)
   wants_memory s (Begin node line request) t h = (h.0, ap f h.1)
@@ -127,22 +119,17 @@ module _ {S T : Type 0} (f : S → T) (is_open : T → ℕ → Bool) (does_seen 
   wants_memory s (ListLine line) t h =
       (f h.0, h.1, loads (SawMem line None) (SawMem line (Some h.1)) s h.0 h.2, (h.3.0, h.3.1, walked line h.1.forw h.3.0 h.3.1 h.0 t h.3.2))
   wants_memory s (ShowTag line node) t h = (h.0, loads (SawTag line node None) (SawTag line node (Some h.0)) s t h.1)
-  wants_memory s (Residents node) t h = ap f h
+  wants_memory s (Show ask) t h = ap f h
 
   -- how one command fails
   pub stops_at : (nodes : ℕ) (s : S) (step : Step) (refusal : ScriptRefusal) (t : S) → StopsAt open_seen does_seen nodes s step refusal t → StopsAt is_open does nodes (f s) step refusal (f t)
   stops_at nodes s step OutOfMemory t h = wants_memory s step.command t h
   stops_at nodes s step (BadCommand n) t h = (h.0, out_of_place s step.command h.1, ap f h.2)
-  stops_at nodes s step (BadNumber n) t h = h
   stops_at nodes s step (NotDone n) t h = (h.0, no_end nodes s step.command t h.1)
-  stops_at nodes s step WriteFailed t h = h
+  stops_at nodes s step refusal t h = h
 
   pub leaves : (nodes : ℕ) (s : S) (steps : List Step) (refusal : ScriptRefusal) (written : List ℕ) (t : S) → Leaves open_seen does_seen nodes s steps refusal written t → Leaves is_open does nodes (f s) steps refusal written (f t)
-  leaves nodes s steps OutOfMemory written t h =
-      (h.0, f h.1, h.2, prints_all no_words s (take h.0 steps) written h.1 h.3, h.4, stops_at nodes h.1 h.2 OutOfMemory t h.5)
-  leaves nodes s steps (BadCommand n) written t h =
-      (h.0, f h.1, h.2, prints_all no_words s (take h.0 steps) written h.1 h.3, h.4, stops_at nodes h.1 h.2 (BadCommand n) t h.5)
   leaves nodes s steps (BadNumber n) written t h = h
-  leaves nodes s steps (NotDone n) written t h =
-      (h.0, f h.1, h.2, prints_all no_words s (take h.0 steps) written h.1 h.3, h.4, stops_at nodes h.1 h.2 (NotDone n) t h.5)
   leaves nodes s steps WriteFailed written t h = (h.0, h.1, h.2, prints_all no_words s (take h.0 steps) h.1 t h.3, h.4, h.5)
+  leaves nodes s steps refusal written t h =
+      (h.0, f h.1, h.2, prints_all no_words s (take h.0 steps) written h.1 h.3, h.4, stops_at nodes h.1 h.2 refusal t h.5)

@@ -51,7 +51,7 @@ module _ (size : Size) where
   -- how a node's call stands there
   is_on : (call : Option OpenCall) → IsSoundCall size.lines call → IsOn inside call
   is_on None h = tt
-  is_on (Some c) h = (h.0, line_below size.lines c.line c.victim h.0 h.2)
+  is_on (Some c) h = (h.0, line_below size.lines c.line c.victim h.0 h.1)
 
   -- what is left of a call behind turns that don't end it
   moved_on : (me : ℕ) (s t : Shared) (o : Turn) (k most : ℕ) → IsNoEnd o → Comes inside me s (s.nodes me).call o t → left me s (s.nodes me).call + k ≤ most → Stands inside me t (t.nodes me).call × (left me t (t.nodes me).call + suc k ≤ most)

@@ -7,8 +7,10 @@ use Rattle.sci_port.specs.declared.calls.Call.TheVariants.{MemWas, TagWas}
 use Rattle.sci_ops.specs.declared.answers.Turn.{Turn}
 use Rattle.sci_cache.specs.Nodes.{NodeState, TurnsBy, node_with}
 use Rattle.sci_script.specs.declared.commands.Size.{Size}
+use Rattle.sci_script.specs.declared.commands.Ask.{Ask}
+use Rattle.sci_script.specs.declared.desk.Look.{Look}
 use Rattle.sci_script.specs.declared.desk.Toward.{Toward}
-use Rattle.sci_script.specs.Event.{Event, Began, Turned, Rested, SawMem, SawTag, SawResidents}
+use Rattle.sci_script.specs.Event.{Event, Began, Turned, Rested, SawMem, SawTag, Saw}
 use Rattle.sci_script.specs.Nodes.{AreNodesOf}
 use Rattle.sci_script.specs.Unused.{no_node}
 
@@ -66,12 +68,15 @@ module _ {B : Type 0} (gives : B → ℕ → Call → B → Type 0) (step : B �
     pub turns : TurnsBy gives step (node_at s node) (node_at s node).call bank (Ok shown) after later
     pub desk : t ≡ record s { banks = slice_set s.banks node after; nodes = slice_set s.nodes node later }
 
-  -- a call begun asks no bank; a turn is that of the node over its bank; the bank of node 0 makes the loads, and residents are
-  -- the node's
+  -- residents are the node's
+  abbrev pub banked_has : Banked B → Ask → Look → Type 0
+  banked_has s (Ask.Residents node) (Look.Residents who lines) = (who ≡ node) × (lines.items ≡ (node_at s node).residents)
+
+  -- a call begun asks no bank; a turn is that of the node over its bank; the bank of node 0 makes the loads
   abbrev pub banked_does : Banked B → Event → Banked B → Type 0
   banked_does s (Began node request) t = t ≡ record s { nodes = slice_set s.nodes node (node_with (node_at s node) request) }
   banked_does s (Turned node turn) t = TurnsNode s node turn t
   banked_does s (Rested line toward) t = (toward ≡ Toward.Unknown) × (t ≡ s)
   banked_does s (SawMem line mem) t = Asks s 0 line (MemWas mem) t
   banked_does s (SawTag line node tag) t = Asks s 0 line (TagWas node tag) t
-  banked_does s (SawResidents node lines) t = (lines ≡ (node_at s node).residents) × (t ≡ s)
+  banked_does s (Saw ask look) t = banked_has s ask look × (t ≡ s)

@@ -3,24 +3,17 @@ use Rattle.std.specs.Prelude.{◌≡◌, ℕ, Option, Some, None}
 use Rattle.sci_script.specs.declared.commands.Command.{Command}
 use Rattle.sci_script.specs.declared.commands.Command.TheVariants.{Begin, Turn, Done}
 use Rattle.sci_script.specs.declared.reasons.Reason.{Reason}
-use Rattle.sci_script.specs.declared.reasons.Reason.TheVariants.{BadByte, TooLong, Unknown, Early, Late, Words, Number, Digits, CallOpen, NoCall, WaitsFor, Unended}
+use Rattle.sci_script.specs.declared.reasons.Reason.TheVariants.{Number, Digits, WaitsFor, Unended}
 use Rattle.sci_script.specs.declared.refusals.ScriptRefusal.{ScriptRefusal}
 use Rattle.sci_script.specs.declared.refusals.ScriptRefusal.TheVariants.{BadCommand, BadNumber, NotDone}
 
 -- of the command on this line
 abbrev pub refused_for : ℕ → Reason → ScriptRefusal
-refused_for line BadByte = BadCommand line
-refused_for line TooLong = BadCommand line
-refused_for line Unknown = BadCommand line
-refused_for line Early = BadCommand line
-refused_for line Late = BadCommand line
-refused_for line (Words wanted found) = BadCommand line
 refused_for line (Number word low high) = BadNumber line
 refused_for line (Digits word) = BadNumber line
-refused_for line (CallOpen node) = BadCommand line
-refused_for line (NoCall node) = BadCommand line
 refused_for line (WaitsFor node whom) = NotDone line
 refused_for line (Unended node) = NotDone line
+refused_for line reason = BadCommand line
 
 -- a refusal has a reason, which is one of it
 abbrev pub IsRefusedFor : ScriptRefusal → Option Reason → Type 0

@@ -1,10 +1,12 @@
 -- A call of a desk, with its answer; and which turns end a node's call. This project's profile.
-use Rattle.std.specs.Prelude.{ℕ, List, Option}
+use Rattle.std.specs.Prelude.{ℕ, Option}
 use Rattle.sci_words.specs.declared.memory.Mem.{Mem}
 use Rattle.sci_words.specs.declared.tags.Tag.{Tag}
 use Rattle.sci_ops.specs.declared.answers.Turn.{Turn}
 use Rattle.sci_ops.specs.declared.answers.Turn.TheVariants.{Moved, Waiting, Done}
 use Rattle.sci_cache.specs.declared.requests.Request.{Request}
+use Rattle.sci_script.specs.declared.commands.Ask.{Ask}
+use Rattle.sci_script.specs.declared.desk.Look.{Look}
 use Rattle.sci_script.specs.declared.desk.Toward.{Toward}
 
 pub data Event : Type 0 where
@@ -13,7 +15,7 @@ pub data Event : Type 0 where
   Rested : (line : ℕ) → (toward : Toward) → Event
   SawMem : (line : ℕ) → (mem : Option Mem) → Event
   SawTag : (line node : ℕ) → (tag : Option Tag) → Event
-  SawResidents : (node : ℕ) → (lines : List ℕ) → Event
+  Saw : (ask : Ask) → (look : Look) → Event
 
 -- the turn ended the call
 abbrev pub IsEnd : Turn → Type 0

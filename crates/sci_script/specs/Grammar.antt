@@ -7,7 +7,8 @@ use Rattle.sci_core.specs.declared.whole.TheConstants.{MOST_NODES}
 use Rattle.sci_script.specs.declared.commands.Opening.{Opening}
 use Rattle.sci_script.specs.declared.commands.Size.{Size}
 use Rattle.sci_script.specs.declared.commands.Request.TheVariants.{Load, Store, Add, Evict}
-use Rattle.sci_script.specs.declared.commands.Command.TheVariants.{Begin, Turn, Done, Rest, End, List as ListLine, Tag as ShowTag, Residents}
+use Rattle.sci_script.specs.declared.commands.Command.TheVariants.{Begin, Turn, Done, Rest, End, List as ListLine, Tag as ShowTag, Show}
+use Rattle.sci_script.specs.declared.commands.Ask.{Ask}
 use Rattle.sci_script.specs.declared.places.Place.{Place}
 use Rattle.sci_script.specs.declared.places.Stand.{Stand}
 use Rattle.sci_script.specs.declared.places.Stand.TheVariants as stands
@@ -133,7 +134,7 @@ said_by size verbs.Rest ns = reads.Command (Rest size.lines)
 said_by size verbs.End ns = reads.Command (End size.nodes size.lines)
 said_by size verbs.List ns = reads.Command (ListLine (at ns 0))
 said_by size verbs.Tag ns = reads.Command (ShowTag (at ns 0) (at ns 1))
-said_by size verbs.Residents ns = reads.Command (Residents (at ns 0))
+said_by size verbs.Residents ns = reads.Command (Show (Ask.Residents (at ns 0)))
 
 -- from this number on each is in its range
 abbrev pub AreFrom : Size → ℕ → List Argument → List ℕ → Type 0

@@ -24,7 +24,7 @@ whole_of wholes line = slice_index_or wholes line no_line
 -- a turn of the node's call over these lines: of the operation at work on the line at work; the other lines stay
 pub record TurnsOver (wholes : List (WholeLine AnyWords)) (n : NodeState) (c : OpenCall) (shown : Turn) (after : List (WholeLine AnyWords)) (m : NodeState) : Type 0 where
   pub turn : Turn
-  pub made : TurnsOn (nodes_of (whole_of wholes (line_by c.victim c.line))) n.id (op_by c.victim c.op) (state_of (whole_of wholes (line_by c.victim c.line))) turn (state_of (whole_of after (line_by c.victim c.line)))
+  pub made : TurnsOn (nodes_of (whole_of wholes (line_by c.victim c.line))) n.id (op_by c.victim c.goal) (state_of (whole_of wholes (line_by c.victim c.line))) turn (state_of (whole_of after (line_by c.victim c.line)))
   pub others : (line : ℕ) → line ≢ line_by c.victim c.line → whole_of after line ≡ whole_of wholes line
   pub shows : shown ≡ shown_by c.victim turn
   pub node : m ≡ node_after n c turn
@@ -35,7 +35,7 @@ TurnsOverOf wholes n (Some c) shown after m = TurnsOver wholes n c shown after m
 
 -- a load on the line, as the call of a node that names no line
 abbrev pub load_on : ℕ → OpenCall
-load_on line = record { line = line; op = begun Goal.Load; victim = None }
+load_on line = record { line = line; goal = Goal.Load; victim = None }
 
 abbrev pub loader : ℕ → ℕ → NodeState
 loader node line = node_state node 0 0 false [] (Some (load_on line))

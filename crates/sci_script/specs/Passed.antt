@@ -57,13 +57,13 @@ PassesOn n me line op s t p q = Passes n me line s (turn_of op me (s.steps me)) 
 abbrev pub PassesOverOf : List (WholeLine AnyWords) → NodeState → Option OpenCall → List (WholeLine AnyWords) → Passed → Passed → Type 0
 PassesOverOf wholes n None after p q = ⊥
 PassesOverOf wholes n (Some c) after p q =
-    PassesOn (nodes_of (whole_of wholes (line_by c.victim c.line))) n.id (line_by c.victim c.line) (op_by c.victim c.op) (state_of (whole_of wholes (line_by c.victim c.line)))
+    PassesOn (nodes_of (whole_of wholes (line_by c.victim c.line))) n.id (line_by c.victim c.line) (op_by c.victim c.goal) (state_of (whole_of wholes (line_by c.victim c.line)))
     (state_of (whole_of after (line_by c.victim c.line))) p q
 
 -- in a turn of the node's call, which is that of the operation at work on the line at work
 abbrev pub PassesTurnOf : Shared → ℕ → Option OpenCall → Shared → Passed → Passed → Type 0
 PassesTurnOf s node None t p q = ⊥
-PassesTurnOf s node (Some c) t p q = PassesOn s.width node (line_by c.victim c.line) (op_by c.victim c.op) (s.lines (line_by c.victim c.line)) (t.lines (line_by c.victim c.line)) p q
+PassesTurnOf s node (Some c) t p q = PassesOn s.width node (line_by c.victim c.line) (op_by c.victim c.goal) (s.lines (line_by c.victim c.line)) (t.lines (line_by c.victim c.line)) p q
 
 abbrev pub shared_passes : Shared → ℕ → Shared → Passed → Passed → Type 0
 shared_passes s node t p q = PassesTurnOf s node (s.nodes node).call t p q

@@ -7,7 +7,7 @@ use Rattle.sci_script.specs.declared.commands.Size.{Size}
 use Rattle.sci_script.specs.declared.commands.Opening.{Opening}
 use Rattle.sci_script.specs.declared.commands.Step.{Step}
 use Rattle.sci_script.specs.declared.commands.Command.{Command}
-use Rattle.sci_script.specs.declared.commands.Command.TheVariants.{Begin, Turn, Done, Rest, End, List as ListLine, Tag as ShowTag, Residents}
+use Rattle.sci_script.specs.declared.commands.Command.TheVariants.{Begin, Turn, Done}
 use Rattle.sci_script.specs.declared.reasons.Reason.{Reason}
 use Rattle.sci_script.specs.declared.reasons.Reason.TheVariants.{CallOpen, NoCall, WaitsFor, Unended}
 use Rattle.sci_script.specs.declared.refusals.ScriptRefusal.{ScriptRefusal}
@@ -45,11 +45,7 @@ abbrev pub IsWhy : Shared → Command → Option Reason → Type 0
 IsWhy s (Begin node line request) why = why ≡ (if shared_is_open s node then Some (CallOpen node) else None)
 IsWhy s (Turn node) why = why ≡ (if shared_is_open s node then None else Some (NoCall node))
 IsWhy s (Done node) why = IsUnendedBy s node (s.nodes node).call why
-IsWhy s (ListLine line) why = why ≡ None
-IsWhy s (ShowTag line node) why = why ≡ None
-IsWhy s (Residents node) why = why ≡ None
-IsWhy s (Rest lines) why = why ≡ None
-IsWhy s (End nodes lines) why = why ≡ None
+IsWhy s command why = why ≡ None
 
 -- over a desk just opened, where no call is open
 abbrev pub unbegun_reason : Command → Option Reason

@@ -59,8 +59,8 @@ pub record AreCalm (calm : List Bool) (wholes : List (WholeLine AnyWords)) : Typ
 pub record TakesLent (s : Shared) (node : ℕ) (call : OpenCall) (shown : Turn) (t : Shared) : Type 0 where
   pub turn : Turn
   pub width : t.width ≡ s.width
-  pub made : TurnsOn s.width node (op_by call.victim call.op) (s.lines (line_by call.victim call.line)) turn (t.lines (line_by call.victim call.line))
-  pub lent : TakesTurn s.width any node (op_by call.victim call.op) (s.lines (line_by call.victim call.line)) turn (t.lines (line_by call.victim call.line))
+  pub made : TurnsOn s.width node (op_by call.victim call.goal) (s.lines (line_by call.victim call.line)) turn (t.lines (line_by call.victim call.line))
+  pub lent : TakesTurn s.width any node (op_by call.victim call.goal) (s.lines (line_by call.victim call.line)) turn (t.lines (line_by call.victim call.line))
   pub others : (line : ℕ) → line ≢ line_by call.victim call.line → t.lines line ≡ s.lines line
   pub shows : shown ≡ shown_by call.victim turn
   pub after : HasNode s node (node_after (s.nodes node) call turn) t
@@ -72,8 +72,8 @@ TakesLentOf s node (Some call) shown t = TakesLent s node call shown t
 -- the same over whole lines and the node
 pub record LentOver (wholes : List (WholeLine AnyWords)) (n : NodeState) (c : OpenCall) (shown : Turn) (after : List (WholeLine AnyWords)) (m : NodeState) : Type 0 where
   pub turn : Turn
-  pub made : TurnsOn (nodes_of (whole_of wholes (line_by c.victim c.line))) n.id (op_by c.victim c.op) (state_of (whole_of wholes (line_by c.victim c.line))) turn (state_of (whole_of after (line_by c.victim c.line)))
-  pub lent : TakesTurn (nodes_of (whole_of wholes (line_by c.victim c.line))) any n.id (op_by c.victim c.op) (state_of (whole_of wholes (line_by c.victim c.line))) turn (state_of (whole_of after (line_by c.victim c.line)))
+  pub made : TurnsOn (nodes_of (whole_of wholes (line_by c.victim c.line))) n.id (op_by c.victim c.goal) (state_of (whole_of wholes (line_by c.victim c.line))) turn (state_of (whole_of after (line_by c.victim c.line)))
+  pub lent : TakesTurn (nodes_of (whole_of wholes (line_by c.victim c.line))) any n.id (op_by c.victim c.goal) (state_of (whole_of wholes (line_by c.victim c.line))) turn (state_of (whole_of after (line_by c.victim c.line)))
   pub others : (line : ℕ) → line ≢ line_by c.victim c.line → whole_of after line ≡ whole_of wholes line
   pub shows : shown ≡ shown_by c.victim turn
   pub node : m ≡ node_after n c turn

@@ -7,13 +7,14 @@ use Rattle.sci_words.specs.declared.tags.Tag.{Tag}
 use Rattle.sci_ops.specs.declared.answers.Turn.{Turn as Outcome}
 use Rattle.sci_script.specs.declared.commands.Step.{Step}
 use Rattle.sci_script.specs.declared.commands.Command.{Command}
-use Rattle.sci_script.specs.declared.commands.Command.TheVariants.{Begin, Turn, Done, Rest, End, List as ListLine, Tag as ShowTag, Residents}
+use Rattle.sci_script.specs.declared.commands.Command.TheVariants.{Begin, Turn, Done, Rest, End, List as ListLine, Tag as ShowTag, Show}
 use Rattle.sci_script.specs.declared.refusals.ScriptRefusal.{ScriptRefusal}
 use Rattle.sci_script.specs.declared.refusals.ScriptRefusal.TheVariants.{OutOfMemory, BadCommand, BadNumber, NotDone, WriteFailed}
+use Rattle.sci_script.specs.declared.desk.Look.{Look}
 use Rattle.sci_script.specs.declared.desk.Toward.{Toward}
-use Rattle.sci_script.specs.Event.{Event, Began, Turned, Rested, SawMem, SawTag, SawResidents, IsEnd, IsNoEnd}
+use Rattle.sci_script.specs.Event.{Event, Began, Turned, Rested, SawMem, SawTag, Saw, IsEnd, IsNoEnd}
 use Rattle.sci_script.specs.Request.{asked, no_words, words_after}
-use Rattle.sci_script.specs.Text.{turn_text, list_line, tag_line, residents_line}
+use Rattle.sci_script.specs.Text.{turn_text, list_line, tag_line, look_line}
 
 -- n turns of the node's call, none of which ends it
 unfoldable pub Unended : {S : Type 0} → (S → Event → S → Type 0) → ℕ → ℕ → S → S → Type 0
@@ -89,7 +90,7 @@ Prints {S} is_open does words s (End nodes lines) text t = (mid : S) × RestsLin
 Prints {S} is_open does words s (ListLine line) text t = (mid : S) × (mem : Mem) × (entries : List (ℕ × Tag)) × Loads does (SawMem line None) (SawMem line (Some mem)) s mid
     × Walked does line mem.forw entries None mid t × (text ≡ list_line line mem entries)
 Prints is_open does words s (ShowTag line node) text t = (tag : Tag) × Loads does (SawTag line node None) (SawTag line node (Some tag)) s t × (text ≡ tag_line line node tag)
-Prints is_open does words s (Residents node) text t = (lines : List ℕ) × does s (SawResidents node lines) t × (text ≡ residents_line node lines)
+Prints is_open does words s (Show ask) text t = (look : Look) × does s (Saw ask look) t × (text ≡ look_line look)
 
 -- the commands print this text, one after the other
 abbrev pub PrintsAll : {S : Type 0} → (S → ℕ → Bool) → (S → Event → S → Type 0) → List ℕ → S → List Step → List ℕ → S → Type 0
@@ -102,11 +103,7 @@ abbrev pub IsOutOfPlace : {S : Type 0} → (S → ℕ → Bool) → S → Comman
 IsOutOfPlace is_open s (Begin node line request) = is_open s node ≡ true
 IsOutOfPlace is_open s (Turn node) = is_open s node ≡ false
 IsOutOfPlace is_open s (Done node) = is_open s node ≡ false
-IsOutOfPlace is_open s (Rest lines) = ⊥
-IsOutOfPlace is_open s (End nodes lines) = ⊥
-IsOutOfPlace is_open s (ListLine line) = ⊥
-IsOutOfPlace is_open s (ShowTag line node) = ⊥
-IsOutOfPlace is_open s (Residents node) = ⊥
+IsOutOfPlace is_open s command = ⊥
 
 -- from s to t, a walk along these links comes to an entry whose tag is not to be had, or to more entries than nodes
 abbrev pub IsLost : {S : Type 0} → (S → Event → S → Type 0) → ℕ → ℕ → Option ℕ → S → S → Type 0
@@ -115,15 +112,13 @@ IsLost {S} does nodes line from s t = (entries : List (ℕ × Tag)) × (node : �
 
 -- a command that doesn't end, from s to t: 100,000 turns, a word that is not to be had, or a list whose links don't end
 abbrev pub IsUnended : {S : Type 0} → (S → ℕ → Bool) → (S → Event → S → Type 0) → ℕ → S → Command → S → Type 0
-IsUnended is_open does nodes s (Begin node line request) t = ⊥
-IsUnended is_open does nodes s (Turn node) t = ⊥
 IsUnended is_open does nodes s (Done node) t = (is_open s node ≡ true) × Unended does node 100000 s t
 IsUnended is_open does nodes s (Rest lines) t = RestsNot does lines s t
 IsUnended is_open does nodes s (End ends lines) t = RestsNot does lines s t ⊎ EndsTo is_open does ends lines s (λ node mid. Unended does node 100000 mid t)
 IsUnended {S} is_open does nodes s (ListLine line) t = Repeats does (SawMem line None) 100000 s t
     ⊎ ((mid : S) × (mem : Mem) × Loads does (SawMem line None) (SawMem line (Some mem)) s mid × IsLost does nodes line mem.forw mid t)
 IsUnended is_open does nodes s (ShowTag line node) t = Repeats does (SawTag line node None) 100000 s t
-IsUnended is_open does nodes s (Residents node) t = ⊥
+IsUnended is_open does nodes s command t = ⊥
 
 -- neither `rest` nor `end`
 abbrev pub IsNoRest : Command → Type 0
@@ -145,24 +140,19 @@ WantsMemory is_open does s (Rest lines) t = ⊥
 WantsMemory is_open does s (End nodes lines) t = EndsTo is_open does nodes lines s (λ node mid. (words last : List ℕ) × CallEnds does words node mid last t)
 WantsMemory {S} is_open does s (ListLine line) t = (mid : S) × (mem : Mem) × Loads does (SawMem line None) (SawMem line (Some mem)) s mid × Walks does line mem.forw mid t
 WantsMemory is_open does s (ShowTag line node) t = (tag : Tag) × Loads does (SawTag line node None) (SawTag line node (Some tag)) s t
-WantsMemory is_open does s (Residents node) t = t ≡ s
+WantsMemory is_open does s (Show ask) t = t ≡ s
 
 -- how one command fails
 abbrev pub StopsAt : {S : Type 0} → (S → ℕ → Bool) → (S → Event → S → Type 0) → ℕ → S → Step → ScriptRefusal → S → Type 0
 StopsAt is_open does nodes s step OutOfMemory t = WantsMemory is_open does s step.command t
 StopsAt is_open does nodes s step (BadCommand n) t = (n ≡ step.number) × IsOutOfPlace is_open s step.command × (t ≡ s)
-StopsAt is_open does nodes s step (BadNumber n) t = ⊥
 StopsAt is_open does nodes s step (NotDone n) t = (n ≡ step.number) × IsUnended is_open does nodes s step.command t
-StopsAt is_open does nodes s step WriteFailed t = ⊥
+StopsAt is_open does nodes s step e t = ⊥
 
 -- what is written where a run fails: the text of the commands before, or, where the writer failed, a front of the text of some, and
 -- not all of it
 abbrev pub Leaves : {S : Type 0} → (S → ℕ → Bool) → (S → Event → S → Type 0) → ℕ → S → List Step → ScriptRefusal → List ℕ → S → Type 0
-Leaves {S} is_open does nodes s steps OutOfMemory written t = (k : ℕ) × (mid : S) × (step : Step) × PrintsAll is_open does no_words s (take k steps) written mid
-    × (slice_get steps k ≡ Some step) × StopsAt is_open does nodes mid step OutOfMemory t
-Leaves {S} is_open does nodes s steps (BadCommand n) written t = (k : ℕ) × (mid : S) × (step : Step) × PrintsAll is_open does no_words s (take k steps) written mid
-    × (slice_get steps k ≡ Some step) × StopsAt is_open does nodes mid step (BadCommand n) t
-Leaves {S} is_open does nodes s steps (BadNumber n) written t = ⊥
-Leaves {S} is_open does nodes s steps (NotDone n) written t = (k : ℕ) × (mid : S) × (step : Step) × PrintsAll is_open does no_words s (take k steps) written mid
-    × (slice_get steps k ≡ Some step) × StopsAt is_open does nodes mid step (NotDone n) t
+Leaves is_open does nodes s steps (BadNumber n) written t = ⊥
 Leaves {S} is_open does nodes s steps WriteFailed written t = (k : ℕ) × (text : List ℕ) × (n : ℕ) × PrintsAll is_open does no_words s (take k steps) text t × (n < length text) × (written ≡ take n text)
+Leaves {S} is_open does nodes s steps refusal written t = (k : ℕ) × (mid : S) × (step : Step) × PrintsAll is_open does no_words s (take k steps) written mid
+    × (slice_get steps k ≡ Some step) × StopsAt is_open does nodes mid step refusal t

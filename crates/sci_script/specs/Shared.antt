@@ -9,8 +9,10 @@ use Rattle.sci_ops.specs.Ranking.{ranking}
 use Rattle.sci_ops.specs.Table.{begun}
 use Rattle.sci_cache.specs.declared.calls.OpenCall.{OpenCall}
 use Rattle.sci_cache.specs.Nodes.{NodeState, node_with, node_after, line_by, op_by, shown_by}
+use Rattle.sci_script.specs.declared.commands.Ask.{Ask}
+use Rattle.sci_script.specs.declared.desk.Look.{Look}
 use Rattle.sci_script.specs.declared.desk.Toward.{Toward}
-use Rattle.sci_script.specs.Event.{Event, Began, Turned, Rested, SawMem, SawTag, SawResidents}
+use Rattle.sci_script.specs.Event.{Event, Began, Turned, Rested, SawMem, SawTag, Saw}
 use Rattle.sci_script.specs.Turns.{TurnsOn}
 
 -- how many nodes each line has; the state of each line, by its number; each node, by its number
@@ -31,7 +33,7 @@ HasNode s node n t = (i : ℕ) → t.nodes i ≡ update s.nodes node n i
 pub record TakesTurn (s : Shared) (node : ℕ) (call : OpenCall) (shown : Turn) (t : Shared) : Type 0 where
   pub turn : Turn
   pub width : t.width ≡ s.width
-  pub made : TurnsOn s.width node (op_by call.victim call.op) (s.lines (line_by call.victim call.line)) turn (t.lines (line_by call.victim call.line))
+  pub made : TurnsOn s.width node (op_by call.victim call.goal) (s.lines (line_by call.victim call.line)) turn (t.lines (line_by call.victim call.line))
   pub others : (line : ℕ) → line ≢ line_by call.victim call.line → t.lines line ≡ s.lines line
   pub shows : shown ≡ shown_by call.victim turn
   pub after : HasNode s node (node_after (s.nodes node) call turn) t
@@ -60,11 +62,15 @@ GoesToRest s line (Toward.Turned node) t = TakesRestTurn s line node t
 GoesToRest s line Toward.Reached t = IsAtRest (s.lines line) × (t ≡ s)
 GoesToRest s line Toward.Unknown t = ⊥
 
--- a call begun touches no line; a turn is that of the node's call; loads give the words that stand, and residents are the node's
+-- residents are the node's
+abbrev pub shared_has : Shared → Ask → Look → Type 0
+shared_has s (Ask.Residents node) (Look.Residents who lines) = (who ≡ node) × (lines.items ≡ (s.nodes node).residents)
+
+-- a call begun touches no line; a turn is that of the node's call; loads give the words that stand
 abbrev pub shared_does : Shared → Event → Shared → Type 0
 shared_does s (Began node request) t = (t.width ≡ s.width) × ((i : ℕ) → t.lines i ≡ s.lines i) × HasNode s node (node_with (s.nodes node) request) t
 shared_does s (Turned node turn) t = TakesTurnOf s node (s.nodes node).call turn t
 shared_does s (Rested line toward) t = GoesToRest s line toward t
 shared_does s (SawMem line mem) t = (mem ≡ Some (s.lines line).memory) × (t ≡ s)
 shared_does s (SawTag line node tag) t = (tag ≡ Some ((s.lines line).tags node)) × (t ≡ s)
-shared_does s (SawResidents node lines) t = (lines ≡ (s.nodes node).residents) × (t ≡ s)
+shared_does s (Saw ask look) t = shared_has s ask look × (t ≡ s)

@@ -5,12 +5,13 @@ use Rattle.sci_core.specs.declared.whole.TheConstants.{MOST_NODES}
 use Rattle.sci_script.specs.declared.commands.Size.{Size}
 use Rattle.sci_script.specs.declared.commands.Request.{Request}
 use Rattle.sci_script.specs.declared.commands.Request.TheVariants.{Load, Store, Add, Evict}
+use Rattle.sci_script.specs.declared.commands.Ask.{Ask}
 use Rattle.sci_script.specs.declared.commands.Step.{Step}
 use Rattle.sci_script.specs.declared.commands.Command.{Command}
 use Rattle.sci_script.specs.declared.desk.Toward.{Toward}
 use Rattle.sci_script.specs.declared.said.Read.{Read}
 use Rattle.sci_script.specs.declared.said.Read.TheVariants as reads
-use Rattle.sci_script.specs.declared.commands.Command.TheVariants.{Begin, Turn, Done, Rest, End, List as ListLine, Tag as ShowTag, Residents}
+use Rattle.sci_script.specs.declared.commands.Command.TheVariants.{Begin, Turn, Done, Rest, End, List as ListLine, Tag as ShowTag, Show}
 
 -- 1 to 1,024 nodes, 1 to 1,024 lines
 pub record IsSize (size : Size) : Type 0 where
@@ -30,6 +31,10 @@ is_request (Store word value) = nat_lt word 8
 is_request (Add word delta) = nat_lt word 8
 is_request Evict = true
 
+-- nodes, lines and words that there are are asked for
+abbrev pub is_ask : Size → Ask → Bool
+is_ask size (Ask.Residents node) = nat_lt node size.nodes
+
 -- a command of nodes, lines and words that there are
 abbrev pub is_in : Size → Command → Bool
 is_in size (Begin node line request) = nat_lt node size.nodes && (nat_lt line size.lines && is_request request)
@@ -39,7 +44,7 @@ is_in size (Rest lines) = nat_eq lines size.lines
 is_in size (End nodes lines) = nat_eq nodes size.nodes && nat_eq lines size.lines
 is_in size (ListLine line) = nat_lt line size.lines
 is_in size (ShowTag line node) = nat_lt line size.lines && nat_lt node size.nodes
-is_in size (Residents node) = nat_lt node size.nodes
+is_in size (Show ask) = is_ask size ask
 
 abbrev pub IsIn : Size → Command → Type 0
 IsIn size command = is_in size command ≡ true

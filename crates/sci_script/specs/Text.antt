@@ -10,6 +10,7 @@ use Rattle.sci_ops.specs.declared.answers.Answer.{Answer}
 use Rattle.sci_ops.specs.declared.answers.Answer.TheVariants.{Seen, Wrote, Out, Spent}
 use Rattle.sci_ops.specs.declared.answers.Turn.{Turn}
 use Rattle.sci_ops.specs.declared.answers.Turn.TheVariants.{Moved, Waiting, Done}
+use Rattle.sci_script.specs.declared.desk.Look.{Look}
 
 -- `node N read V stamp S`
 abbrev pub read_line : ℕ → ℕ → ℕ → List ℕ
@@ -80,3 +81,7 @@ tag_line line node tag =
 -- `node N residents`, then each line after a space
 abbrev pub residents_line : ℕ → List ℕ → List ℕ
 residents_line node lines = codes "node " ++ decimal node ++ codes " residents" ++ flat_map (λ line. codes " " ++ decimal line) lines ++ codes "\n"
+
+-- what is printed of what was asked
+abbrev pub look_line : Look → List ℕ
+look_line (Look.Residents node lines) = residents_line node lines.items

@@ -14,7 +14,7 @@ use Rattle.sci_ops.specs.Plan.{Plan, ends}
 use Rattle.sci_ops.specs.Rest.{due_turn}
 use Rattle.sci_ops.specs.Table.{begun}
 use Rattle.sci_cache.specs.declared.calls.OpenCall.{OpenCall}
-use Rattle.sci_cache.specs.Nodes.{line_by, op_by}
+use Rattle.sci_cache.specs.Nodes.{line_by, goal_by, op_by}
 use Rattle.sci_script.specs.Shared.{Shared}
 
 abbrev pub is_wait : Plan → Bool
@@ -60,12 +60,12 @@ IsAwaitedOn n s goal i whom = MatchOption whom (IsMover n s i ⊎ StartsOr false
 -- the goal of the operation at work of a node's call: its victim's eviction first
 abbrev pub goal_at_work : Option OpenCall → Option Goal
 goal_at_work None = None
-goal_at_work (Some call) = Some (op_by call.victim call.op).goal
+goal_at_work (Some call) = Some (goal_by call.victim call.goal)
 
 -- the goal of a node on this line, where its call is at work there
 abbrev pub goal_on : ℕ → Option OpenCall → Option Goal
 goal_on line None = None
-goal_on line (Some call) = if line_by call.victim call.line == line then Some (op_by call.victim call.op).goal else None
+goal_on line (Some call) = if line_by call.victim call.line == line then Some (goal_by call.victim call.goal) else None
 
 -- nobody without a goal
 abbrev pub IsAwaitedTowards : ℕ → State → Option Goal → ℕ → Option ℕ → Type 0

@@ -1,5 +1,5 @@
 -- A desk of `Whole`s as the memory that it is. This project's profile.
-use Rattle.sci_script.specs.declared.wholes.WholeDesk.{WholeDesk}
+use Rattle.sci_script.specs.declared.whole_desk.WholeDesk.{WholeDesk}
 use Rattle.sci_script.specs.Shared.{Shared}
 use Rattle.sci_script.specs.Unused.{shared}
 

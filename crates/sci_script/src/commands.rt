@@ -44,6 +44,13 @@ impl Request {
     }
 }
 
+/// What a command prints without a turn.
+#[derive(Clone, Copy, Debug)]
+pub enum Ask {
+    /// The lines that the node names.
+    Residents { node: NodeId },
+}
+
 /// What one line of a script asks for.
 #[derive(Clone, Copy, Debug)]
 pub enum Command {
@@ -79,10 +86,8 @@ pub enum Command {
         line: LineNo,
         node: NodeId,
     },
-    /// Prints the lines that the node names.
-    Residents {
-        node: NodeId,
-    },
+    /// Prints what is asked.
+    Show(Ask),
 }
 
 /// A command, and the number of the line of text that it stands on, counted from 1.

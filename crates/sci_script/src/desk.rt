@@ -2,8 +2,10 @@
 ghost use Rattle.std.specs.Prelude.{◌≡◌, ◌<◌, ℕ, Bool, true, false, Some, IfSome, IfOk, OnOk, OnErr};
 ghost use Rattle.sci_cache.specs.Requests.{line_of, has_bad_word};
 ghost use Rattle.sci_script.specs.declared.commands.Size.{Size};
-ghost use Rattle.sci_script.specs.Event.{Event, Began, Turned, Rested, SawMem, SawTag, SawResidents, IsNoEnd, IsTurned, WaitsOn};
+ghost use Rattle.sci_script.specs.Event.{Event, Began, Turned, Rested, SawMem, SawTag, Saw, IsNoEnd, IsTurned, WaitsOn};
+ghost use Rattle.sci_script.specs.Size.{is_ask};
 
+use crate::commands::Ask;
 use sci_cache::Request;
 use sci_ops::Turn;
 use sci_words::{LineNo, Mem, NodeId, Tag};
@@ -18,6 +20,13 @@ pub enum Toward {
     Reached,
     /// It isn't known who moves.
     Unknown,
+}
+
+/// What a desk has of what is asked.
+#[derive(Debug, Drop)]
+pub enum Look {
+    /// The lines that the node names, most recent first.
+    Residents { node: NodeId, lines: Vec<LineNo> },
 }
 
 /// Nodes and lines, the lines that each node names, and each node's open call, where it has one. What a call answers, and how the
@@ -69,10 +78,10 @@ pub trait Desk {
         ensures nearer { IsTurned result → far self.new line < far self.old line }
         ensures size { size self.new ≡ size self.old };
 
-    /// The lines that the node names, most recent first.
-    fn resident(&self, alloc: Global, node: NodeId) -> Result<Vec<LineNo>, AllocError>
-        requires { node < (size self.now).nodes }
-        ensures { IfOk result (λ lines. does self.now (SawResidents node lines.items) self.now) };
+    /// What it has of what is asked. It is to be had.
+    fn look(&self, alloc: Global, ask: Ask) -> Result<Look, AllocError>
+        requires { is_ask (size self.now) ask ≡ true }
+        ensures { IfOk result (λ look. does self.now (Saw ask look) self.now) };
 
     /// The line's memory word. None: it was not to be had.
     fn mem(&mut self, line: LineNo) -> Option<Mem>

@@ -1,7 +1,7 @@
 //! Scripts: their reader, their runner, and what they are run over.
 #![tactic(auto)]
 
-mod banks;
+mod bank_desk;
 mod commands;
 mod desk;
 mod drafts;
@@ -23,13 +23,13 @@ mod unread;
 mod verbs;
 mod waiting;
 mod watching;
-mod wholes;
+mod whole_desk;
 mod why;
 mod writing;
 
-pub use banks::{BankDesk, NoDesk};
-pub use commands::{Command, Opening, Script, Size, Step};
-pub use desk::{Desk, Toward};
+pub use bank_desk::{BankDesk, NoDesk};
+pub use commands::{Ask, Command, Opening, Script, Size, Step};
+pub use desk::{Desk, Look, Toward};
 pub use laws::{refusals_have_reasons, rest_and_end_are_done, script_is_said, waits_name_a_node};
 pub use line_words::is_skipped;
 pub use reader::{line_end, read_script, without_return};
@@ -40,6 +40,6 @@ pub use talk::Talk;
 pub use texts::{list_text, tag_text, turn_text};
 pub use waiting::waits_for;
 pub use watching::{Ending, Load, Passed};
-pub use wholes::WholeDesk;
+pub use whole_desk::WholeDesk;
 pub use why::why_script;
 pub use writing::{WriteFailed, put};

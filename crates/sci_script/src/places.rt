@@ -47,17 +47,7 @@ fn is_in_time(verb: Verb, stand: Stand) -> bool
         Verb::Memory => is_first(stand),
         Verb::Capacity => matches!(stand, Stand::Memory),
         Verb::Open => matches!(stand, Stand::Memory | Stand::Openings),
-        Verb::Load
-        | Verb::Store
-        | Verb::Add
-        | Verb::Evict
-        | Verb::Turn
-        | Verb::Done
-        | Verb::Rest
-        | Verb::End
-        | Verb::List
-        | Verb::Tag
-        | Verb::Residents => !is_first(stand),
+        _ => !is_first(stand),
     }
 }
 

@@ -1,14 +1,12 @@
 //! A desk of whole lines that is brought to rest.
-ghost use Rattle.std.specs.Prelude.{◌≡◌, ◌+◌, ◌*◌, ◌<◌, ◌≤◌, ℕ, true, length, is_some, All, IfSome};
-ghost use Rattle.sci_cache.specs.Nodes.{IsSameNode, line_by};
+ghost use Rattle.std.specs.Prelude.{◌≡◌, ◌+◌, ◌*◌, ◌<◌, ◌≤◌, ℕ, true, length, is_some, All};
 ghost use Rattle.sci_core.specs.Whole.{IsSameLine, nodes_of};
 ghost use Rattle.sci_script.specs.Nodes.{whole_of};
-ghost use Rattle.sci_script.specs.Resting.{ComeToRest, LentOverOf};
+ghost use Rattle.sci_script.specs.Resting.{ComeToRest};
 
 use crate::commands::Size;
 use crate::desk::Desk;
-use crate::wholes::{LINES, WholeDesk, stir};
-use sci_cache::Node;
+use crate::whole_desk::{LINES, WholeDesk, stir, turn_on};
 use sci_core::{AnyWords, Whole};
 use sci_ops::{Answer, Steps, Turn, rest};
 use sci_port::{Bank, SoloBank};
@@ -26,24 +24,6 @@ fn rest_all<L: Ledger>(wholes: &mut Vec<Whole<AnyWords>>, size: Size, steps: &mu
 {
     for line in 0..size.lines {
         rest(&mut wholes[usize::from(line)], steps);
-    }
-}
-
-// One turn of the node's call, over the bank that it is seated at.
-#[tactic(auto, using(sci_ops::proofs::Storing::any_store_fits))]
-fn lent_turn_on(bank: &mut SoloBank<AnyWords>, node: &mut Node) -> Turn
-    requires seat { bank.old.node ≡ node.old.id }
-    requires lines { length bank.old.wholes.items ≡ node.old.lines }
-    requires open { is_some node.old.call ≡ true }
-    ensures lent { LentOverOf bank.old.wholes.items node.old node.old.call result bank.new.wholes.items node.new }
-    ensures below { IfSome node.old.call (λ c. line_by c.victim c.line < node.old.lines) }
-    ensures same_node { IsSameNode node.old node.new }
-    ensures same_lines { length bank.new.wholes.items ≡ length bank.old.wholes.items }
-    ensures same_widths { (line : ℕ) → nodes_of (whole_of bank.new.wholes.items line) ≡ nodes_of (whole_of bank.old.wholes.items line) }
-{
-    match node.turn(bank) {
-        Ok(turn) => turn,
-        Err(_) => unreachable!(),
     }
 }
 
@@ -92,7 +72,7 @@ impl WholeDesk {
         let place = usize::from(node.get());
         self.bank.seat(node);
         stir(&mut self.calm, &self.nodes[place]);
-        lent_turn_on(&mut self.bank, &mut self.nodes[place])
+        turn_on(&mut self.bank, &mut self.nodes[place])
     }
 
     // Takes the node's open call to its end.

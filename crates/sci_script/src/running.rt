@@ -1,19 +1,19 @@
 //! Runs a script.
 ghost use Rattle.std.specs.Prelude.{◌≡◌, ◌<◌, ◌≤◌, ◌++◌, ℕ, List, [], true, Some, string_bytes, IfOk, IfErr, OnOk, All, MatchBool, MatchOption};
 ghost use Rattle.sci_core.specs.declared.whole.TheConstants.{MOST_NODES};
-ghost use Rattle.sci_script.specs.declared.commands.Command.TheVariants.{Begin as BeginCall, Turn as TurnOnce, Done, Rest, End, List as ListLine, Tag as ShowTag, Residents};
-ghost use Rattle.sci_script.specs.Size.{IsIn};
+ghost use Rattle.sci_script.specs.declared.commands.Command.TheVariants.{Begin as BeginCall, Turn as TurnOnce, Done, Rest, End, List as ListLine, Tag as ShowTag, Show};
+ghost use Rattle.sci_script.specs.Size.{IsIn, is_ask};
 ghost use Rattle.sci_ops.specs.declared.answers.Turn.TheVariants.{Waiting};
 ghost use Rattle.sci_script.specs.Event.{Turned, IsEnd, IsNoEnd, WaitsOn};
 ghost use Rattle.sci_script.specs.Request.{words_after};
 ghost use Rattle.sci_script.specs.declared.desk.Toward.{Toward};
 ghost use Rattle.sci_script.specs.Run.{Unended, CalmsTo, RestsLines, RestsNot, EndsOpenBy, EndStops, Prints, StopsAt};
 
-use crate::commands::{Command, Request, Script, Size, Step};
+use crate::commands::{Ask, Command, Request, Script, Size, Step};
 use crate::desk::{Desk, Toward};
 use crate::loading::{load_mem, load_tag, walk};
 use crate::refusals::ScriptRefusal;
-use crate::texts::{list_text, residents_text, tag_text, turn_text};
+use crate::texts::{list_text, look_text, tag_text, turn_text};
 use crate::writing::put;
 use sci_core::MOST_NODES;
 use sci_ops::Turn;
@@ -229,22 +229,22 @@ fn tag<D: Desk>(
     Ok(())
 }
 
-/// `residents`: the text of the lines that the node names.
-fn residents<D: Desk>(
+/// The text of what is asked.
+fn show<D: Desk>(
     alloc: Global,
     text: &mut String,
     desk: &mut D,
     nodes: u16,
     number: u64,
-    node: NodeId,
+    ask: Ask,
 ) -> Result<(), ScriptRefusal>
-    requires { node < (D.size desk.old).nodes }
-    ensures ok { OnOk result (Prints D.is_open D.does [] desk.old (Residents node) (string_bytes text.new) desk.new) }
-    ensures err { IfErr result (λ e. StopsAt D.is_open D.does nodes desk.old (record { number = number; command = Residents node }) e desk.new) }
+    requires { is_ask (D.size desk.old) ask ≡ true }
+    ensures ok { OnOk result (Prints D.is_open D.does [] desk.old (Show ask) (string_bytes text.new) desk.new) }
+    ensures err { IfErr result (λ e. StopsAt D.is_open D.does nodes desk.old (record { number = number; command = Show ask }) e desk.new) }
     ensures size { D.size desk.new ≡ D.size desk.old }
 {
-    let lines = desk.resident(alloc, node)?;
-    *text = residents_text(alloc, node, &lines)?;
+    let look = desk.look(alloc, ask)?;
+    *text = look_text(alloc, &look)?;
     Ok(())
 }
 
@@ -322,7 +322,7 @@ pub fn perform<D: Desk>(
         Command::End { nodes, lines } => end(text, desk, words, number, nodes, lines),
         Command::List { line } => list(alloc, text, desk, nodes, number, line),
         Command::Tag { line, node } => tag(alloc, text, desk, nodes, number, line, node),
-        Command::Residents { node } => residents(alloc, text, desk, nodes, number, node),
+        Command::Show(ask) => show(alloc, text, desk, nodes, number, ask),
     }
 }
 

@@ -7,7 +7,7 @@ ghost use Rattle.sci_script.specs.Size.{IsSize};
 ghost use Rattle.sci_script.specs.declared.commands.Command.TheVariants.{Begin};
 ghost use Rattle.sci_script.specs.declared.said.Read.TheVariants as reads;
 
-use crate::commands::{Command, Opening, Request, Size};
+use crate::commands::{Ask, Command, Opening, Request, Size};
 use crate::verbs::Verb;
 use sci_core::Line;
 use sci_words::NodeId;
@@ -120,6 +120,6 @@ pub(crate) fn said(size: Size, verb: Verb, n: &[u64; 10]) -> Read
             line: short(n[0]),
             node: node(n[1]),
         }),
-        Verb::Residents => Read::Command(Command::Residents { node: node(n[0]) }),
+        Verb::Residents => Read::Command(Command::Show(Ask::Residents { node: node(n[0]) })),
     }
 }

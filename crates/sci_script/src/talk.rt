@@ -23,7 +23,7 @@ use crate::refusals::ScriptRefusal;
 use crate::running::{NODES, note, perform};
 use crate::said::Read;
 use crate::unread::Unread;
-use crate::wholes::WholeDesk;
+use crate::whole_desk::WholeDesk;
 use std::alloc::Global;
 
 /// The number of a line that is said: each is a text of its own.

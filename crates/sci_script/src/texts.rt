@@ -3,8 +3,9 @@
 ghost use Rattle.std.specs.Prelude.{◌≡◌, ◌<◌, ◌++◌, IfOk, OnOk, string_bytes, codes};
 ghost use Rattle.std.specs.Fmt.{decimal};
 ghost use Rattle.std.specs.List.{flat_map};
-ghost use Rattle.sci_script.specs.Text.{read_line, wrote_line, out_line, spent_line, answer_line, wait_line, turn_text, entry_text, entries_text, chain_text, list_line, link_text, held_text, tag_line, residents_line};
+ghost use Rattle.sci_script.specs.Text.{read_line, wrote_line, out_line, spent_line, answer_line, wait_line, turn_text, entry_text, entries_text, chain_text, list_line, link_text, held_text, tag_line, residents_line, look_line};
 
+use crate::desk::Look;
 use sci_ops::{Answer, Turn};
 use sci_words::{LineNo, Mem, NodeId, Tag, mem_name, name};
 use std::alloc::{AllocError, Global};
@@ -175,7 +176,7 @@ fn push_lines(text: &mut String, lines: &[LineNo]) -> Result<(), AllocError>
 }
 
 /// What `residents` prints, `node N residents`, each line after a space, and a line feed.
-pub fn residents_text(alloc: Global, node: NodeId, lines: &[LineNo]) -> Result<String, AllocError>
+fn residents_text(alloc: Global, node: NodeId, lines: &[LineNo]) -> Result<String, AllocError>
     ensures { IfOk result (λ text. string_bytes text ≡ residents_line node lines.now) }
 {
     let node = node.get();
@@ -183,4 +184,13 @@ pub fn residents_text(alloc: Global, node: NodeId, lines: &[LineNo]) -> Result<S
     push_lines(&mut text, lines)?;
     text.push_str("\n")?;
     Ok(text)
+}
+
+/// What is printed of what was asked.
+pub(crate) fn look_text(alloc: Global, look: &Look) -> Result<String, AllocError>
+    ensures { IfOk result (λ text. string_bytes text ≡ look_line look.now) }
+{
+    match look {
+        Look::Residents { node, lines } => residents_text(alloc, *node, lines),
+    }
 }

@@ -7,7 +7,7 @@ ghost use Rattle.sci_core.specs.Whole.{nodes_of, state_of};
 ghost use Rattle.sci_script.specs.Waiting.{goal_at_work, goal_on, is_kept_out, keeps_waiting, IsAwaited, IsAwaitedOn};
 ghost use Rattle.sci_script.specs.Wholes.{shared_of};
 
-use crate::wholes::WholeDesk;
+use crate::whole_desk::WholeDesk;
 use sci_cache::OpenCall;
 use sci_core::{AnyWords, Stage, Whole};
 use sci_ops::Goal;
@@ -105,10 +105,10 @@ fn goal_on(line: LineNo, call: Option<OpenCall>) -> Option<Goal>
     ensures { result ≡ goal_on line call }
 {
     let call = call?;
-    match call.victim {
-        Some(victim) if victim == line => Some(Goal::Evict),
-        None if call.line == line => Some(*call.op.goal()),
-        _ => None,
+    if call.line_at_work() == line {
+        Some(call.goal_at_work())
+    } else {
+        None
     }
 }
 
@@ -119,16 +119,8 @@ impl WholeDesk {
         requires { node < self.now.size.nodes }
         ensures { result ≡ goal_at_work ((shared_of self.now).nodes node).call }
     {
-        match self.open_call(node) {
-            Some(
-                OpenCall {
-                    victim: Some(_),
-                    ..
-                },
-            ) => Some(Goal::Evict),
-            Some(call) => Some(*call.op.goal()),
-            None => None,
-        }
+        let call = self.open_call(node)?;
+        Some(call.goal_at_work())
     }
 
     /// Whom the node's open call waits for on the line, as `waits_for` says it; nobody where it isn't at work there.

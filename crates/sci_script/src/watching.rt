@@ -13,7 +13,7 @@ ghost use Rattle.sci_script.specs.Resting.{any};
 ghost use Rattle.sci_script.specs.Turns.{TurnsOn};
 
 use crate::desk::Toward;
-use crate::wholes::{WholeDesk, stir};
+use crate::whole_desk::{WholeDesk, stir};
 use sci_cache::{Node, turn_at};
 use sci_core::{AnyWords, Event, Line, Outcome, Pending, Stage};
 use sci_ops::{Goal, Turn};
@@ -65,16 +65,16 @@ impl Passed {
         step: None,
     };
 
-    // Keeps a load.
-    fn load(&mut self, line: LineNo, load: Load)
+    /// Keeps a load.
+    pub fn load(&mut self, line: LineNo, load: Load)
         ensures { self.new ≡ record { line = line; looks = self.old.looks; load = Some load; step = self.old.step } }
     {
         self.line = line;
         self.load = Some(load);
     }
 
-    // Keeps a look at the own tag.
-    fn look(&mut self, line: LineNo, own: Option<Tag>)
+    /// Keeps a look at the own tag.
+    pub fn look(&mut self, line: LineNo, own: Option<Tag>)
         ensures { self.new ≡ record { line = line; looks = looks_by self.old.looks own; load = Some (Load.Own own); step = self.old.step } }
     {
         if own.is_some() {
@@ -82,15 +82,18 @@ impl Passed {
         }
         self.load(line, Load::Own(own));
     }
-}
 
-fn ending_of(outcome: &Outcome) -> Ending
-    ensures { result ≡ ending_of outcome.now }
-{
-    match outcome {
-        Outcome::Done(_) => Ending::Done,
-        Outcome::Missed(word) => Ending::Missed(*word),
-        Outcome::Busy => Ending::Busy,
+    /// Keeps an exchange.
+    pub fn step(&mut self, line: LineNo, event: Event, outcome: &Outcome)
+        ensures { self.new ≡ record { line = line; looks = self.old.looks; load = self.old.load; step = Some (event, ending_of outcome.now) } }
+    {
+        let ending = match outcome {
+            Outcome::Done(_) => Ending::Done,
+            Outcome::Missed(word) => Ending::Missed(*word),
+            Outcome::Busy => Ending::Busy,
+        };
+        self.line = line;
+        self.step = Some((event, ending));
     }
 }
 
@@ -112,7 +115,7 @@ impl<B: Bank> Bank for Watched<'_, '_, B> {
 
     ghost at_step = { λ s line. B.at_step s.bank.now line };
 
-    ghost told = { λ s line. B.told s.bank.now line };
+    ghost receipts = { λ s line. B.receipts s.bank.now line };
 
     ghost gives = { λ s line call t. B.gives s.bank.now line call t.bank.now × (t.passed.now ≡ passed_by s.passed.now line call) × (t.bank.ghost_name ≡ s.bank.ghost_name) × (t.passed.ghost_name ≡ s.passed.ghost_name) };
 
@@ -184,9 +187,7 @@ impl<B: Bank> Bank for Watched<'_, '_, B> {
     fn step(&mut self, line: LineNo, event: Event) -> Outcome {
         let passing = event;
         let outcome = self.bank.step(line, event);
-        let ending = ending_of(&outcome);
-        self.passed.line = line;
-        self.passed.step = Some((passing, ending));
+        self.passed.step(line, passing, &outcome);
         outcome
     }
 

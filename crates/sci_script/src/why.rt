@@ -19,7 +19,7 @@ use crate::refusals::ScriptRefusal;
 use crate::said::Read;
 use crate::talk::{Talk, TalkState};
 use crate::unread::Unread;
-use crate::wholes::WholeDesk;
+use crate::whole_desk::WholeDesk;
 use sci_words::{LineNo, NodeId};
 use std::alloc::{AllocError, Global};
 use std::io;
@@ -43,7 +43,7 @@ impl WholeDesk {
         ensures { IsUnendedBy (shared_of self.now) node ((shared_of self.now).nodes node).call (Some result) }
     {
         match self.open_call(node) {
-            Some(call) => self.why_waiting(call.victim.unwrap_or(call.line), node),
+            Some(call) => self.why_waiting(call.line_at_work(), node),
             None => Reason::NoCall(node),
         }
     }

@@ -4,7 +4,7 @@ ghost use Rattle.std.specs.Prelude.{◌≡◌};
 use crate::checks::{same_at, same_bytes_at};
 use sci_cache::Request;
 use sci_ops::{Answer, Turn};
-use sci_script::{Desk, Script, ScriptRefusal, Size, Toward, read_script};
+use sci_script::{Ask, Desk, Look, Script, ScriptRefusal, Size, Toward, read_script};
 use sci_words::{Kind, LineNo, Mem, MemState, NodeId, Tag};
 use std::alloc::{AllocError, Global};
 use std::test::Fail;
@@ -78,8 +78,8 @@ impl Desk for Late {
         Toward::Unknown
     }
 
-    fn resident(&self, alloc: Global, _node: NodeId) -> Result<Vec<LineNo>, AllocError> {
-        Ok(Vec::new(alloc))
+    fn look(&self, _alloc: Global, _ask: Ask) -> Result<Look, AllocError> {
+        Err(AllocError)
     }
 
     fn mem(&mut self, _line: LineNo) -> Option<Mem> {

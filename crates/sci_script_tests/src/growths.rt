@@ -12,8 +12,8 @@ use crate::texts::{node, tag};
 use crate::unheard::{Unheard, unheard_bank};
 use sci_cache::Request;
 use sci_script::{
-    BankDesk, Desk, NODES, NoDesk, Script, ScriptRefusal, WholeDesk, list_text, note, perform, put,
-    read_script, tag_text,
+    Ask, BankDesk, Desk, Look, NODES, NoDesk, Script, ScriptRefusal, WholeDesk, list_text, note,
+    perform, put, read_script, tag_text,
 };
 use sci_words::{Kind, Mem, MemState, NodeId};
 use std::alloc::{AllocError, Global};
@@ -119,6 +119,17 @@ fn shows(rt: &impl Abort, alloc: Global) -> Result<(), Fail> {
     Ok(())
 }
 
+/// The node names these lines, where memory is had to say so.
+fn has_named<D: Desk>(rt: &impl Abort, alloc: Global, desk: &D, node: NodeId, want: &[u16]) -> bool
+    requires { node < (D.size desk.now).nodes }
+{
+    let Ok(Look::Residents { lines, .. }) = desk.look(alloc, Ask::Residents { node }) else {
+        return false;
+    };
+    same(rt, &lines.as_slice(), &want);
+    true
+}
+
 /// The node names these lines.
 fn names<D: Desk>(
     rt: &impl Abort,
@@ -129,12 +140,11 @@ fn names<D: Desk>(
 ) -> Result<(), Fail>
     requires { node < (D.size desk.now).nodes }
 {
-    if let Ok(lines) = desk.resident(alloc, node) {
-        same(rt, &lines.as_slice(), &want);
+    if has_named(rt, alloc, desk, node, want) {
         return Ok(());
     }
-    same(rt, &desk.resident(alloc, node)?.as_slice(), &want);
-    Err(Fail::new("resident answered 7"))
+    assert!(rt; has_named(rt, alloc, desk, node, want));
+    Err(Fail::new("look answered 7"))
 }
 
 /// The first node of a desk that nobody has used begins a load.
@@ -195,7 +205,7 @@ fn seats(rt: &impl Abort, alloc: Global, script: &Script) -> Result<(), Fail> {
 }
 
 /// Growths: 7 of read_script, 11 of open, 20 of run, 20 of perform, 3 of list_text, 3 of tag_text,
-/// 1 of of_lines, 1 of push, 3 of new, 5 of begin, 1 of resident.
+/// 1 of of_lines, 1 of push, 3 of new, 5 of begin, 1 of look.
 #[test]
 fn refused_growths(rt: HostRuntime) -> Result<(), Fail> {
     let alloc = rt.alloc();

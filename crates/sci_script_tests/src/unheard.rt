@@ -36,7 +36,7 @@ impl Bank for Unheard {
 
     ghost at_step = { λ b _. b.step };
 
-    ghost told = { λ b line. receipts_at b.receipts.items line };
+    ghost receipts = { λ b line. receipts_at b.receipts.items line };
 
     ghost gives = { λ b line call t. (t.lines ≡ b.lines) × (t.step ≡ b.step) × Owes 1 (λ _. Unit {0}) 0 b.step call t.step × ChangesAt (ReceivesIfRoom b.step call) (λ m. receipts_at b.receipts.items m) line (λ m. receipts_at t.receipts.items m) };
 

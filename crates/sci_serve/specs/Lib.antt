@@ -15,8 +15,5 @@ pub mod Races
 pub mod Explained
 pub mod Explaining
 pub mod Plays
-pub mod Accepted
-pub mod ReadBack
-pub mod FollowedTurns
 pub mod Kinds
 pub mod Gathered

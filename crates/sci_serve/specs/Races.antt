@@ -10,7 +10,7 @@ use Rattle.sci_search.specs.declared.refusals.SearchRefusal.{SearchRefusal}
 use Rattle.sci_search.specs.declared.refusals.SearchRefusal.TheVariants as search
 use Rattle.sci_search.specs.declared.searching.Found.{Found}
 use Rattle.sci_search.specs.Search.{AreReached, AreMore}
-use Rattle.sci_outcomes.specs.declared.outcomes.Outcome.{Outcome}
+use Rattle.sci_outcomes.specs.declared.outcomes.RaceOutcome.{RaceOutcome}
 use Rattle.sci_outcomes.specs.Outcomes.{AreOutcomes}
 use Rattle.sci_outcomes.specs.Race.{RaceState, leads_in}
 use Rattle.sci_outcomes.specs.Report.{report_text}
@@ -38,7 +38,7 @@ IsRaceIn limit input race =
     × LeavesOpen size capacity openings steps race
 
 -- exactly the outcomes of a race, and how many states its turns lead to, which are few enough
-pub record IsReport (most : ℕ) (race : RaceState) (states : ℕ) (outcomes : List Outcome) : Type 0 where
+pub record IsReport (most : ℕ) (race : RaceState) (states : ℕ) (outcomes : List RaceOutcome) : Type 0 where
   pub listed : AreOutcomes (length race.nodes) race outcomes
   pub found : List (Found RaceState)
   pub reached : AreReached (leads_in (length race.nodes)) race found
@@ -47,7 +47,7 @@ pub record IsReport (most : ℕ) (race : RaceState) (states : ℕ) (outcomes : L
 
 -- this is the text of the outcomes of that race
 abbrev pub Races : ℕ → ℕ → List ℕ → List ℕ → Type 0
-Races limit most input text = (race : RaceState) × IsRaceIn limit input race × (states : ℕ) × (outcomes : List Outcome) × IsReport most race states outcomes × (text ≡ report_text states outcomes)
+Races limit most input text = (race : RaceState) × IsRaceIn limit input race × (states : ℕ) × (outcomes : List RaceOutcome) × IsReport most race states outcomes × (text ≡ report_text states outcomes)
 
 -- the input is a script whose run is refused with this, or memory ran out
 abbrev pub IsUnrun : List ℕ → ScriptRefusal → Type 0

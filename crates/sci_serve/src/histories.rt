@@ -10,7 +10,7 @@ use crate::workloads::run_workload;
 use sci_core::{Closed, Line, Receipt};
 use sci_histories::{History, LineHistory, NodeReceipts, history_text};
 use sci_settings::Settings;
-use sci_work::{ClosedMemory, Gate, Keeping};
+use sci_work::{ClosedMemory, Gate, Recording};
 use std::alloc::{AllocError, Global};
 use std::sync::Wait;
 use std::thread::Threads;
@@ -60,7 +60,7 @@ pub(crate) fn history_of<T: Threads + Wait + Sync, G: Gate>(
     ensures ok { IfOk result (λ text. IsHistoryTextOf settings.now (string_bytes text)) }
     ensures err { IfErr result ComesInRun }
 {
-    let (_, memory) = run_workload(rt, alloc, gate, settings, Keeping::All)?;
+    let (_, memory) = run_workload(rt, alloc, gate, settings, Recording::All)?;
     let lines = line_histories(alloc, memory)?;
     let nodes = settings.nodes();
     let history = History { nodes, lines };

@@ -6,7 +6,6 @@
 //! [`serve_check_large`] one of any length, and [`serve_legal`] a history. Each answers Ok or a [`SimFault`], which has the program's
 //! status; [`serve_outcomes`] a [`RaceFault`].
 //! [`Beginning`] tells which text an input is, and [`explained`] why one is refused.
-//! [`script_is_talked`], [`entries_are_read_back`], [`turns_are_followed`] and [`logs_follow`] are laws: they compute nothing.
 #![tactic(auto)]
 
 mod checking;
@@ -17,7 +16,6 @@ mod histories;
 mod input;
 mod kinds;
 mod large;
-mod laws;
 mod legality;
 mod playing;
 mod progress;
@@ -39,12 +37,11 @@ pub use following::{serve_follow, serve_follow_told};
 pub use input::{INPUT_LIMIT, read_input};
 pub use kinds::{Beginning, Kind};
 pub use large::{serve_check_large, serve_check_large_told};
-pub use laws::{entries_are_read_back, logs_follow, script_is_talked, turns_are_followed};
 pub use legality::serve_legal;
 pub use playing::serve_play;
 pub use progress::{Progress, Visits};
 pub use racing::{RaceFault, serve_outcomes};
-pub use reasons::{Explain, Told, Untold, explanation};
+pub use reasons::{Explain, ReasonPrinter, Untold, explanation};
 pub use running::{serve_history, serve_history_by, serve_run, serve_run_by};
 pub use scripts::{Form, serve, serve_buffered, serve_draw, serve_script, serve_trace};
 pub use talking::{serve_talk, serve_talk_by};

@@ -31,18 +31,18 @@ impl Explain for Untold {
 
 /// Each reason is a line of the console.
 #[derive(Drop)]
-pub struct Told<'c, C> {
+pub struct ReasonPrinter<'c, C> {
     console: &'c C,
 }
 
-impl<'c, C> Told<'c, C> {
+impl<'c, C> ReasonPrinter<'c, C> {
     /// Reasons are told to this console.
-    pub fn new(console: &'c C) -> Told<'c, C> {
-        Told { console }
+    pub fn new(console: &'c C) -> ReasonPrinter<'c, C> {
+        ReasonPrinter { console }
     }
 }
 
-impl<C: Eprint> Explain for Told<'_, C> {
+impl<C: Eprint> Explain for ReasonPrinter<'_, C> {
     fn is_wanted(&self) -> bool
         ensures { IsTrue result }
     {

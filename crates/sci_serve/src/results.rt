@@ -11,7 +11,7 @@ use crate::works::{cells_text, count_text, items_text};
 use sci_core::Closed;
 use sci_dump::dump;
 use sci_settings::Settings;
-use sci_work::{Gate, Keeping};
+use sci_work::{Gate, Recording};
 use std::alloc::{AllocError, Global};
 use std::sync::Wait;
 use std::thread::Threads;
@@ -56,7 +56,7 @@ pub(crate) fn result_text<T: Threads + Wait + Sync, G: Gate>(
     ensures ok { IfOk result (λ text. IsTextOf settings.now (string_bytes text)) }
     ensures err { IfErr result ComesInRun }
 {
-    let (worked, memory) = run_workload(rt, alloc, gate, settings, Keeping::Nothing)?;
+    let (worked, memory) = run_workload(rt, alloc, gate, settings, Recording::Nothing)?;
     let mut text = worked_text(alloc, &worked)?;
     push_dump(alloc, &mut text, settings.wants_dump(), &memory.lines)?;
     Ok(text)

@@ -3,14 +3,14 @@
 ghost use Rattle.std.specs.Prelude.{◌≡◌, map, IfOk, IfErr};
 ghost use Rattle.sci_work.specs.Ended.{AreKept, lists_in};
 ghost use Rattle.sci_work.specs.Written.{AreWrittenAs};
-ghost use Rattle.sci_work.specs.declared.keeping.Keeping as keepings;
+ghost use Rattle.sci_work.specs.declared.recording.Recording as recordings;
 ghost use Rattle.sci_settings.specs.Settings.{nodes_of};
 ghost use Rattle.sci_serve.specs.Runs.{AreLeftBy, AreWithin, ComesInRun, fits_of, result_line, writes_of};
 ghost use Rattle.sci_serve.specs.Worked.{worked_line};
 
 use crate::faults::SimFault;
 use sci_settings::Settings;
-use sci_work::{ClosedMemory, Gate, Keeping, count, ring, stencil};
+use sci_work::{ClosedMemory, Gate, Recording, count, ring, stencil};
 use std::alloc::Global;
 use std::sync::Wait;
 use std::thread::Threads;
@@ -32,12 +32,12 @@ pub(crate) fn run_workload<T: Threads + Wait + Sync, G: Gate>(
     alloc: Global,
     gate: &G,
     settings: &Settings,
-    keeping: Keeping,
+    recording: Recording,
 ) -> Result<(Worked, ClosedMemory), SimFault>
     requires { AreWithin settings.now }
     ensures line { IfOk result (λ r. worked_line r.0 ≡ result_line settings.now) }
     ensures left { IfOk result (λ r. AreLeftBy settings.now r.1.lines.items) }
-    ensures kept { keeping ≡ keepings.Keeping.All → IfOk result (λ r. AreKept keepings.Keeping.All (fits_of settings.now) (nodes_of settings.now) r.1) }
+    ensures kept { recording ≡ recordings.Recording.All → IfOk result (λ r. AreKept recordings.Recording.All (fits_of settings.now) (nodes_of settings.now) r.1) }
     ensures wrote { IfOk result (λ r. AreWrittenAs (writes_of settings.now) (map lists_in r.1.receipts.items)) }
     ensures err { IfErr result ComesInRun }
 {
@@ -51,7 +51,7 @@ pub(crate) fn run_workload<T: Threads + Wait + Sync, G: Gate>(
         } => {
             let cells = cells.as_slice();
             let (cells, memory) = stencil(
-                rt, alloc, cells, *phases, *nodes, *capacity, keeping, gate,
+                rt, alloc, cells, *phases, *nodes, *capacity, recording, gate,
             )?;
             Ok((Worked::Cells(cells), memory))
         }
@@ -62,7 +62,7 @@ pub(crate) fn run_workload<T: Threads + Wait + Sync, G: Gate>(
             ..
         } => {
             let items = items.as_slice();
-            let (items, memory) = ring(rt, alloc, items, *lines, *capacity, keeping, gate)?;
+            let (items, memory) = ring(rt, alloc, items, *lines, *capacity, recording, gate)?;
             Ok((Worked::Items(items), memory))
         }
         Settings::Count {

@@ -10,7 +10,7 @@ use Rattle.sci_port.specs.KeepsTo.{apart, is_passed}
 use Rattle.sci_port.specs.ReceiptList.{ReceiptList}
 use Rattle.sci_ops.specs.declared.answers.Answer.{Answer}
 use Rattle.sci_ops.specs.declared.goals.Goal.{Goal}
-use Rattle.sci_ops.specs.Room.{HasNeed, IsProvided, is_passing, need_of, need_until}
+use Rattle.sci_ops.specs.Room.{HasNeed, IsProvided, is_passing, need_in, need_until}
 use Rattle.sci_ops.specs.Table.{begun}
 use Rattle.sci_cache.specs.Called.{is_victim}
 use Rattle.sci_cache.proofs.Begun.{if_not, if_so}
@@ -56,20 +56,20 @@ provided_by : (goal : Goal) (answer : Option Answer) (p : Pending) (s : ReceiptL
 provided_by goal (Some a) p s mark room = tt
 provided_by goal None p s mark room = record { mark = mark; room = room }
 
-module _ (line : ℕ) (own : ℕ → ℕ) (step : ℕ → Pending) (told : ℕ → ReceiptList) where
-  exit_by : (w : Option ℕ) → IfSome w (λ x. line ≢ x) → IfSome w (λ x. (told x).passing ≡ true) → ((m : ℕ) → (if nat_eq line m then own m else (if is_victim w m then need_of (begun Goal.Evict) (step m) (told m) else 0)) ≤ (told m).room) → IfSome w (λ x. HasNeed Goal.Evict (step x) (told x))
+module _ (line : ℕ) (own : ℕ → ℕ) (step : ℕ → Pending) (receipts : ℕ → ReceiptList) where
+  exit_by : (w : Option ℕ) → IfSome w (λ x. line ≢ x) → IfSome w (λ x. (receipts x).passing ≡ true) → ((m : ℕ) → (if nat_eq line m then own m else (if is_victim w m then need_in Goal.Evict (step m) (receipts m) else 0)) ≤ (receipts m).room) → IfSome w (λ x. HasNeed Goal.Evict (step x) (receipts x))
   exit_by None apart mark h = tt
   exit_by (Some x) apart mark h = record {
     mark = mark;
     room =
-        subst (λ (k : ℕ). k ≤ (told x).room) (if_so (nat_eq x x) (need_of (begun Goal.Evict) (step x) (told x)) 0 (same_line x))
-        (subst (λ (k : ℕ). k ≤ (told x).room) (if_not (nat_eq line x) (own x) (if nat_eq x x then need_of (begun Goal.Evict) (step x) (told x) else 0) (other_number line x (λ e. apart (sym e)))) (h x));
+        subst (λ (k : ℕ). k ≤ (receipts x).room) (if_so (nat_eq x x) (need_in Goal.Evict (step x) (receipts x)) 0 (same_line x))
+        (subst (λ (k : ℕ). k ≤ (receipts x).room) (if_not (nat_eq line x) (own x) (if nat_eq x x then need_in Goal.Evict (step x) (receipts x) else 0) (other_number line x (λ e. apart (sym e)))) (h x));
   }
 
 pub need_is_enough : NeedIsEnough
-need_is_enough c step told marked rooms = record {
-  line = provided_by c.op.goal c.op.answer (step c.line) (told c.line) marked.line
-      (subst (λ (k : ℕ). k ≤ (told c.line).room) (if_so (nat_eq c.line c.line) (need_of c.op (step c.line) (told c.line)) _ (same_line c.line)) (rooms c.line));
-  exit = exit_by c.line (λ m. need_of c.op (step m) (told m)) step told c.victim marked.apart marked.exit rooms;
+need_is_enough c step receipts marked rooms = record {
+  line = provided_by c.goal None (step c.line) (receipts c.line) marked.line
+      (subst (λ (k : ℕ). k ≤ (receipts c.line).room) (if_so (nat_eq c.line c.line) (need_in c.goal (step c.line) (receipts c.line)) _ (same_line c.line)) (rooms c.line));
+  exit = exit_by c.line (λ m. need_in c.goal (step m) (receipts m)) step receipts c.victim marked.apart marked.exit rooms;
   apart = marked.apart;
 }

@@ -26,24 +26,24 @@ abbrev pub LastIsNew : Type 0
 LastIsNew = (before : List Receipt) (receipt : Receipt) → IsNewLast before receipt before → ⊥
 
 -- an open call whose lines, two if there is a victim, have their marks
-pub record IsMarked (c : OpenCall) (told : ℕ → ReceiptList) : Type 0 where
-  pub line : (told c.line).passing ≡ is_passing c.op.goal
-  pub exit : IfSome c.victim (λ w. (told w).passing ≡ true)
+pub record IsMarked (c : OpenCall) (receipts : ℕ → ReceiptList) : Type 0 where
+  pub line : (receipts c.line).passing ≡ is_passing c.goal
+  pub exit : IfSome c.victim (λ w. (receipts w).passing ≡ true)
   pub apart : IfSome c.victim (λ w. c.line ≢ w)
 
 -- with them, and with the room on each line that `Node::need` tells, it has what it needs
 abbrev pub NeedIsEnough : Type 0
-NeedIsEnough = (c : OpenCall) (step : ℕ → Pending) (told : ℕ → ReceiptList) → IsMarked c told → ((m : ℕ) → need_on (Some c) step told m ≤ (told m).room) → HasNeeds c step told
+NeedIsEnough = (c : OpenCall) (step : ℕ → Pending) (receipts : ℕ → ReceiptList) → IsMarked c receipts → ((m : ℕ) → need_on (Some c) step receipts m ≤ (receipts m).room) → HasNeeds c step receipts
 
 -- a load's answer is one Read more, at the end
 abbrev pub LoadAddsRead : {U : Type 0} → (U → ℕ → Call → U → Type 0) → (U → ℕ → Readying → U → Type 0) → (U → ℕ → ReceiptList) → Type 0
-LoadAddsRead {U} gives readies told = (line : ℕ) (u v : U) (words : List ℕ) (stamp : ℕ)
-    → KeepsRequest gives readies told (Request.Load line) u (Ok (Answer.Seen words stamp)) v → (front : List Receipt) × Extends (told u line).list front × ((told v line).list ≡ front ++ Read words stamp ∷ [])
+LoadAddsRead {U} gives readies receipts = (line : ℕ) (u v : U) (words : List ℕ) (stamp : ℕ)
+    → KeepsRequest gives readies receipts (Request.Load line) u (Ok (Answer.Seen words stamp)) v → (front : List Receipt) × Extends (receipts u line).list front × ((receipts v line).list ≡ front ++ Read words stamp ∷ [])
 
 -- where no line is put out, the receipts of every line but the request's stay
 abbrev pub OthersStay : {U : Type 0} → (U → ℕ → ReceiptList) → Type 0
-OthersStay {U} told = (n : NodeState) (request : Request) (u v : U) → LeavesOthers told n request u v → victim_with n request ≡ None → (m : ℕ) → m ≢ line_of request → told v m ≡ told u m
+OthersStay {U} receipts = (n : NodeState) (request : Request) (u v : U) → LeavesOthers receipts n request u v → victim_with n request ≡ None → (m : ℕ) → m ≢ line_of request → receipts v m ≡ receipts u m
 
 -- want of memory leaves each list and mark
 abbrev pub RefusalLeavesLists : {U : Type 0} → (U → ℕ → ReceiptList) → Type 0
-RefusalLeavesLists {U} told = (u v : U) → LeavesBut told NodeRefusal.OutOfMemory u v → (m : ℕ) → ((told v m).list ≡ (told u m).list) × ((told v m).passing ≡ (told u m).passing)
+RefusalLeavesLists {U} receipts = (u v : U) → LeavesBut receipts NodeRefusal.OutOfMemory u v → (m : ℕ) → ((receipts v m).list ≡ (receipts u m).list) × ((receipts v m).passing ≡ (receipts u m).passing)

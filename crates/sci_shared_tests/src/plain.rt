@@ -10,7 +10,7 @@ pub fn plain_cases<B: Bank>()
     ensures passed { NoTwoPassed }
     ensures last { LastIsNew }
     ensures need { NeedIsEnough }
-    ensures read { LoadAddsRead B.gives B.readies B.told }
-    ensures others { OthersStay B.told }
-    ensures refused { RefusalLeavesLists B.told }
+    ensures read { LoadAddsRead B.gives B.readies B.receipts }
+    ensures others { OthersStay B.receipts }
+    ensures refused { RefusalLeavesLists B.receipts }
 {}

@@ -5,7 +5,7 @@ pub(crate) mod crowds;
 pub(crate) mod rows;
 
 use sci_core::{AnyWords, Line, OpenRefusal, Whole};
-use sci_port::recording::Trace;
+use sci_port::recording::EventList;
 use std::alloc::Global;
 
 /// A run on a line that is lent: how many nodes the line has, what it opens with, and the events that pass.
@@ -13,7 +13,7 @@ use std::alloc::Global;
 pub(crate) struct Recorded {
     pub nodes: u16,
     pub opening: Line,
-    pub trace: Trace,
+    pub trace: EventList,
 }
 
 /// A line of so many nodes with this opening, and a trace with room for so many events.
@@ -22,8 +22,8 @@ pub(crate) fn opened(
     nodes: u16,
     opening: Line,
     room: usize,
-) -> Result<(Whole<AnyWords>, Trace), OpenRefusal> {
+) -> Result<(Whole<AnyWords>, EventList), OpenRefusal> {
     let whole = Whole::open(alloc, nodes, 0, opening, AnyWords)?;
     let events = Vec::with_capacity(alloc, room)?;
-    Ok((whole, Trace::new(events)))
+    Ok((whole, EventList::new(events)))
 }

@@ -7,14 +7,20 @@ use std::fmt::{self, Display};
 
 /// Why the program fails, and what its second line says of that, where it is wanted and known.
 #[derive(Drop)]
-pub struct Failure {
-    pub fault: RaceFault,
-    pub reason: Option<String>,
+pub(crate) struct Failure {
+    pub(crate) fault: RaceFault,
+    pub(crate) reason: Option<String>,
 }
 
 impl Failure {
     /// A fault of a file or a stream, and what the system says of it, where that is wanted.
-    pub fn of(alloc: Global, fault: SimFault, why: bool, name: &str, words: Said) -> Failure {
+    pub(crate) fn of(
+        alloc: Global,
+        fault: SimFault,
+        why: bool,
+        name: &str,
+        words: Said,
+    ) -> Failure {
         Failure {
             fault: RaceFault::Fault(fault),
             reason: if why {
@@ -26,7 +32,7 @@ impl Failure {
     }
 
     /// A fault and its reason, where that is wanted and known.
-    pub fn told<E: Display + Drop>(
+    pub(crate) fn told<E: Display + Drop>(
         alloc: Global,
         fault: SimFault,
         reason: Option<E>,
@@ -59,7 +65,12 @@ impl From<AllocError> for Failure {
 }
 
 /// Why a text is refused with this fault, in words, where that is known: not of memory that ran out, also here.
-pub fn reason_of(alloc: Global, fault: SimFault, text: Text, input: &[u8]) -> Option<String> {
+pub(crate) fn reason_of(
+    alloc: Global,
+    fault: SimFault,
+    text: Text,
+    input: &[u8],
+) -> Option<String> {
     match explained(alloc, text, fault, input) {
         Ok(Some(reason)) => format!(in alloc; "{reason}").ok(),
         Ok(None) | Err(_) => None,
@@ -91,7 +102,7 @@ fn said_of(alloc: Global, name: &str, words: Said) -> Option<String> {
 }
 
 /// Why a stream is at fault, in words.
-pub fn stream_reason(
+pub(crate) fn stream_reason(
     alloc: Global,
     fault: RaceFault,
     input: &Input<'_>,

@@ -14,7 +14,7 @@ const FAILS: i32 = 5;
 
 /// What the system says of an error.
 #[derive(Clone, Copy, Drop)]
-pub enum Said {
+pub(crate) enum Said {
     /// In plain words.
     Words(&'static str),
     /// Of one that has none here: its code.
@@ -41,7 +41,7 @@ fn words_of_code(code: Option<i32>) -> Said {
 }
 
 /// What the system says of an error.
-pub fn words_of(error: &Error) -> Said {
+pub(crate) fn words_of(error: &Error) -> Said {
     Said::Words(match error.kind() {
         ErrorKind::NotFound => "no such file",
         ErrorKind::PermissionDenied => "permission denied",
@@ -78,9 +78,9 @@ impl Read for Source {
 
 /// What a command reads: FILE, or standard input.
 #[derive(Drop)]
-pub struct Input<'a> {
+pub(crate) struct Input<'a> {
     /// How it is called.
-    pub name: &'a str,
+    pub(crate) name: &'a str,
     source: Source,
     /// Whether it has come to its end: it isn't asked again, since a terminal would go on.
     is_ended: bool,
@@ -95,7 +95,7 @@ pub struct Input<'a> {
 
 impl<'a> Input<'a> {
     /// Opens FILE, or standard input where there is none, or FILE is `-`.
-    pub fn open(rt: &HostRuntime, path: Option<&'a str>) -> io::Result<Input<'a>> {
+    pub(crate) fn open(rt: &HostRuntime, path: Option<&'a str>) -> io::Result<Input<'a>> {
         let (name, source) = match path {
             None | Some("-") => ("standard input", Source::Input(rt.stdin())),
             Some(path) => (path, Source::File(File::open(rt, path)?)),
@@ -113,7 +113,7 @@ impl<'a> Input<'a> {
     }
 
     /// Lets so many line feeds and these bytes be read before what follows, in no fewer reads than these.
-    pub fn put_before(&mut self, feeds: u64, front: Vec<u8>, reads: usize) {
+    pub(crate) fn put_before(&mut self, feeds: u64, front: Vec<u8>, reads: usize) {
         self.feeds = feeds;
         self.front = front;
         self.at = 0;
@@ -141,7 +141,7 @@ impl<'a> Input<'a> {
     }
 
     /// What the system said as it failed; where it never did, it has no end.
-    pub fn fault(&self) -> Said {
+    pub(crate) fn fault(&self) -> Said {
         self.failed.unwrap_or(Said::Words("no end"))
     }
 }
@@ -174,13 +174,13 @@ impl Read for Input<'_> {
 
 /// Standard output.
 #[derive(Drop)]
-pub struct Output {
+pub(crate) struct Output {
     stdout: Stdout,
     failed: Option<Said>,
 }
 
 impl Output {
-    pub fn new(rt: &HostRuntime) -> Output {
+    pub(crate) fn new(rt: &HostRuntime) -> Output {
         Output {
             stdout: rt.stdout(),
             failed: None,
@@ -188,7 +188,7 @@ impl Output {
     }
 
     /// What the system said as it failed; where it never did, it took no byte.
-    pub fn fault(&self) -> Said {
+    pub(crate) fn fault(&self) -> Said {
         self.failed.unwrap_or(Said::Words("it takes no byte"))
     }
 }

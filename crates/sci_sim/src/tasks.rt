@@ -3,7 +3,7 @@
 use crate::failures::{Failure, reason_of};
 use crate::streams::{Input, Output};
 use sci_serve::{
-    Beginning, Form, INPUT_LIMIT, Kind, Progress, RaceFault, SimFault, Text, Told, Visits,
+    Beginning, Form, INPUT_LIMIT, Kind, Progress, RaceFault, ReasonPrinter, SimFault, Text, Visits,
     read_input, serve_buffered, serve_check, serve_check_large_told, serve_follow_told,
     serve_history, serve_history_by, serve_legal, serve_outcomes, serve_play, serve_run,
     serve_run_by, serve_talk, serve_talk_by,
@@ -18,7 +18,7 @@ const BUFFER: usize = 65_536;
 
 /// What a command does with a text.
 #[derive(Clone, Copy)]
-pub enum Task {
+pub(crate) enum Task {
     /// Writes the run of a script in this form.
     Script(Form),
     /// Writes the outcomes of its open calls, or their page, where they have at most so many states.
@@ -45,12 +45,12 @@ impl Task {
 
 /// Where a command is run: the handles, how many bytes a script or a dump may have, and whether the reason of a failure is wanted.
 #[derive(Drop)]
-pub struct Place<'r, T> {
-    pub rt: &'r HostRuntime,
+pub(crate) struct Place<'r, T> {
+    pub(crate) rt: &'r HostRuntime,
     /// It starts the nodes' threads.
-    pub threads: &'r T,
-    pub limit: usize,
-    pub why: bool,
+    pub(crate) threads: &'r T,
+    pub(crate) limit: usize,
+    pub(crate) why: bool,
 }
 
 fn script<R: Read>(
@@ -188,7 +188,7 @@ fn perform_kept<T: Threads + Wait + Eprint + Sync, R: Read>(
 }
 
 /// Does a task over a text, and says why it is refused where that is wanted.
-pub fn serve<T: Threads + Wait + Eprint + Sync, R: Read>(
+pub(crate) fn serve<T: Threads + Wait + Eprint + Sync, R: Read>(
     place: &Place<'_, T>,
     task: Task,
     reader: &mut R,
@@ -236,7 +236,7 @@ fn judge<T, R: Read>(
 }
 
 /// Judges a text of whatever kind its first word tells.
-pub fn check<T: Threads + Wait + Eprint + Sync>(
+pub(crate) fn check<T: Threads + Wait + Eprint + Sync>(
     place: &Place<'_, T>,
     input: &mut Input<'_>,
     output: &mut Output,
@@ -258,7 +258,7 @@ pub fn check<T: Threads + Wait + Eprint + Sync>(
 }
 
 /// Answers the commands that standard input has.
-pub fn talk(
+pub(crate) fn talk(
     rt: &HostRuntime,
     why: bool,
     input: &mut Input<'_>,
@@ -268,7 +268,7 @@ pub fn talk(
         |_| SimFault::from(AllocError),
     )?;
     if why {
-        serve_talk_by(rt.alloc(), &Told::new(rt), input, &mut buffered)
+        serve_talk_by(rt.alloc(), &ReasonPrinter::new(rt), input, &mut buffered)
     } else {
         serve_talk(rt.alloc(), input, &mut buffered)
     }

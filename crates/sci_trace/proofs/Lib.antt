@@ -10,3 +10,4 @@ pub mod Walking
 pub mod Pushing
 pub mod Repeated
 pub mod Logged
+pub mod Named

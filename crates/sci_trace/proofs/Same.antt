@@ -1,7 +1,7 @@
 -- A desk is the one whose parts it has.
 use Rattle.std.proofs.Common.{◌≡◌, ap, subst, sym}
 use Rattle.std.proofs.Props.{props}
-use Rattle.sci_script.specs.declared.wholes.WholeDesk.{WholeDesk}
+use Rattle.sci_script.specs.declared.whole_desk.WholeDesk.{WholeDesk}
 use Rattle.sci_trace.specs.declared.desk.TraceDesk.{TraceDesk}
 
 abbrev with_desk : (w : TraceDesk) (d : WholeDesk) → d.size ≡ w.size → TraceDesk

@@ -13,7 +13,7 @@ use crate::notes::Notes;
 use crate::texts::Wait;
 use sci_cache::Request;
 use sci_ops::{Goal, Turn};
-use sci_script::{Desk, Passed, Script, Size, Toward, WholeDesk};
+use sci_script::{Ask, Desk, Look, Passed, Script, Size, Toward, WholeDesk};
 use sci_words::{LineNo, Mem, NodeId, Tag};
 use std::alloc::{AllocError, Global};
 
@@ -147,8 +147,8 @@ impl Desk for TraceDesk {
         toward
     }
 
-    fn resident(&self, alloc: Global, node: NodeId) -> Result<Vec<LineNo>, AllocError> {
-        self.desk.resident(alloc, node)
+    fn look(&self, alloc: Global, ask: Ask) -> Result<Look, AllocError> {
+        self.desk.look(alloc, ask)
     }
 
     fn mem(&mut self, line: LineNo) -> Option<Mem> {

@@ -59,43 +59,7 @@ fn place_of(event: &Event) -> usize
     ensures short { get_or LENGTHS result 0 ≤ 16 }
     ensures named { take (get_or LENGTHS result 0) (get_or NAMES result []) ≡ event_name event.now }
 {
-    match event {
-        Event::Look => 0,
-        Event::Queue(_) => 1,
-        Event::Requeue(_) => 2,
-        Event::PrependValid => 3,
-        Event::ReturnMemory => 4,
-        Event::AttachFresh(_) => 5,
-        Event::Settle => 6,
-        Event::Hold(_) => 7,
-        Event::Unhold => 8,
-        Event::Convert(_) => 9,
-        Event::FreshToGone => 10,
-        Event::Converted => 11,
-        Event::Unconverted => 12,
-        Event::BeginPurge(_) => 13,
-        Event::Written(_) => 14,
-        Event::PrependGone => 15,
-        Event::AttachDirty(_) => 16,
-        Event::ReturnCopy => 17,
-        Event::PurgeOne(_) => 18,
-        Event::Advance => 19,
-        Event::Clear => 20,
-        Event::Roll(_) => 21,
-        Event::TellSuccessor(_) => 22,
-        Event::TellPredecessor(_) => 23,
-        Event::Adopt(_) => 24,
-        Event::Rolled => 25,
-        Event::Leave(_) => 26,
-        Event::Promote(_) => 27,
-        Event::PassOn => 28,
-        Event::Stay => 29,
-        Event::ReEnter => 30,
-        Event::ReturnHomeFresh => 31,
-        Event::ReturnHomeDirty => 32,
-        Event::Left => 33,
-        Event::HomeWrite => 34,
-    }
+    usize::from(event.number())
 }
 
 /// An event's name, and the bracket in front of its argument, where it has one.

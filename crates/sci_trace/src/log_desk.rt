@@ -10,7 +10,7 @@ use crate::entries::push_entries;
 use crate::note_text::NoteText;
 use sci_cache::Request;
 use sci_ops::Turn;
-use sci_script::{Desk, Passed, Script, Size, Toward, WholeDesk};
+use sci_script::{Ask, Desk, Look, Passed, Script, Size, Toward, WholeDesk};
 use sci_words::{LineNo, Mem, NodeId, Tag};
 use std::alloc::{AllocError, Global};
 
@@ -117,8 +117,8 @@ impl Desk for LogDesk {
         toward
     }
 
-    fn resident(&self, alloc: Global, node: NodeId) -> Result<Vec<LineNo>, AllocError> {
-        self.desk.resident(alloc, node)
+    fn look(&self, alloc: Global, ask: Ask) -> Result<Look, AllocError> {
+        self.desk.look(alloc, ask)
     }
 
     fn mem(&mut self, line: LineNo) -> Option<Mem> {

@@ -32,12 +32,12 @@ one_add fits (Answer.Seen words stamp) is ended = absurd is
 one_add fits Answer.Out is ended = absurd is
 
 -- and its node's receipts on the line have that write behind those of before
-pub added_one : {U : Type 0} {gives : U → ℕ → Call → U → Type 0} {readies : U → ℕ → Readying → U → Type 0} {told : U → ℕ → ReceiptList} {answer : Answer} {u v : U} (fits : List ℕ → Type 0) (line : ℕ)
-    → KeepsRequest gives readies told (Request.Add line 0 1) u (Ok answer) v → IsAnswerTo fits (Goal.Write (Write.Add 0 1)) answer → answer ≢ Answer.Spent → HasAdded 1 (told u line).list (told v line).list
-added_one {told = told} {answer = answer} {u = u} {v = v} fits line kept is ended = record {
+pub added_one : {U : Type 0} {gives : U → ℕ → Call → U → Type 0} {readies : U → ℕ → Readying → U → Type 0} {receipts : U → ℕ → ReceiptList} {answer : Answer} {u v : U} (fits : List ℕ → Type 0) (line : ℕ)
+    → KeepsRequest gives readies receipts (Request.Add line 0 1) u (Ok answer) v → IsAnswerTo fits (Goal.Write (Write.Add 0 1)) answer → answer ≢ Answer.Spent → HasAdded 1 (receipts u line).list (receipts v line).list
+added_one {receipts = receipts} {answer = answer} {u = u} {v = v} fits line kept is ended = record {
   more = adds_towards (Goal.Write (Write.Add 0 1)) (Turn.Done answer);
   are = one_add fits answer is ended;
-  behind = kept.writes line ∙ ap (λ (b : Bool). writes_in (told u line).list ++ (if b then adds_towards (Goal.Write (Write.Add 0 1)) (Turn.Done answer) else [])) (eq-eqb line line refl);
+  behind = kept.writes line ∙ ap (λ (b : Bool). writes_in (receipts u line).list ++ (if b then adds_towards (Goal.Write (Write.Add 0 1)) (Turn.Done answer) else [])) (eq-eqb line line refl);
 }
 
 pub added_none : (list : List Receipt) → HasAdded 0 list list

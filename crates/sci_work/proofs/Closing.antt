@@ -15,8 +15,8 @@ use Rattle.sci_fine.specs.declared.line.FineLine.{FineLine}
 use Rattle.sci_fine.specs.declared.seats.Seat.{Seat}
 use Rattle.sci_fine.specs.Banks.{IsLine}
 use Rattle.sci_fine.proofs.Elements.{inside, each_all}
-use Rattle.sci_work.specs.declared.keeping.ClosedMemory.{ClosedMemory}
-use Rattle.sci_work.specs.declared.keeping.Keeping.{Keeping}
+use Rattle.sci_work.specs.declared.recording.ClosedMemory.{ClosedMemory}
+use Rattle.sci_work.specs.declared.recording.Recording.{Recording}
 use Rattle.sci_work.specs.Ended.{AreClosed, AreClosedOf, AreHistories, AreHistoriesOn, AreKept, AreKeptOn, AreOfHands, HaveNodes, IsHistoryOn, IsLineHistory, lists_in}
 use Rattle.sci_work.specs.Hands.{AtEach}
 use Rattle.sci_work.specs.Written.{AreWrittenAs}
@@ -47,13 +47,13 @@ pub all_exact : (fits : ℕ → List ℕ → Type 0) (count : ℕ) (closed : Lis
 all_exact fits count closed ended = each_all IsExactClosed closed (λ k c at. (ended.each k c at).exact)
 
 -- what is kept, by what was to be kept
-pub kept_by : {K : Type 0} (fits : K → ℕ → List ℕ → Type 0) (keeping : Keeping) (lines : List (FineLine K)) (memory : ClosedMemory) → (keeping ≡ Keeping.All → AreHistoriesOn fits lines memory) → (keeping ≡ Keeping.Nothing → memory.receipts.items ≡ []) → AreKeptOn keeping fits lines memory
-kept_by fits Keeping.All lines memory all nothing = all refl
-kept_by fits Keeping.Nothing lines memory all nothing = nothing refl
+pub kept_by : {K : Type 0} (fits : K → ℕ → List ℕ → Type 0) (recording : Recording) (lines : List (FineLine K)) (memory : ClosedMemory) → (recording ≡ Recording.All → AreHistoriesOn fits lines memory) → (recording ≡ Recording.Nothing → memory.receipts.items ≡ []) → AreKeptOn recording fits lines memory
+kept_by fits Recording.All lines memory all nothing = all refl
+kept_by fits Recording.Nothing lines memory all nothing = nothing refl
 
-pub own_by : {K : Type 0} {g : keeps.Ghosts K} (keeping : Keeping) (hands : List (Vec (Seat K g))) (memory : ClosedMemory) → (keeping ≡ Keeping.All → AreOfHands hands memory) → (keeping ≡ Keeping.Nothing → memory.receipts.items ≡ []) → AreOfHands hands memory
-own_by Keeping.All hands memory all nothing = all refl
-own_by Keeping.Nothing hands memory all nothing = λ line lists at. absurd (some-ne-none lists (sym (subst (λ (z : List (Vec (Vec Receipt))). get_elem? z line ≡ some lists) (nothing refl) at)))
+pub own_by : {K : Type 0} {g : keeps.Ghosts K} (recording : Recording) (hands : List (Vec (Seat K g))) (memory : ClosedMemory) → (recording ≡ Recording.All → AreOfHands hands memory) → (recording ≡ Recording.Nothing → memory.receipts.items ≡ []) → AreOfHands hands memory
+own_by Recording.All hands memory all nothing = all refl
+own_by Recording.Nothing hands memory all nothing = λ line lists at. absurd (some-ne-none lists (sym (subst (λ (z : List (Vec (Vec Receipt))). get_elem? z line ≡ some lists) (nothing refl) at)))
 
 -- the history of a line of this number and of so many nodes, opened with zeros under this fact
 pub line_history : {K : Type 0} (fits : K → ℕ → List ℕ → Type 0) (nodes : ℕ) (keep : K) (number : ℕ) (l : FineLine K) (c : ClosedLine) (lists : List (List Receipt))
@@ -82,23 +82,23 @@ read_from f (x ∷ xs) zero y at = (x, refl, some-injective (f x) y at)
 read_from f (x ∷ xs) (suc k) y at = read_from f xs k y at
 
 -- what lines of so many nodes, opened with zeros, have kept
-pub kept_under : {K : Type 0} (fits : K → ℕ → List ℕ → Type 0) (keeping : Keeping) (nodes : ℕ) (keep : K) (lines : List (FineLine K)) (memory : ClosedMemory)
-    → AtEach (IsLine nodes keep) lines → AtEach (λ k l. l.terms.opening ≡ blank) lines → AreClosedOf fits lines memory.lines.items → AreKeptOn keeping fits lines memory → AreKept keeping (fits keep) nodes memory
-kept_under fits Keeping.All nodes keep lines memory are zeros ended kept = record {
+pub kept_under : {K : Type 0} (fits : K → ℕ → List ℕ → Type 0) (recording : Recording) (nodes : ℕ) (keep : K) (lines : List (FineLine K)) (memory : ClosedMemory)
+    → AtEach (IsLine nodes keep) lines → AtEach (λ k l. l.terms.opening ≡ blank) lines → AreClosedOf fits lines memory.lines.items → AreKeptOn recording fits lines memory → AreKept recording (fits keep) nodes memory
+kept_under fits Recording.All nodes keep lines memory are zeros ended kept = record {
   count = length-map memory.receipts.items lists_in ∙ kept.count ∙ sym ended.count;
   each = λ k c lists at told.
       let v = read_from lists_in memory.receipts.items k lists told in
       let l = at_place lines k (subst (λ (n : ℕ). k < n) ended.count (inside memory.lines.items c k at)) in
       subst (λ (z : List (List Receipt)). IsLineHistory (fits keep k) nodes blank c z) v.2 (line_history fits nodes keep k l.0 c (lists_in v.0) (are k l.0 l.1) (zeros k l.0 l.1) (kept.each k l.0 c v.0 l.1 at v.1));
 }
-kept_under fits Keeping.Nothing nodes keep lines memory are zeros ended kept = kept
+kept_under fits Recording.Nothing nodes keep lines memory are zeros ended kept = kept
 
 -- the lists of a memory, by what its hands' seats have
-pub written_by : {K : Type 0} {g : keeps.Ghosts K} (own : ℕ → ℕ → List Receipt → Type 0) (fits : K → ℕ → List ℕ → Type 0) (keeping : Keeping) (lines : List (FineLine K)) (hands : List (Vec (Seat K g))) (memory : ClosedMemory)
-    → (keeping ≡ Keeping.All → AtEach (λ node hand. AtEach (λ line s. own node line s.receipts.list) hand.items) hands) → AreKeptOn keeping fits lines memory → AreOfHands hands memory → AreWrittenAs own (map lists_in memory.receipts.items)
-written_by own fits Keeping.All lines hands memory all kept of = λ line ls at node list here.
+pub written_by : {K : Type 0} {g : keeps.Ghosts K} (own : ℕ → ℕ → List Receipt → Type 0) (fits : K → ℕ → List ℕ → Type 0) (recording : Recording) (lines : List (FineLine K)) (hands : List (Vec (Seat K g))) (memory : ClosedMemory)
+    → (recording ≡ Recording.All → AtEach (λ node hand. AtEach (λ line s. own node line s.receipts.list) hand.items) hands) → AreKeptOn recording fits lines memory → AreOfHands hands memory → AreWrittenAs own (map lists_in memory.receipts.items)
+written_by own fits Recording.All lines hands memory all kept of = λ line ls at node list here.
     let v = read_from lists_in memory.receipts.items line ls at in
     let is = of line v.0 v.1 node list (subst (λ (z : List (List Receipt)). get_elem? z node ≡ some list) (sym v.2) here) in
     subst (own node line) is.4 (all refl node is.0 is.1 line is.2 is.3)
-written_by own fits Keeping.Nothing lines hands memory all kept of = λ line ls at.
+written_by own fits Recording.Nothing lines hands memory all kept of = λ line ls at.
     absurd (some-ne-none ls (sym (subst (λ (z : List (Vec (Vec Receipt))). get_elem? (map lists_in z) line ≡ some ls) kept at)))

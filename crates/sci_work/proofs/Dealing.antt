@@ -13,7 +13,7 @@ use Rattle.sci_fine.specs.declared.seats.Seat.{Seat}
 use Rattle.sci_fine.specs.Seats.{AreIdleFrom, AreNew}
 use Rattle.sci_fine.proofs.Elements.{inside, at_end}
 use Rattle.sci_fine.proofs.KeptAll.{begins_kept}
-use Rattle.sci_work.specs.declared.keeping.Keeping.{Keeping}
+use Rattle.sci_work.specs.declared.recording.Recording.{Recording}
 use Rattle.sci_work.specs.Hands.{AtEach, HasWrittenNothing, HoldEach, IsHandOf, IsIdleSeat, IsNewHand, IsNewSeat}
 use Rattle.sci_work.proofs.Seated.{at_more}
 
@@ -24,26 +24,26 @@ same_head : {A : Type 0} (x y : A) (xs ys : List A) → x ∷ xs ≡ y ∷ ys �
 same_head x y xs ys e = cc
 
 module _ {K : Type 0} {g : keeps.Ghosts K} where
-  pub no_hand : {keeping : Keeping} (node : ℕ) (seats : List (Seat K g)) → seats ≡ [] → IsHandOf keeping [] node seats
-  no_hand {keeping = keeping} node seats is = subst (λ (z : List (Seat K g)). IsHandOf keeping [] node z) (sym is) record { count = refl; each = λ k l s el es. absurd (some-ne-none l (sym el)) }
+  pub no_hand : {recording : Recording} (node : ℕ) (seats : List (Seat K g)) → seats ≡ [] → IsHandOf recording [] node seats
+  no_hand {recording = recording} node seats is = subst (λ (z : List (Seat K g)). IsHandOf recording [] node z) (sym is) record { count = refl; each = λ k l s el es. absurd (some-ne-none l (sym el)) }
 
   -- a seat more, at one more line
-  pub hand_more : {keeping : Keeping} (lines : List (FineLine K)) (l : FineLine K) (node : ℕ) (hand more : List (Seat K g)) (s : Seat K g) → more ≡ hand ++ s ∷ [] → IsHandOf keeping lines node hand → IsIdleSeat keeping node l s → IsHandOf keeping (lines ++ l ∷ []) node more
-  hand_more {keeping = keeping} lines l node hand more s is h idle = subst (λ (z : List (Seat K g)). IsHandOf keeping (lines ++ l ∷ []) node z) (sym is) record {
+  pub hand_more : {recording : Recording} (lines : List (FineLine K)) (l : FineLine K) (node : ℕ) (hand more : List (Seat K g)) (s : Seat K g) → more ≡ hand ++ s ∷ [] → IsHandOf recording lines node hand → IsIdleSeat recording node l s → IsHandOf recording (lines ++ l ∷ []) node more
+  hand_more {recording = recording} lines l node hand more s is h idle = subst (λ (z : List (Seat K g)). IsHandOf recording (lines ++ l ∷ []) node z) (sym is) record {
     count = let c : length hand ≡ length lines = h.count in omega (arith, c, length-append hand (s ∷ []), length-append lines (l ∷ []));
     each = λ k m t el es. places k m t (at_end lines l m k el) (at_end hand s t k es);
   }
     where
-      places : (k : ℕ) (m : FineLine K) (t : Seat K g) → (get_elem? lines k ≡ some m) ⊎ ((k ≡ length lines) × (l ≡ m)) → (get_elem? hand k ≡ some t) ⊎ ((k ≡ length hand) × (s ≡ t)) → IsIdleSeat keeping node m t
+      places : (k : ℕ) (m : FineLine K) (t : Seat K g) → (get_elem? lines k ≡ some m) ⊎ ((k ≡ length lines) × (l ≡ m)) → (get_elem? hand k ≡ some t) ⊎ ((k ≡ length hand) × (s ≡ t)) → IsIdleSeat recording node m t
       places k m t (inl el) (inl es) = h.each k m t el es
       places k m t (inl el) (inr es) = absurd (let i : k < length lines = inside lines m k el in let e : k ≡ length hand = es.0 in let c : length hand ≡ length lines = h.count in omega (arith, i, e, c))
       places k m t (inr el) (inl es) = absurd (let i : k < length hand = inside hand t k es in let e : k ≡ length lines = el.0 in let c : length hand ≡ length lines = h.count in omega (arith, i, e, c))
-      places k m t (inr el) (inr es) = subst (λ (x : FineLine K). IsIdleSeat keeping node x t) el.1 (subst (λ (x : Seat K g). IsIdleSeat keeping node l x) es.1 idle)
+      places k m t (inr el) (inr es) = subst (λ (x : FineLine K). IsIdleSeat recording node x t) el.1 (subst (λ (x : Seat K g). IsIdleSeat recording node l x) es.1 idle)
 
   -- the last seat is that at the last line, and the others are a hand without it
-  pub hand_less : {keeping : Keeping} (lines : List (FineLine K)) (l : FineLine K) (node : ℕ) (seats fewer : List (Seat K g)) (s : Seat K g) → seats ≡ fewer ++ s ∷ [] → IsHandOf keeping (lines ++ l ∷ []) node seats → IsHandOf keeping lines node fewer × IsIdleSeat keeping node l s
-  hand_less {keeping = keeping} lines l node seats fewer s is h =
-      let go = subst (λ (z : List (Seat K g)). IsHandOf keeping (lines ++ l ∷ []) node z) is h in
+  pub hand_less : {recording : Recording} (lines : List (FineLine K)) (l : FineLine K) (node : ℕ) (seats fewer : List (Seat K g)) (s : Seat K g) → seats ≡ fewer ++ s ∷ [] → IsHandOf recording (lines ++ l ∷ []) node seats → IsHandOf recording lines node fewer × IsIdleSeat recording node l s
+  hand_less {recording = recording} lines l node seats fewer s is h =
+      let go = subst (λ (z : List (Seat K g)). IsHandOf recording (lines ++ l ∷ []) node z) is h in
       let c : length (fewer ++ s ∷ []) ≡ length (lines ++ l ∷ []) = go.count in
       let count : length fewer ≡ length lines = omega (arith, c, length-append fewer (s ∷ []), length-append lines (l ∷ [])) in (
         record { count = count; each = λ k m t el es. go.each k m t (at_longer lines (l ∷ []) k m el) (at_longer fewer (s ∷ []) k t es) },
@@ -51,13 +51,13 @@ module _ {K : Type 0} {g : keeps.Ghosts K} where
       )
 
   -- a new line's seats are the nodes', each Idle and with the receipts of all that it did, which is nothing
-  pub new_seats : {keeping : Keeping} (l : FineLine K) (seats : List (Seat K g)) → AreIdleFrom l 0 seats → AreNew seats → AtEach (λ k s. IsIdleSeat keeping k l s) seats
+  pub new_seats : {recording : Recording} (l : FineLine K) (seats : List (Seat K g)) → AreIdleFrom l 0 seats → AreNew seats → AtEach (λ k s. IsIdleSeat recording k l s) seats
   new_seats l seats idle new k s at =
       let i = idle k s at in let n = new k s at in let same : k + 0 ≡ k = omega arith in
       record { of = i.0; node_is = i.1 ∙ same; idle = i.2; kept = λ _. begins_kept s n.0 i.2 n.1 }
 
   -- so they have written nothing
-  pub are_new : (l : FineLine K) (seats : List (Seat K g)) → AtEach (λ k s. IsIdleSeat Keeping.All k l s) seats → AreNew seats → AtEach (λ k s. IsNewSeat k l s) seats
+  pub are_new : (l : FineLine K) (seats : List (Seat K g)) → AtEach (λ k s. IsIdleSeat Recording.All k l s) seats → AreNew seats → AtEach (λ k s. IsNewSeat k l s) seats
   are_new l seats idle new k s at = (idle k s at, ap (λ (r : ReceiptList). writes_in r.list) (new k s at).1)
 
   pub no_new_hand : (node : ℕ) (seats : List (Seat K g)) → seats ≡ [] → IsNewHand [] node seats

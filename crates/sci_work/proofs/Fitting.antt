@@ -23,7 +23,7 @@ use Rattle.sci_fine.specs.declared.seats.Seat.{Seat}
 use Rattle.sci_fine.specs.Ends.{IsEnd, IsReadOff}
 use Rattle.sci_fine.specs.Kept.{HasKeptAll, IsFinished, list_at}
 use Rattle.sci_fine.proofs.Elements.{each_all}
-use Rattle.sci_work.specs.declared.keeping.Keeping.{Keeping}
+use Rattle.sci_work.specs.declared.recording.Recording.{Recording}
 use Rattle.sci_work.specs.Ended.{IsClosedOf, IsHistoryOn}
 use Rattle.sci_work.specs.Hands.{AreIdle}
 use Rattle.sci_work.proofs.Seated.{head_inside, or_at}
@@ -72,7 +72,7 @@ pub closed_of : {K : Type 0} (fits : K → ℕ → List ℕ → Type 0) (l : Fin
 closed_of fits l logs c e = record { exact = e.exact; nodes = e.read.tag_count; fit = fit_is l.terms.nodes (fits l.terms.keep l.terms.number) e.state e.value c e.valued e.read e.exact }
 
 -- and of the receipts of its seats, each Idle and with all kept: they are of the one run that it gives, each node's of its own calls in it
-module _ {K : Type 0} {g : keeps.Ghosts K} (fits : K → ℕ → List ℕ → Type 0) (l : FineLine K) (seats : List (Seat K g)) (c : ClosedLine) (lists : List (List Receipt)) (count : length seats ≡ l.terms.nodes) (idle : AreIdle Keeping.All l seats) (f : IsFinished fits l.terms seats c lists) where
+module _ {K : Type 0} {g : keeps.Ghosts K} (fits : K → ℕ → List ℕ → Type 0) (l : FineLine K) (seats : List (Seat K g)) (c : ClosedLine) (lists : List (List Receipt)) (count : length seats ≡ l.terms.nodes) (idle : AreIdle Recording.All l seats) (f : IsFinished fits l.terms seats c lists) where
   own_of : (j : ℕ) → j < l.terms.nodes → (r : ReceiptList) × (r.list ≡ list_at lists j) × AreReceiptsOf (done_by j f.end.ran.run) Pending.Idle r
   own_of j low =
       let at = at_place seats j (subst (λ (n : ℕ). j < n) (sym count) low) in let s : Seat K g = at.0 in let i = idle j s at.1 in

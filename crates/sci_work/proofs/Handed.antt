@@ -18,7 +18,7 @@ use Rattle.sci_fine.specs.Banks.{AreLines, AreSeatsAt, IsLine, seating_of}
 use Rattle.sci_fine.specs.Kept.{lists_of}
 use Rattle.sci_fine.specs.Seats.{AreNew}
 use Rattle.sci_fine.proofs.KeptBank.{AllKept}
-use Rattle.sci_work.specs.declared.keeping.Keeping.{Keeping}
+use Rattle.sci_work.specs.declared.recording.Recording.{Recording}
 use Rattle.sci_work.specs.declared.programs.Program.{Program}
 use Rattle.sci_work.specs.Adding.{AreAdds}
 use Rattle.sci_work.specs.Hands.{AtEach, HasWrittenNothing, HoldEach, IsHandOf}
@@ -39,15 +39,15 @@ module _ {K : Type 0} {g : keeps.Ghosts K} where
   receipts_on seats line = receipts_at (receipts_of (λ (s : Seat K g). seating_of s) seats) line
 
   -- a bank at these lines, by a hand at them, is Idle on every line
-  pub idle_before : {keeping : Keeping} (lines : List (FineLine K)) (number : ℕ) → AreLines lines → (hand seats : List (Seat K g)) → seats ≡ hand → IsHandOf keeping lines number hand → (line : ℕ) → get_or (steps_of seats) line Pending.Idle ≡ Pending.Idle
+  pub idle_before : {recording : Recording} (lines : List (FineLine K)) (number : ℕ) → AreLines lines → (hand seats : List (Seat K g)) → seats ≡ hand → IsHandOf recording lines number hand → (line : ℕ) → get_or (steps_of seats) line Pending.Idle ≡ Pending.Idle
   idle_before lines number are hand seats is h line = subst (λ (z : List (Seat K g)). get_or (steps_of z) line Pending.Idle ≡ Pending.Idle) (sym is) (all_idle lines number are hand h line)
 
   -- and its seats are a hand again where it is Idle on every line after, and they have kept all, if that is kept
-  pub hand_after : {keeping : Keeping} (lines ls : List (FineLine K)) (number node : ℕ) (keep : K) (seats back : List (Seat K g)) → ls ≡ lines → node ≡ number → back ≡ seats → AreSeatsAt keep node ls seats → ((line : ℕ) → get_or (steps_of seats) line Pending.Idle ≡ Pending.Idle) → (keeping ≡ Keeping.All → AllKept seats) → IsHandOf keeping lines number back
-  hand_after {keeping = keeping} lines ls number node keep seats back same mine is of idle kept =
-      subst (λ (z : List (Seat K g)). IsHandOf keeping lines number z) (sym is)
-      (subst (λ (z : List (FineLine K)). IsHandOf keeping z number seats) same
-      (subst (λ (n : ℕ). IsHandOf keeping ls n seats) mine (hand_again ls node keep seats of idle kept)))
+  pub hand_after : {recording : Recording} (lines ls : List (FineLine K)) (number node : ℕ) (keep : K) (seats back : List (Seat K g)) → ls ≡ lines → node ≡ number → back ≡ seats → AreSeatsAt keep node ls seats → ((line : ℕ) → get_or (steps_of seats) line Pending.Idle ≡ Pending.Idle) → (recording ≡ Recording.All → AllKept seats) → IsHandOf recording lines number back
+  hand_after {recording = recording} lines ls number node keep seats back same mine is of idle kept =
+      subst (λ (z : List (Seat K g)). IsHandOf recording lines number z) (sym is)
+      (subst (λ (z : List (FineLine K)). IsHandOf recording z number seats) same
+      (subst (λ (n : ℕ). IsHandOf recording ls n seats) mine (hand_again ls node keep seats of idle kept)))
 
   none_on : (seats : List (Seat K g)) → HasWrittenNothing seats → (line : ℕ) → writes_in (receipts_on seats line).list ≡ []
   none_on [] all line = refl
@@ -92,7 +92,7 @@ module _ {K : Type 0} {g : keeps.Ghosts K} where
   counted_alone adds seats lists own all (suc k) ls at node list here = absurd (some-ne-none ls (sym at))
 
   -- a bank at these lines, by a hand at them
-  module _ (lines : List (FineLine K)) (number : ℕ) (are : AreLines lines) (hand : List (Seat K g)) {keeping : Keeping} (h : IsHandOf keeping lines number hand)
+  module _ (lines : List (FineLine K)) (number : ℕ) (are : AreLines lines) (hand : List (Seat K g)) {recording : Recording} (h : IsHandOf recording lines number hand)
       (ls : List (FineLine K)) (seats : List (Seat K g)) (same : ls ≡ lines) (is : seats ≡ hand) (keep : K) (node : ℕ) (of : AreSeatsAt keep node ls seats) where
     at_these : AreSeatsAt keep node lines hand
     at_these = subst (λ (z : List (Seat K g)). AreSeatsAt keep node lines z) is (subst (λ (z : List (FineLine K)). AreSeatsAt keep node z seats) same of)

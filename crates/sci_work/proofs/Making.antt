@@ -49,10 +49,10 @@ module _ {U : Type 0} (gives : U → ℕ → Call → U → Type 0) (readies : U
   made_all a (write line words answer b h) = write line words answer (made_all a b) h
   made_all a (refused line words refusal b h) = refused line words refusal (made_all a b) h
 
-module _ {U K : Type 0} {way : U → BankWay} {nodes_on : U → ℕ → ℕ} {keep : U → K} {fits : K → ℕ → List ℕ → Type 0} {gives : U → ℕ → Call → U → Type 0} {readies : U → ℕ → Readying → U → Type 0} {step : U → ℕ → Pending} {told : U → ℕ → ReceiptList}
-    (n : NodeState) (r : Request) (u : U) (result : Result Answer NodeRefusal) (v : U) (m : NodeState) (h : HasCalled way nodes_on keep fits gives readies step told n r u result v m) where
+module _ {U K : Type 0} {way : U → BankWay} {nodes_on : U → ℕ → ℕ} {keep : U → K} {fits : K → ℕ → List ℕ → Type 0} {gives : U → ℕ → Call → U → Type 0} {readies : U → ℕ → Readying → U → Type 0} {step : U → ℕ → Pending} {receipts : U → ℕ → ReceiptList}
+    (n : NodeState) (r : Request) (u : U) (result : Result Answer NodeRefusal) (v : U) (m : NodeState) (h : HasCalled way nodes_on keep fits gives readies step receipts n r u result v m) where
   -- a call that waited leaves the bank the node's
-  pub still_called : {ws : List (ℕ × List ℕ)} → (n.keeps ≡ true → HasWrote ws (told u) (told v)) → IsBankOf (way u) n → IsStillBankOf n.keeps ws way keep step gives readies told u m v
+  pub still_called : {ws : List (ℕ × List ℕ)} → (n.keeps ≡ true → HasWrote ws (receipts u) (receipts v)) → IsBankOf (way u) n → IsStillBankOf n.keeps ws way keep step gives readies receipts u m v
   still_called wrote bank =
       let closed : m.call ≡ None = closed_after gives readies step n r h.ready result v m h.waits bank.closed in
       record {

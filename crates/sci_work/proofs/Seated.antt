@@ -18,7 +18,7 @@ use Rattle.sci_fine.specs.declared.views.Terms.{Terms}
 use Rattle.sci_fine.specs.Banks.{AreLines, AreSeatsAt, AreSeatsOf, IsOnePerLine, seated}
 use Rattle.sci_fine.proofs.Elements.{inside, at_end}
 use Rattle.sci_fine.proofs.KeptBank.{AllKept}
-use Rattle.sci_work.specs.declared.keeping.Keeping.{Keeping}
+use Rattle.sci_work.specs.declared.recording.Recording.{Recording}
 use Rattle.sci_work.specs.Hands.{AtEach, IsHandOf, IsIdleSeat}
 
 -- who stands first is one of the nodes
@@ -77,21 +77,21 @@ only_one xs (y ∷ ys) x one is = absurd (let f = ap (λ (z : List _). length z)
 
 module _ {K : Type 0} {g : keeps.Ghosts K} where
   -- one seat is a hand at one line
-  pub one_hand : {keeping : Keeping} (l : FineLine K) (node : ℕ) (s : Seat K g) (seats : List (Seat K g)) → seats ≡ s ∷ [] → IsIdleSeat keeping node l s → IsHandOf keeping (l ∷ []) node seats
-  one_hand {keeping = keeping} l node s seats is idle = subst (IsHandOf keeping (l ∷ []) node) (sym is) record { count = refl; each = places }
+  pub one_hand : {recording : Recording} (l : FineLine K) (node : ℕ) (s : Seat K g) (seats : List (Seat K g)) → seats ≡ s ∷ [] → IsIdleSeat recording node l s → IsHandOf recording (l ∷ []) node seats
+  one_hand {recording = recording} l node s seats is idle = subst (IsHandOf recording (l ∷ []) node) (sym is) record { count = refl; each = places }
     where
-      places : (k : ℕ) (m : FineLine K) (t : Seat K g) → get_elem? (l ∷ []) k ≡ some m → get_elem? (s ∷ []) k ≡ some t → IsIdleSeat keeping node m t
-      places zero m t el es = subst (λ (x : FineLine K). IsIdleSeat keeping node x t) (some-injective l m el) (subst (λ (x : Seat K g). IsIdleSeat keeping node l x) (some-injective s t es) idle)
+      places : (k : ℕ) (m : FineLine K) (t : Seat K g) → get_elem? (l ∷ []) k ≡ some m → get_elem? (s ∷ []) k ≡ some t → IsIdleSeat recording node m t
+      places zero m t el es = subst (λ (x : FineLine K). IsIdleSeat recording node x t) (some-injective l m el) (subst (λ (x : Seat K g). IsIdleSeat recording node l x) (some-injective s t es) idle)
       places (suc k) m t el es = absurd (some-ne-none m (sym el))
 
   -- and a hand at one line has a last seat, which is it
-  pub hand_one : {keeping : Keeping} (l : FineLine K) (node : ℕ) (seats fewer : List (Seat K g)) (s : Seat K g) → IsHandOf keeping (l ∷ []) node seats → seats ≡ fewer ++ s ∷ [] → IsIdleSeat keeping node l s
+  pub hand_one : {recording : Recording} (l : FineLine K) (node : ℕ) (seats fewer : List (Seat K g)) (s : Seat K g) → IsHandOf recording (l ∷ []) node seats → seats ≡ fewer ++ s ∷ [] → IsIdleSeat recording node l s
   hand_one l node seats [] s hand is = hand.each 0 l s refl (ap (λ (z : List (Seat K g)). get_elem? z 0) is)
   hand_one l node seats (t ∷ ts) s hand is = absurd (let e : length seats ≡ 1 = hand.count in let f = ap (λ (z : List (Seat K g)). length z) is in let h = length-append ts (s ∷ []) in omega (arith, e, f, h))
 
   module _ (lines : List (FineLine K)) (number : ℕ) (are : AreLines lines) where
     -- a hand is one seat per line, each of the very line in its place
-    pub one_per_line : {keeping : Keeping} (seats : List (Seat K g)) → IsHandOf keeping lines number seats → IsOnePerLine lines seats
+    pub one_per_line : {recording : Recording} (seats : List (Seat K g)) → IsHandOf recording lines number seats → IsOnePerLine lines seats
     one_per_line seats h = record {
       count = h.count;
       node = number;
@@ -101,10 +101,10 @@ module _ {K : Type 0} {g : keeps.Ghosts K} where
           (i.node_is, ap (λ (t : Terms K). t.number) i.of.1 ∙ (are.each k l.0 l.1).number);
     }
 
-    pub seats_of : {keeping : Keeping} (seats : List (Seat K g)) → IsHandOf keeping lines number seats → AreSeatsOf lines seats
+    pub seats_of : {recording : Recording} (seats : List (Seat K g)) → IsHandOf recording lines number seats → AreSeatsOf lines seats
     seats_of seats h k l s atl ats = (h.each k l s atl ats).of
 
-    module _ (keep : K) (node : ℕ) (seats : List (Seat K g)) (of : AreSeatsAt keep node lines seats) {keeping : Keeping} (hand : IsHandOf keeping lines number seats) where
+    module _ (keep : K) (node : ℕ) (seats : List (Seat K g)) (of : AreSeatsAt keep node lines seats) {recording : Recording} (hand : IsHandOf recording lines number seats) where
       first_seat : (s : Seat K g) × (get_elem? seats 0 ≡ some s)
       first_seat = at_place seats 0 (subst (λ (n : ℕ). 0 < n) (sym hand.count) are.some_are)
 
@@ -115,11 +115,11 @@ module _ {K : Type 0} {g : keeps.Ghosts K} where
       fact_is l at = let s = first_seat in (of.each 0 l s.0 at s.1).fact
 
     -- its seats have kept all
-    pub all_kept : (seats : List (Seat K g)) → IsHandOf Keeping.All lines number seats → AllKept seats
+    pub all_kept : (seats : List (Seat K g)) → IsHandOf Recording.All lines number seats → AllKept seats
     all_kept seats hand k s at = let l = at_place lines k (subst (λ (n : ℕ). k < n) hand.count (inside seats s k at)) in (hand.each k l.0 s l.1 at).kept refl
 
     -- a bank whose seats are a node's hand is Idle on every line
-    pub all_idle : {keeping : Keeping} (seats : List (Seat K g)) → IsHandOf keeping lines number seats → (line : ℕ) → step_on (seated are.keep number lines seats) line ≡ Pending.Idle
+    pub all_idle : {recording : Recording} (seats : List (Seat K g)) → IsHandOf recording lines number seats → (line : ℕ) → step_on (seated are.keep number lines seats) line ≡ Pending.Idle
     all_idle seats hand line = idle_on seats (λ k s at. let l = at_place lines k (subst (λ (n : ℕ). k < n) hand.count (inside seats s k at)) in (hand.each k l.0 s l.1 at).idle) line
       where
         idle_on : (xs : List (Seat K g)) → ((k : ℕ) (s : Seat K g) → get_elem? xs k ≡ some s → s.standing.pending ≡ Pending.Idle) → (line : ℕ) → get_or (map (λ (s : Seat K g). s.standing.pending) xs) line Pending.Idle ≡ Pending.Idle
@@ -128,7 +128,7 @@ module _ {K : Type 0} {g : keeps.Ghosts K} where
         idle_on (x ∷ xs) idle (suc k) = idle_on xs (λ j s at. idle (suc j) s at) k
 
   -- and the other way round
-  pub hand_again : {keeping : Keeping} (lines : List (FineLine K)) (number : ℕ) (keep : K) (seats : List (Seat K g)) → AreSeatsAt keep number lines seats → ((line : ℕ) → step_on (seated keep number lines seats) line ≡ Pending.Idle) → (keeping ≡ Keeping.All → AllKept seats) → IsHandOf keeping lines number seats
+  pub hand_again : {recording : Recording} (lines : List (FineLine K)) (number : ℕ) (keep : K) (seats : List (Seat K g)) → AreSeatsAt keep number lines seats → ((line : ℕ) → step_on (seated keep number lines seats) line ≡ Pending.Idle) → (recording ≡ Recording.All → AllKept seats) → IsHandOf recording lines number seats
   hand_again lines number keep seats of idle kept = record {
     count = of.count;
     each = λ k l s atl ats. let i = of.each k l s atl ats in record { of = i.of; node_is = i.node_is; idle = sym (read_at (λ (x : Seat K g). x.standing.pending) seats k s Pending.Idle ats) ∙ idle k; kept = λ all. kept all k s ats };

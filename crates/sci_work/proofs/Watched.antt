@@ -21,8 +21,8 @@ idle_look : (p : Pending) (tag : Option Tag) → p ≡ Pending.Idle → look_by 
 idle_look p None is = is
 idle_look p (Some t) is = ap (λ (x : Pending). look_by x (Some t)) is
 
-module _ {U : Type 0} {step : U → ℕ → Pending} {gives : U → ℕ → Call → U → Type 0} {readies : U → ℕ → Readying → U → Type 0} {told : U → ℕ → ReceiptList} where
-  rests_looked : (u : U) (line : ℕ) (tag : Option Tag) (v : U) → gives u line (Own tag) v → step v line ≡ look_by (step u line) tag → ((m : ℕ) → m ≢ line → step v m ≡ step u m) → RestsAgain true step gives readies told u v
+module _ {U : Type 0} {step : U → ℕ → Pending} {gives : U → ℕ → Call → U → Type 0} {readies : U → ℕ → Readying → U → Type 0} {receipts : U → ℕ → ReceiptList} where
+  rests_looked : (u : U) (line : ℕ) (tag : Option Tag) (v : U) → gives u line (Own tag) v → step v line ≡ look_by (step u line) tag → ((m : ℕ) → m ≢ line → step v m ≡ step u m) → RestsAgain true step gives readies receipts u v
   rests_looked u line tag v given looked others = record {
     idle = λ idle m. elim (cases_eq m line) [
       | inl e ↦ ap (step v) e ∙ looked ∙ idle_look (step u line) tag (idle line)
@@ -31,25 +31,25 @@ module _ {U : Type 0} {step : U → ℕ → Pending} {gives : U → ℕ → Call
     kept = λ yes. keeps_call line (Own tag) given tt keeps_none;
   }
 
-module _ {U K : Type 0} {way : U → BankWay} {keep : U → K} {step : U → ℕ → Pending} {gives : U → ℕ → Call → U → Type 0} {readies : U → ℕ → Readying → U → Type 0} {told : U → ℕ → ReceiptList} where
-  watched_not : (u : U) → HasWatched way keep step gives readies told u u
-  watched_not u = record { made = λ n. none; reached = stays; same_way = refl; same_fact = refl; rests = rests_not true u; receipts = λ line. refl }
+module _ {U K : Type 0} {way : U → BankWay} {keep : U → K} {step : U → ℕ → Pending} {gives : U → ℕ → Call → U → Type 0} {readies : U → ℕ → Readying → U → Type 0} {receipts : U → ℕ → ReceiptList} where
+  watched_not : (u : U) → HasWatched way keep step gives readies receipts u u
+  watched_not u = record { made = λ n. none; reached = stays; same_way = refl; same_fact = refl; rests = rests_not true u; same_receipts = λ line. refl }
 
-  pub watched_more : {u w v : U} → HasWatched way keep step gives readies told u w → (line : ℕ) (tag : Option Tag) → gives w line (Own tag) v → way v ≡ way w → keep v ≡ keep w
-      → step v line ≡ look_by (step w line) tag → ((m : ℕ) → m ≢ line → step v m ≡ step w m) → ((m : ℕ) → told v m ≡ told w m) → HasWatched way keep step gives readies told u v
+  pub watched_more : {u w v : U} → HasWatched way keep step gives readies receipts u w → (line : ℕ) (tag : Option Tag) → gives w line (Own tag) v → way v ≡ way w → keep v ≡ keep w
+      → step v line ≡ look_by (step w line) tag → ((m : ℕ) → m ≢ line → step v m ≡ step w m) → ((m : ℕ) → receipts v m ≡ receipts w m) → HasWatched way keep step gives readies receipts u v
   watched_more {w = w} {v = v} h line tag given same_way same_fact looked others receipts = record {
     made = λ n. look line tag (h.made n) given;
     reached = reached_then h.reached (by_call line (Own tag) given stays);
     same_way = same_way ∙ h.same_way;
     same_fact = same_fact ∙ h.same_fact;
     rests = rests_then h.rests (rests_looked w line tag v given looked others);
-    receipts = λ m. receipts m ∙ h.receipts m;
+    same_receipts = λ m. receipts m ∙ h.same_receipts m;
   }
 
-  pub watched_once : {u v : U} → (line : ℕ) (tag : Option Tag) → gives u line (Own tag) v → way v ≡ way u → keep v ≡ keep u → step v line ≡ look_by (step u line) tag → ((m : ℕ) → m ≢ line → step v m ≡ step u m) → ((m : ℕ) → told v m ≡ told u m) → HasWatched way keep step gives readies told u v
+  pub watched_once : {u v : U} → (line : ℕ) (tag : Option Tag) → gives u line (Own tag) v → way v ≡ way u → keep v ≡ keep u → step v line ≡ look_by (step u line) tag → ((m : ℕ) → m ≢ line → step v m ≡ step u m) → ((m : ℕ) → receipts v m ≡ receipts u m) → HasWatched way keep step gives readies receipts u v
   watched_once {u = u} line tag given same_way same_fact looked others receipts = watched_more (watched_not u) line tag given same_way same_fact looked others receipts
 
-  pub still_watched : {u v : U} {n : NodeState} → IsBankOf (way u) n → HasWatched way keep step gives readies told u v → IsStillBankOf n.keeps [] way keep step gives readies told u n v
+  pub still_watched : {u v : U} {n : NodeState} → IsBankOf (way u) n → HasWatched way keep step gives readies receipts u v → IsStillBankOf n.keeps [] way keep step gives readies receipts u n v
   still_watched {n = n} ready h = record {
     ready = subst (λ (x : BankWay). IsBankOf x n) (sym h.same_way) ready;
     same_keeps = refl;
@@ -57,5 +57,5 @@ module _ {U K : Type 0} {way : U → BankWay} {keep : U → K} {step : U → ℕ
     same_way = h.same_way;
     same_fact = h.same_fact;
     rests = record { idle = h.rests.idle; kept = λ yes. h.rests.kept refl };
-    wrote = λ yes. wrote_same h.receipts;
+    wrote = λ yes. wrote_same h.same_receipts;
   }

@@ -47,7 +47,7 @@ words_all a (w ∷ ws) line =
 pub wrote_same : {before after : ℕ → ReceiptList} → ((line : ℕ) → after line ≡ before line) → HasWrote [] before after
 wrote_same same = record { on = λ line. ap (λ (l : ReceiptList). words_in l.list) (same line) ∙ sym (append-nil _) }
 
-pub wrote_none : {told : ℕ → ReceiptList} → HasWrote [] told told
+pub wrote_none : {receipts : ℕ → ReceiptList} → HasWrote [] receipts receipts
 wrote_none = record { on = λ line. sym (append-nil _) }
 
 pub wrote_then : {a b : List (ℕ × List ℕ)} {before between after : ℕ → ReceiptList} → HasWrote a before between → HasWrote b between after → HasWrote (b ++ a) before after
@@ -67,33 +67,33 @@ abbrev pub one_added : ℕ → Answer → List (ℕ × List ℕ)
 one_added at (Answer.Wrote old stamp) = (at, change (Write.Add 0 1) old) ∷ []
 one_added at answer = []
 
-module _ {U : Type 0} {gives : U → ℕ → Call → U → Type 0} {readies : U → ℕ → Readying → U → Type 0} {told : U → ℕ → ReceiptList} {u v : U} where
+module _ {U : Type 0} {gives : U → ℕ → Call → U → Type 0} {readies : U → ℕ → Readying → U → Type 0} {receipts : U → ℕ → ReceiptList} {u v : U} where
   -- a call that was refused writes nothing
-  pub wrote_refused : {r : Request} {e : NodeRefusal} → KeepsRequest gives readies told r u (Err e) v → HasWrote [] (told u) (told v)
-  wrote_refused {r = r} {e = e} kept = wrote_no_more (told u) (told v) (λ line. []) kept.writes (λ line. refl)
+  pub wrote_refused : {r : Request} {e : NodeRefusal} → KeepsRequest gives readies receipts r u (Err e) v → HasWrote [] (receipts u) (receipts v)
+  wrote_refused {r = r} {e = e} kept = wrote_no_more (receipts u) (receipts v) (λ line. []) kept.writes (λ line. refl)
 
   -- nor does a load
-  pub wrote_read : (at : ℕ) (result : Result Answer NodeRefusal) → KeepsRequest gives readies told (Request.Load at) u result v → HasWrote [] (told u) (told v)
-  wrote_read at (Ok answer) kept = wrote_no_more (told u) (told v) _ kept.writes (λ line. none_picked (eqb at line) [])
+  pub wrote_read : (at : ℕ) (result : Result Answer NodeRefusal) → KeepsRequest gives readies receipts (Request.Load at) u result v → HasWrote [] (receipts u) (receipts v)
+  wrote_read at (Ok answer) kept = wrote_no_more (receipts u) (receipts v) _ kept.writes (λ line. none_picked (eqb at line) [])
   wrote_read at (Err e) kept = wrote_refused kept
 
   -- a write of a line writes that
-  pub wrote_line : {answer : Answer} (fits : List ℕ → Type 0) (at : ℕ) (words : List ℕ) → KeepsRequest gives readies told (Request.WriteLine at words) u (Ok answer) v → IsAnswerTo fits (Goal.Write (Write.Line words)) answer → answer ≢ Answer.Spent
-      → HasWrote ((at, words) ∷ []) (told u) (told v)
+  pub wrote_line : {answer : Answer} (fits : List ℕ → Type 0) (at : ℕ) (words : List ℕ) → KeepsRequest gives readies receipts (Request.WriteLine at words) u (Ok answer) v → IsAnswerTo fits (Goal.Write (Write.Line words)) answer → answer ≢ Answer.Spent
+      → HasWrote ((at, words) ∷ []) (receipts u) (receipts v)
   wrote_line {answer = Answer.Wrote old stamp} fits at words kept is ended = record {
     on = λ line.
-        words_more (told u line).list (told v line).list _ (kept.writes line) ∙ ap (λ (l : List (List ℕ)). words_in (told u line).list ++ l) (one_picked (eqb at line) (Wrote old words stamp));
+        words_more (receipts u line).list (receipts v line).list _ (kept.writes line) ∙ ap (λ (l : List (List ℕ)). words_in (receipts u line).list ++ l) (one_picked (eqb at line) (Wrote old words stamp));
   }
   wrote_line {answer = Answer.Spent} fits at words kept is ended = absurd (ended refl)
   wrote_line {answer = Answer.Seen seen stamp} fits at words kept is ended = absurd is
   wrote_line {answer = Answer.Out} fits at words kept is ended = absurd is
 
   -- and an add its words
-  pub wrote_added : {answer : Answer} (fits : List ℕ → Type 0) (at : ℕ) → KeepsRequest gives readies told (Request.Add at 0 1) u (Ok answer) v → IsAnswerTo fits (Goal.Write (Write.Add 0 1)) answer → answer ≢ Answer.Spent
-      → HasWrote (one_added at answer) (told u) (told v)
+  pub wrote_added : {answer : Answer} (fits : List ℕ → Type 0) (at : ℕ) → KeepsRequest gives readies receipts (Request.Add at 0 1) u (Ok answer) v → IsAnswerTo fits (Goal.Write (Write.Add 0 1)) answer → answer ≢ Answer.Spent
+      → HasWrote (one_added at answer) (receipts u) (receipts v)
   wrote_added {answer = Answer.Wrote old stamp} fits at kept is ended = record {
     on = λ line.
-        words_more (told u line).list (told v line).list _ (kept.writes line) ∙ ap (λ (l : List (List ℕ)). words_in (told u line).list ++ l) (one_picked (eqb at line) (Wrote old (change (Write.Add 0 1) old) stamp));
+        words_more (receipts u line).list (receipts v line).list _ (kept.writes line) ∙ ap (λ (l : List (List ℕ)). words_in (receipts u line).list ++ l) (one_picked (eqb at line) (Wrote old (change (Write.Add 0 1) old) stamp));
   }
   wrote_added {answer = Answer.Spent} fits at kept is ended = absurd (ended refl)
   wrote_added {answer = Answer.Seen seen stamp} fits at kept is ended = absurd is

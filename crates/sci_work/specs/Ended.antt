@@ -18,8 +18,8 @@ use Rattle.sci_fine.specs.declared.seats.Seat.{Seat}
 use Rattle.sci_fine.specs.Ends.{IsReadOff}
 use Rattle.sci_fine.specs.Kept.{list_at}
 use Rattle.sci_core.specs.Closed.{ClosedLine, IsExactClosed, value_of}
-use Rattle.sci_work.specs.declared.keeping.ClosedMemory.{ClosedMemory}
-use Rattle.sci_work.specs.declared.keeping.Keeping.{Keeping}
+use Rattle.sci_work.specs.declared.recording.ClosedMemory.{ClosedMemory}
+use Rattle.sci_work.specs.declared.recording.Recording.{Recording}
 use Rattle.sci_work.specs.Hands.{AtEach, IsListOf}
 
 -- each closed line has so many nodes
@@ -71,9 +71,9 @@ pub record AreHistories (fits : ℕ → List ℕ → Type 0) (nodes : ℕ) (clos
       → IsLineHistory (fits k) nodes blank c l
 
 -- where all is kept, the receipts are the lines' histories; and there are none where nothing is
-abbrev pub AreKept : Keeping → (ℕ → List ℕ → Type 0) → ℕ → ClosedMemory → Type 0
-AreKept Keeping.All fits nodes memory = AreHistories fits nodes memory.lines.items (map lists_in memory.receipts.items)
-AreKept Keeping.Nothing fits nodes memory = memory.receipts.items ≡ []
+abbrev pub AreKept : Recording → (ℕ → List ℕ → Type 0) → ℕ → ClosedMemory → Type 0
+AreKept Recording.All fits nodes memory = AreHistories fits nodes memory.lines.items (map lists_in memory.receipts.items)
+AreKept Recording.Nothing fits nodes memory = memory.receipts.items ≡ []
 
 -- such a history of this very line
 abbrev pub IsHistoryOn : {K : Type 0} → (K → ℕ → List ℕ → Type 0) → FineLine K → ClosedLine → List (List Receipt) → Type 0
@@ -89,9 +89,9 @@ pub record AreHistoriesOn {K : Type 0} (fits : K → ℕ → List ℕ → Type 0
 abbrev pub AreOfHands : {K : Type 0} {g : keeps.Ghosts K} → List (Vec (Seat K g)) → ClosedMemory → Type 0
 AreOfHands {K} {g} hands memory = AtEach (λ line lists. AtEach (λ node list. IsListOf hands node line list) (lists_in lists)) memory.receipts.items
 
-abbrev pub AreKeptOn : {K : Type 0} → Keeping → (K → ℕ → List ℕ → Type 0) → List (FineLine K) → ClosedMemory → Type 0
-AreKeptOn Keeping.All fits lines memory = AreHistoriesOn fits lines memory
-AreKeptOn Keeping.Nothing fits lines memory = memory.receipts.items ≡ []
+abbrev pub AreKeptOn : {K : Type 0} → Recording → (K → ℕ → List ℕ → Type 0) → List (FineLine K) → ClosedMemory → Type 0
+AreKeptOn Recording.All fits lines memory = AreHistoriesOn fits lines memory
+AreKeptOn Recording.Nothing fits lines memory = memory.receipts.items ≡ []
 
 -- each line was closed so
 pub record AreClosedOf {K : Type 0} (fits : K → ℕ → List ℕ → Type 0) (lines : List (FineLine K)) (closed : List ClosedLine) : Type 0 where

@@ -11,23 +11,23 @@ use Rattle.sci_fine.specs.declared.line.FineLine.{FineLine}
 use Rattle.sci_fine.specs.declared.seats.Seat.{Seat}
 use Rattle.sci_fine.specs.Kept.{HasKeptAll}
 use Rattle.sci_fine.specs.Seats.{IsSeatOf}
-use Rattle.sci_work.specs.declared.keeping.Keeping.{Keeping}
+use Rattle.sci_work.specs.declared.recording.Recording.{Recording}
 
 -- P holds of each place and the element there
 abbrev pub AtEach : {A : Type 0} → (ℕ → A → Type 0) → List A → Type 0
 AtEach {A} P xs = (k : ℕ) (x : A) → get_elem? xs k ≡ some x → P k x
 
 -- the node's seat at this very line, Idle, and with the receipts of all that it did, where that is kept
-pub record IsIdleSeat {K : Type 0} {g : keeps.Ghosts K} (keeping : Keeping) (node : ℕ) (l : FineLine K) (s : Seat K g) : Type 0 where
+pub record IsIdleSeat {K : Type 0} {g : keeps.Ghosts K} (recording : Recording) (node : ℕ) (l : FineLine K) (s : Seat K g) : Type 0 where
   pub of : IsSeatOf l s
   pub node_is : s.standing.node ≡ node
   pub idle : s.standing.pending ≡ Pending.Idle
-  pub kept : keeping ≡ Keeping.All → HasKeptAll s
+  pub kept : recording ≡ Recording.All → HasKeptAll s
 
 -- the node's seats, one at each line, in order, and all Idle
-pub record IsHandOf {K : Type 0} {g : keeps.Ghosts K} (keeping : Keeping) (lines : List (FineLine K)) (node : ℕ) (seats : List (Seat K g)) : Type 0 where
+pub record IsHandOf {K : Type 0} {g : keeps.Ghosts K} (recording : Recording) (lines : List (FineLine K)) (node : ℕ) (seats : List (Seat K g)) : Type 0 where
   pub count : length seats ≡ length lines
-  pub each : (k : ℕ) (l : FineLine K) (s : Seat K g) → get_elem? lines k ≡ some l → get_elem? seats k ≡ some s → IsIdleSeat keeping node l s
+  pub each : (k : ℕ) (l : FineLine K) (s : Seat K g) → get_elem? lines k ≡ some l → get_elem? seats k ≡ some s → IsIdleSeat recording node l s
 
 -- none of the seats has written
 abbrev pub HasWrittenNothing : {K : Type 0} {g : keeps.Ghosts K} → List (Seat K g) → Type 0
@@ -35,14 +35,14 @@ HasWrittenNothing {K} {g} seats = AtEach (λ k s. writes_in s.receipts.list ≡ 
 
 -- a node's seats at lines that were just opened
 abbrev pub IsNewHand : {K : Type 0} {g : keeps.Ghosts K} → List (FineLine K) → ℕ → List (Seat K g) → Type 0
-IsNewHand lines node seats = IsHandOf Keeping.All lines node seats × HasWrittenNothing seats
+IsNewHand lines node seats = IsHandOf Recording.All lines node seats × HasWrittenNothing seats
 
 abbrev pub IsNewSeat : {K : Type 0} {g : keeps.Ghosts K} → ℕ → FineLine K → Seat K g → Type 0
-IsNewSeat node l s = IsIdleSeat Keeping.All node l s × (writes_in s.receipts.list ≡ [])
+IsNewSeat node l s = IsIdleSeat Recording.All node l s × (writes_in s.receipts.list ≡ [])
 
 -- each seat is one of this very line, Idle, and with the receipts of all that it did, where that is kept
-abbrev pub AreIdle : {K : Type 0} {g : keeps.Ghosts K} → Keeping → FineLine K → List (Seat K g) → Type 0
-AreIdle {K} {g} keeping l seats = (k : ℕ) (s : Seat K g) → get_elem? seats k ≡ some s → IsSeatOf l s × (s.standing.pending ≡ Pending.Idle) × (keeping ≡ Keeping.All → HasKeptAll s)
+abbrev pub AreIdle : {K : Type 0} {g : keeps.Ghosts K} → Recording → FineLine K → List (Seat K g) → Type 0
+AreIdle {K} {g} recording l seats = (k : ℕ) (s : Seat K g) → get_elem? seats k ≡ some s → IsSeatOf l s × (s.standing.pending ≡ Pending.Idle) × (recording ≡ Recording.All → HasKeptAll s)
 
 -- the list is that of the node's seat at this line
 abbrev pub IsListOf : {K : Type 0} {g : keeps.Ghosts K} → List (Vec (Seat K g)) → ℕ → ℕ → List Receipt → Type 0

@@ -28,20 +28,20 @@ pub data IsReached {U : Type 0} (gives : U → ℕ → Call → U → Type 0) (r
   by_readying : {u w v : U} → (line : ℕ) → (r : Readying) → readies u line r w → IsReached gives readies w v → IsReached gives readies u v
 
 -- from the bank u to v, a node that was Idle on every line is so again, and its receipts keep all that it did, if it keeps any
-pub record RestsAgain {U : Type 0} (keeps : Bool) (step : U → ℕ → Pending) (gives : U → ℕ → Call → U → Type 0) (readies : U → ℕ → Readying → U → Type 0) (told : U → ℕ → ReceiptList) (u v : U) : Type 0 where
+pub record RestsAgain {U : Type 0} (keeps : Bool) (step : U → ℕ → Pending) (gives : U → ℕ → Call → U → Type 0) (readies : U → ℕ → Readying → U → Type 0) (receipts : U → ℕ → ReceiptList) (u v : U) : Type 0 where
   pub idle : ((line : ℕ) → step u line ≡ Pending.Idle) → (line : ℕ) → step v line ≡ Pending.Idle
-  pub kept : keeps ≡ true → KeepsAll gives readies told u v
+  pub kept : keeps ≡ true → KeepsAll gives readies receipts u v
 
 -- from the bank u to v it is the node's with no call open still, of as many lines, under the same fact, and at rest if it was; the node
 -- keeps receipts as before, or none, and has written this
-pub record IsStillBankOf {U K : Type 0} (keeps : Bool) (ws : List (ℕ × List ℕ)) (way : U → BankWay) (keep : U → K) (step : U → ℕ → Pending) (gives : U → ℕ → Call → U → Type 0) (readies : U → ℕ → Readying → U → Type 0) (told : U → ℕ → ReceiptList) (u : U) (n : NodeState) (v : U) : Type 0 where
+pub record IsStillBankOf {U K : Type 0} (keeps : Bool) (ws : List (ℕ × List ℕ)) (way : U → BankWay) (keep : U → K) (step : U → ℕ → Pending) (gives : U → ℕ → Call → U → Type 0) (readies : U → ℕ → Readying → U → Type 0) (receipts : U → ℕ → ReceiptList) (u : U) (n : NodeState) (v : U) : Type 0 where
   pub ready : IsBankOf (way v) n
   pub same_keeps : n.keeps ≡ keeps
   pub reached : IsReached gives readies u v
   pub same_way : way v ≡ way u
   pub same_fact : keep v ≡ keep u
-  pub rests : RestsAgain keeps step gives readies told u v
-  pub wrote : keeps ≡ true → HasWrote ws (told u) (told v)
+  pub rests : RestsAgain keeps step gives readies receipts u v
+  pub wrote : keeps ≡ true → HasWrote ws (receipts u) (receipts v)
 
 -- a call on a line that there is, begun where none is open, is refused with 7 or 11
 abbrev pub IsLineRefusal : NodeRefusal → Type 0
@@ -80,10 +80,10 @@ module _ {U : Type 0} (gives : U → ℕ → Call → U → Type 0) (readies : U
     pub made : Made (writes count) n u m v
 
 -- from the bank u to v any node has only looked at own tags
-pub record HasWatched {U K : Type 0} (way : U → BankWay) (keep : U → K) (step : U → ℕ → Pending) (gives : U → ℕ → Call → U → Type 0) (readies : U → ℕ → Readying → U → Type 0) (told : U → ℕ → ReceiptList) (u v : U) : Type 0 where
+pub record HasWatched {U K : Type 0} (way : U → BankWay) (keep : U → K) (step : U → ℕ → Pending) (gives : U → ℕ → Call → U → Type 0) (readies : U → ℕ → Readying → U → Type 0) (receipts : U → ℕ → ReceiptList) (u v : U) : Type 0 where
   pub made : (n : NodeState) → Made gives readies step [] n u n v
   pub reached : IsReached gives readies u v
   pub same_way : way v ≡ way u
   pub same_fact : keep v ≡ keep u
-  pub rests : RestsAgain true step gives readies told u v
-  pub receipts : (line : ℕ) → told v line ≡ told u line
+  pub rests : RestsAgain true step gives readies receipts u v
+  pub same_receipts : (line : ℕ) → receipts v line ≡ receipts u line

@@ -7,7 +7,7 @@ use Rattle.sci_core.specs.declared.keeps.Keeps as keeps
 use Rattle.sci_fine.specs.declared.line.FineLine.{FineLine}
 use Rattle.sci_fine.specs.declared.seats.Seat.{Seat}
 use Rattle.sci_fine.specs.Banks.{AreLines}
-use Rattle.sci_work.specs.declared.keeping.Keeping.{Keeping}
+use Rattle.sci_work.specs.declared.recording.Recording.{Recording}
 use Rattle.sci_work.specs.declared.programs.Program.{Program}
 use Rattle.sci_work.specs.declared.refusals.WorkRefusal.{WorkRefusal}
 use Rattle.sci_work.specs.Hands.{AtEach, HasWrittenNothing, IsHandOf}
@@ -18,32 +18,32 @@ abbrev pub HasWrittenAll : {K : Type 0} {g : keeps.Ghosts K} → Program → ℕ
 HasWrittenAll {K} {g} program number seats = AtEach (λ line s. AreWritesOf program number line s.receipts.list) seats
 
 -- the lines of one memory, the node's seats at them, without writes where receipts are kept, and a program that suits their fact
-pub record IsPart {K : Type 0} {g : keeps.Ghosts K} (fits : K → ℕ → List ℕ → Type 0) (keeping : Keeping) (lines : List (FineLine K)) (program : Program) (number : ℕ) (seats : List (Seat K g)) : Type 0 where
+pub record IsPart {K : Type 0} {g : keeps.Ghosts K} (fits : K → ℕ → List ℕ → Type 0) (recording : Recording) (lines : List (FineLine K)) (program : Program) (number : ℕ) (seats : List (Seat K g)) : Type 0 where
   pub lines_are : AreLines lines
-  pub hand : IsHandOf Keeping.All lines number seats
-  pub begins : keeping ≡ Keeping.All → HasWrittenNothing seats
+  pub hand : IsHandOf Recording.All lines number seats
+  pub begins : recording ≡ Recording.All → HasWrittenNothing seats
   pub suits : (l : FineLine K) → get_elem? lines 0 ≡ some l → Suits program (fits l.terms.keep) (length lines) number
 
 -- the same of each of at most 64 nodes
-pub record AreParts {K : Type 0} {g : keeps.Ghosts K} (fits : K → ℕ → List ℕ → Type 0) (keeping : Keeping) (lines : List (FineLine K)) (program : Program) (hands : Vec (Vec (Seat K g))) : Type 0 where
+pub record AreParts {K : Type 0} {g : keeps.Ghosts K} (fits : K → ℕ → List ℕ → Type 0) (recording : Recording) (lines : List (FineLine K)) (program : Program) (hands : Vec (Vec (Seat K g))) : Type 0 where
   pub lines_are : AreLines lines
   pub few : vec_len hands ≤ 64
-  pub hands_are : AtEach (λ k hand. IsHandOf Keeping.All lines k hand.items) hands.items
-  pub begin : keeping ≡ Keeping.All → AtEach (λ k hand. HasWrittenNothing hand.items) hands.items
+  pub hands_are : AtEach (λ k hand. IsHandOf Recording.All lines k hand.items) hands.items
+  pub begin : recording ≡ Recording.All → AtEach (λ k hand. HasWrittenNothing hand.items) hands.items
   pub suits : (k : ℕ) (l : FineLine K) → k < vec_len hands → get_elem? lines 0 ≡ some l → Suits program (fits l.terms.keep) (length lines) k
 
 -- the node's seats, Idle again, with its receipts where they are kept, and its share, or why there is none
-pub record IsPartDone {K : Type 0} {g : keeps.Ghosts K} (keeping : Keeping) (lines : List (FineLine K)) (program : Program) (number : ℕ) (seats : List (Seat K g)) (share : Result (Vec ℕ) WorkRefusal) : Type 0 where
-  pub hand : IsHandOf keeping lines number seats
+pub record IsPartDone {K : Type 0} {g : keeps.Ghosts K} (recording : Recording) (lines : List (FineLine K)) (program : Program) (number : ℕ) (seats : List (Seat K g)) (share : Result (Vec ℕ) WorkRefusal) : Type 0 where
+  pub hand : IsHandOf recording lines number seats
   pub share_is : IfOk share (λ s. IsShareOf program number s.items)
-  pub ends : keeping ≡ Keeping.All → OnOk share (HasWrittenAll program number seats)
+  pub ends : recording ≡ Recording.All → OnOk share (HasWrittenAll program number seats)
   pub refused : IfErr share (ComesInPart program)
 
 -- what so many nodes have ended with: their seats, Idle again, and their shares
-pub record AreEnded {K : Type 0} {g : keeps.Ghosts K} (keeping : Keeping) (lines : List (FineLine K)) (program : Program) (nodes : ℕ) (hands : Vec (Vec (Seat K g))) (shares : Vec (Vec ℕ)) : Type 0 where
+pub record AreEnded {K : Type 0} {g : keeps.Ghosts K} (recording : Recording) (lines : List (FineLine K)) (program : Program) (nodes : ℕ) (hands : Vec (Vec (Seat K g))) (shares : Vec (Vec ℕ)) : Type 0 where
   pub hand_count : vec_len hands ≡ nodes
-  pub hands_are : AtEach (λ k hand. IsHandOf keeping lines k hand.items) hands.items
-  pub end : keeping ≡ Keeping.All → AtEach (λ k hand. HasWrittenAll program k hand.items) hands.items
+  pub hands_are : AtEach (λ k hand. IsHandOf recording lines k hand.items) hands.items
+  pub end : recording ≡ Recording.All → AtEach (λ k hand. HasWrittenAll program k hand.items) hands.items
   pub share_count : vec_len shares ≡ nodes
   pub shares_are : AtEach (λ k share. IsShareOf program k share.items) shares.items
 

@@ -39,7 +39,7 @@ fn refused(refusal: NodeRefusal) -> WorkRefusal
 
 /// The words of a line. The refusals: 25 and 20 before the call, then 7.
 #[inline(always)]
-pub(crate) fn loaded<R: Wait, G: Gate, B: Bank>(
+pub(crate) fn load<R: Wait, G: Gate, B: Bank>(
     rt: &R,
     door: &mut Door<'_, G>,
     node: &mut Node,
@@ -51,7 +51,7 @@ pub(crate) fn loaded<R: Wait, G: Gate, B: Bank>(
     ensures fits { IfOk result (λ words. B.Keep.fits (B.keep bank.old) line words) }
     ensures err { IfErr result ComesInCall }
     ensures made { Made B.gives B.readies B.at_step [] node.old bank.old node.new bank.new }
-    ensures still { IsStillBankOf node.old.keeps [] B.way B.keep B.at_step B.gives B.readies B.told bank.old node.new bank.new }
+    ensures still { IsStillBankOf node.old.keeps [] B.way B.keep B.at_step B.gives B.readies B.receipts bank.old node.new bank.new }
 {
     door.enter()?;
     let answer = node.load(rt, bank, line);
@@ -67,14 +67,14 @@ pub(crate) fn loaded<R: Wait, G: Gate, B: Bank>(
 const LOOKS: u32 = 64;
 
 /// Waits while the node's own tag stays as it is: no other node writes to the line before it has changed that. Refusal 25.
-fn watched<G: Gate, B: Bank>(
+fn watch<G: Gate, B: Bank>(
     door: &Door<'_, G>,
     bank: &mut B,
     line: LineNo,
 ) -> Result<(), WorkRefusal>
     requires line { line < (B.way bank.old).lines }
     ensures err { IfErr result (λ e. e ≡ WorkRefusal.Stopped) }
-    ensures watched { HasWatched B.way B.keep B.at_step B.gives B.readies B.told bank.old bank.new }
+    ensures watched { HasWatched B.way B.keep B.at_step B.gives B.readies B.receipts bank.old bank.new }
 {
     let seen = bank.own(line);
     if let Some(
@@ -100,7 +100,7 @@ fn watched<G: Gate, B: Bank>(
 
 /// The words of a line, once its word 0 is at least this number.
 #[inline(always)]
-pub(crate) fn reached<R: Wait, G: Gate, B: Bank>(
+pub(crate) fn load_until<R: Wait, G: Gate, B: Bank>(
     rt: &R,
     door: &mut Door<'_, G>,
     node: &mut Node,
@@ -114,21 +114,21 @@ pub(crate) fn reached<R: Wait, G: Gate, B: Bank>(
     ensures number { IfOk result (λ words. number ≤ slice_index words 0) }
     ensures err { IfErr result ComesInCall }
     ensures made { Made B.gives B.readies B.at_step [] node.old bank.old node.new bank.new }
-    ensures still { IsStillBankOf node.old.keeps [] B.way B.keep B.at_step B.gives B.readies B.told bank.old node.new bank.new }
+    ensures still { IsStillBankOf node.old.keeps [] B.way B.keep B.at_step B.gives B.readies B.receipts bank.old node.new bank.new }
 {
     for _ in rt.forever() {
-        let words = loaded(rt, door, node, bank, line)?;
+        let words = load(rt, door, node, bank, line)?;
         if words[0] >= number {
             return Ok(words);
         }
-        watched(door, bank, line)?;
+        watch(door, bank, line)?;
     }
     unreachable!()
 }
 
 /// Replaces a line's words. The refusals: 25 and 20 before the call, then 7 and 11.
 #[inline(always)]
-pub(crate) fn written<R: Wait, G: Gate, B: Bank>(
+pub(crate) fn write_line<R: Wait, G: Gate, B: Bank>(
     rt: &R,
     door: &mut Door<'_, G>,
     node: &mut Node,
@@ -142,7 +142,7 @@ pub(crate) fn written<R: Wait, G: Gate, B: Bank>(
     ensures err { IfErr result ComesInCall }
     ensures made { OnOk result (Made B.gives B.readies B.at_step ((line, words) ∷ []) node.old bank.old node.new bank.new) }
     ensures none { OnErr result (Made B.gives B.readies B.at_step [] node.old bank.old node.new bank.new) }
-    ensures still { (ws : List (ℕ × List ℕ)) × IsStillBankOf node.old.keeps ws B.way B.keep B.at_step B.gives B.readies B.told bank.old node.new bank.new × OnOk result (ws ≡ (line, words) ∷ []) }
+    ensures still { (ws : List (ℕ × List ℕ)) × IsStillBankOf node.old.keeps ws B.way B.keep B.at_step B.gives B.readies B.receipts bank.old node.new bank.new × OnOk result (ws ≡ (line, words) ∷ []) }
 {
     door.enter()?;
     let answer = node.write_line(rt, bank, line, words);
@@ -155,7 +155,7 @@ pub(crate) fn written<R: Wait, G: Gate, B: Bank>(
 
 /// Adds 1 to word 0 of a line. The refusals: 25 and 20 before the call, then 7 and 11.
 #[inline(always)]
-pub(crate) fn added<R: Wait, G: Gate, B: Bank>(
+pub(crate) fn add_one<R: Wait, G: Gate, B: Bank>(
     rt: &R,
     door: &mut Door<'_, G>,
     node: &mut Node,
@@ -166,8 +166,8 @@ pub(crate) fn added<R: Wait, G: Gate, B: Bank>(
     requires line { line < (B.way bank.old).lines }
     requires fits { StoresFitting (B.Keep.fits (B.keep bank.old) line) (goal.Goal.Write (write.Write.Add 0 1)) }
     ensures err { IfErr result ComesInCall }
-    ensures worked { (ws : List (ℕ × List ℕ)) × HasWorked node.old.keeps ws B.way B.keep B.at_step B.gives B.readies B.told bank.old node.new bank.new }
-    ensures added { node.old.keeps ≡ true → OnOk result (HasAdded 1 (B.told bank.old line).list (B.told bank.new line).list) }
+    ensures worked { (ws : List (ℕ × List ℕ)) × HasWorked node.old.keeps ws B.way B.keep B.at_step B.gives B.readies B.receipts bank.old node.new bank.new }
+    ensures added { node.old.keeps ≡ true → OnOk result (HasAdded 1 (B.receipts bank.old line).list (B.receipts bank.new line).list) }
 {
     door.enter()?;
     let answer = node.add(rt, bank, line, 0, 1);

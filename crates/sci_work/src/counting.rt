@@ -2,15 +2,15 @@
 ghost use Rattle.std.specs.Prelude.{◌≡◌, ◌≢◌, ◌<◌, ◌≤◌, ◌↔◌, ◌*◌, ◌%◌, ◌^◌, [], ◌∷◌, Err, length, map, slice_index, IfOk, IfErr, IsTrue};
 ghost use Rattle.sci_core.specs.Closed.{IsExactClosed, value_of};
 ghost use Rattle.sci_core.specs.State.{blank};
-ghost use Rattle.sci_work.specs.declared.keeping.Keeping as keeps;
+ghost use Rattle.sci_work.specs.declared.recording.Recording as keeps;
 ghost use Rattle.sci_work.specs.Ended.{AreKept, HaveNodes, IsCounted, IsCountSize, IsLineHistory, any_words, lists_in};
 ghost use Rattle.sci_work.specs.Starts.{ComesInCount, ComesInStart};
 ghost use Rattle.sci_work.specs.Written.{AddsAlone, AreWrittenAs};
 
 use crate::gates::Gate;
-use crate::keeping::{ClosedMemory, Keeping};
 use crate::lines::{finished, zeroed};
 use crate::programs::Program;
+use crate::recording::{ClosedMemory, Recording};
 use crate::refusals::WorkRefusal;
 use crate::seating::{dealt, gathered};
 use crate::starting::run_all;
@@ -55,11 +55,11 @@ fn counted<R: Threads + Wait + Sync, G: Gate>(
         slice::from_ref(&line),
         hands,
         program,
-        Keeping::All,
+        Recording::All,
         capacity,
     )?;
     let seats = gathered(alloc, &line, hands)?;
-    finished(alloc, line, Keeping::All, seats)
+    finished(alloc, line, Recording::All, seats)
 }
 
 /// Each of 1 to 64 nodes, in a thread of its own, adds 1 to word 0 of line 0, at most 1,000,000 times. Gives the word once the
@@ -80,7 +80,7 @@ pub fn count<R: Threads + Wait + Sync, G: Gate>(
     ensures total { IfOk result (λ r. r.0 ≡ (nodes * adds) % 2 ^ 64) }
     ensures ok { IfOk result (λ r. IsCounted r.0 r.1.lines.items) }
     ensures nodes { IfOk result (λ r. HaveNodes nodes r.1.lines.items) }
-    ensures kept { IfOk result (λ r. AreKept keeps.Keeping.All (λ _. any_words) nodes r.1) }
+    ensures kept { IfOk result (λ r. AreKept keeps.Recording.All (λ _. any_words) nodes r.1) }
     ensures wrote { IfOk result (λ r. AreWrittenAs (AddsAlone adds) (map lists_in r.1.receipts.items)) }
     ensures err { IfErr result ComesInCount }
 {

@@ -4,11 +4,11 @@ ghost use Rattle.sci_core.specs.State.{blank};
 ghost use Rattle.sci_fine.specs.Banks.{IsLine};
 ghost use Rattle.sci_fine.specs.Seats.{AreNew};
 ghost use Rattle.sci_fine.specs.Kept.{lists_of};
-ghost use Rattle.sci_work.specs.declared.keeping.Keeping as keeps;
+ghost use Rattle.sci_work.specs.declared.recording.Recording as keeps;
 ghost use Rattle.sci_work.specs.Ended.{AreClosedOf, AreKeptOn, AreOfHands, IsClosedOf, IsHistoryOn, lists_in};
 ghost use Rattle.sci_work.specs.Hands.{AreIdle, AtEach, IsFewer, IsHandOf, IsIdleSeat, IsNewHand, IsNewSeat, IsSeatIn};
 
-use crate::keeping::{ClosedMemory, Keeping};
+use crate::recording::{ClosedMemory, Recording};
 use crate::refusals::WorkRefusal;
 use crate::seating::Hand;
 use sci_core::{Keeps, Line, OpenRefusal, Receipt};
@@ -72,7 +72,7 @@ pub(crate) fn zeroed<K: Keeps>(
     ensures line { IfOk result (λ r. IsLine nodes keep number r.0) }
     ensures len { IfOk result (λ r. vec_len r.1 ≡ nodes) }
     ensures opening { IfOk result (λ r. r.0.terms.opening ≡ blank) }
-    ensures seats { IfOk result (λ r. AtEach (λ k s. IsIdleSeat keeps.Keeping.All k r.0 s) r.1.items) }
+    ensures seats { IfOk result (λ r. AtEach (λ k s. IsIdleSeat keeps.Recording.All k r.0 s) r.1.items) }
     ensures new { IfOk result (λ r. AreNew r.1.items) }
     ensures err { IfErr result (λ e. e ≡ WorkRefusal.OutOfMemory) }
 {
@@ -114,19 +114,19 @@ fn last_seats<K: Keeps>(
     alloc: Global,
     lines: &[FineLine<K>],
     line: &FineLine<K>,
-    keeping: Keeping,
+    recording: Recording,
     hands: Vec<Hand<K>>,
 ) -> Result<(Vec<Hand<K>>, Vec<Seat<K>>), WorkRefusal>
-    requires { AtEach (λ k hand. IsHandOf keeping (lines.now ++ line.now ∷ []) k hand.items) hands.items }
-    ensures hands { IfOk result (λ r. AtEach (λ k hand. IsHandOf keeping lines.now k hand.items) r.0.items) }
-    ensures seats { IfOk result (λ r. AreIdle keeping line.now r.1.items) }
+    requires { AtEach (λ k hand. IsHandOf recording (lines.now ++ line.now ∷ []) k hand.items) hands.items }
+    ensures hands { IfOk result (λ r. AtEach (λ k hand. IsHandOf recording lines.now k hand.items) r.0.items) }
+    ensures seats { IfOk result (λ r. AreIdle recording line.now r.1.items) }
     ensures fewer { IfOk result (λ r. AtEach (IsFewer hands.items) r.0.items) }
     ensures last { IfOk result (λ r. AtEach (IsSeatIn hands.items (length lines.now)) r.1.items) }
     ensures err { IfErr result (λ e. e ≡ WorkRefusal.OutOfMemory) }
 {
     let _ = lines;
     let _ = line;
-    let _ = keeping;
+    let _ = recording;
     let count = hands.len();
     let mut all = Vec::with_capacity(alloc, count)?;
     let mut seats = Vec::with_capacity(alloc, count)?;
@@ -145,16 +145,16 @@ fn last_seats<K: Keeps>(
 pub(crate) fn finished<K: Keeps>(
     alloc: Global,
     line: FineLine<K>,
-    keeping: Keeping,
+    recording: Recording,
     seats: Vec<Seat<K>>,
 ) -> Result<Finished, WorkRefusal>
-    requires { AreIdle keeping line seats.items }
+    requires { AreIdle recording line seats.items }
     ensures ok { IfOk result (λ one. IsClosedOf K.fits line one.closed) }
     ensures own { IfOk result (λ one. lists_in one.receipts ≡ lists_of seats.items) }
-    ensures history { keeping ≡ keeps.Keeping.All → IfOk result (λ one. IsHistoryOn K.fits line one.closed (lists_in one.receipts)) }
+    ensures history { recording ≡ keeps.Recording.All → IfOk result (λ one. IsHistoryOn K.fits line one.closed (lists_in one.receipts)) }
     ensures err { IfErr result (λ e. e ≡ WorkRefusal.OutOfMemory) }
 {
-    let _ = keeping;
+    let _ = recording;
     match line.finish(alloc, seats) {
         Ok(made) => Ok(made),
         // 7, and not 9: the seats are the line's own, one per node in order
@@ -163,26 +163,26 @@ pub(crate) fn finished<K: Keeps>(
 }
 
 // For how many lines' receipts there is to be room.
-fn lists_for(keeping: Keeping, lines: usize) -> usize
-    ensures all { keeping ≡ keeps.Keeping.All → result ≡ lines }
-    ensures nothing { keeping ≡ keeps.Keeping.Nothing → result ≡ 0 }
+fn lists_for(recording: Recording, lines: usize) -> usize
+    ensures all { recording ≡ keeps.Recording.All → result ≡ lines }
+    ensures nothing { recording ≡ keeps.Recording.Nothing → result ≡ 0 }
 {
-    match keeping {
-        Keeping::All => lines,
-        Keeping::Nothing => 0,
+    match recording {
+        Recording::All => lines,
+        Recording::Nothing => 0,
     }
 }
 
 // The receipts of one more line, where they are kept. There is room for them.
-fn keep_lists(receipts: &mut Vec<Vec<Vec<Receipt>>>, keeping: Keeping, lists: Vec<Vec<Receipt>>)
-    requires { keeping ≡ keeps.Keeping.All → vec_len receipts.old < vec_capacity receipts.old }
-    ensures all { keeping ≡ keeps.Keeping.All → receipts.new.items ≡ receipts.old.items ++ lists ∷ [] }
+fn keep_lists(receipts: &mut Vec<Vec<Vec<Receipt>>>, recording: Recording, lists: Vec<Vec<Receipt>>)
+    requires { recording ≡ keeps.Recording.All → vec_len receipts.old < vec_capacity receipts.old }
+    ensures all { recording ≡ keeps.Recording.All → receipts.new.items ≡ receipts.old.items ++ lists ∷ [] }
     ensures room { vec_capacity receipts.new ≡ vec_capacity receipts.old }
-    ensures nothing { keeping ≡ keeps.Keeping.Nothing → receipts.new.items ≡ receipts.old.items }
+    ensures nothing { recording ≡ keeps.Recording.Nothing → receipts.new.items ≡ receipts.old.items }
 {
-    match keeping {
-        Keeping::All => receipts.push_reserved(lists),
-        Keeping::Nothing => (),
+    match recording {
+        Recording::All => receipts.push_reserved(lists),
+        Recording::Nothing => (),
     }
 }
 
@@ -190,28 +190,28 @@ fn keep_lists(receipts: &mut Vec<Vec<Vec<Receipt>>>, keeping: Keeping, lists: Ve
 pub fn closed<K: Keeps>(
     alloc: Global,
     lines: Vec<FineLine<K>>,
-    keeping: Keeping,
+    recording: Recording,
     hands: Vec<Hand<K>>,
 ) -> Result<ClosedMemory, WorkRefusal>
-    requires { AtEach (λ k hand. IsHandOf keeping lines.items k hand.items) hands.items }
+    requires { AtEach (λ k hand. IsHandOf recording lines.items k hand.items) hands.items }
     ensures ok { IfOk result (λ all. AreClosedOf K.fits lines.items all.lines.items) }
-    ensures kept { IfOk result (λ all. AreKeptOn keeping K.fits lines.items all) }
+    ensures kept { IfOk result (λ all. AreKeptOn recording K.fits lines.items all) }
     ensures own { IfOk result (AreOfHands hands.items) }
     ensures err { IfErr result (λ e. e ≡ WorkRefusal.OutOfMemory) }
 {
     let mut all = Vec::with_capacity(alloc, lines.len())?;
-    let mut receipts = Vec::with_capacity(alloc, lists_for(keeping, lines.len()))?;
+    let mut receipts = Vec::with_capacity(alloc, lists_for(recording, lines.len()))?;
     let mut rest = lines;
     let mut hands = hands;
     for _ in 0..rest.len() {
         let Some(line) = rest.pop() else {
             unreachable!()
         };
-        let (fewer, seats) = last_seats(alloc, &rest, &line, keeping, hands)?;
+        let (fewer, seats) = last_seats(alloc, &rest, &line, recording, hands)?;
         hands = fewer;
-        let one = finished(alloc, line, keeping, seats)?;
+        let one = finished(alloc, line, recording, seats)?;
         all.push_reserved(one.closed);
-        keep_lists(&mut receipts, keeping, one.receipts);
+        keep_lists(&mut receipts, recording, one.receipts);
     }
     all.reverse();
     receipts.reverse();

@@ -8,7 +8,7 @@ ghost use Rattle.sci_work.specs.Made.{ComesInCall};
 ghost use Rattle.sci_work.specs.Programs.{ComesInPart, HasWritten, IsShareOf, Suits};
 ghost use Rattle.sci_work.specs.Workers.{HasWorked, IsReady};
 
-use crate::calls::added;
+use crate::calls::add_one;
 use crate::doors::Door;
 use crate::gates::Gate;
 use crate::refusals::WorkRefusal;
@@ -41,11 +41,11 @@ fn counted<R: Wait, G: Gate, B: Bank>(
     requires line { 0 < (B.way bank.old).lines }
     requires fits { StoresFitting (B.Keep.fits (B.keep bank.old) 0) (goal.Goal.Write (write.Write.Add 0 1)) }
     ensures err { IfErr result ComesInCall }
-    ensures worked { (ws : List (ℕ × List ℕ)) × HasWorked node.old.keeps ws B.way B.keep B.at_step B.gives B.readies B.told bank.old node.new bank.new }
-    ensures added { node.old.keeps ≡ true → OnOk result (HasAdded adds (B.told bank.old 0).list (B.told bank.new 0).list) }
+    ensures worked { (ws : List (ℕ × List ℕ)) × HasWorked node.old.keeps ws B.way B.keep B.at_step B.gives B.readies B.receipts bank.old node.new bank.new }
+    ensures added { node.old.keeps ≡ true → OnOk result (HasAdded adds (B.receipts bank.old 0).list (B.receipts bank.new 0).list) }
 {
     for _ in 0..adds {
-        added(rt, door, node, bank, 0)?;
+        add_one(rt, door, node, bank, 0)?;
     }
     Ok(())
 }
@@ -64,8 +64,8 @@ pub fn run<R: Wait, G: Gate, B: Bank>(
     requires suits { Suits program (B.Keep.fits (B.keep bank.old)) (B.way bank.old).lines number }
     ensures share { IfOk result (λ share. IsShareOf program.entry number share.items) }
     ensures err { IfErr result (ComesInPart program.entry) }
-    ensures worked { (ws : List (ℕ × List ℕ)) × HasWorked node.old.keeps ws B.way B.keep B.at_step B.gives B.readies B.told bank.old node.new bank.new }
-    ensures written { node.old.keeps ≡ true → OnOk result (HasWritten program.entry number (B.told bank.old) (B.told bank.new)) }
+    ensures worked { (ws : List (ℕ × List ℕ)) × HasWorked node.old.keeps ws B.way B.keep B.at_step B.gives B.readies B.receipts bank.old node.new bank.new }
+    ensures written { node.old.keeps ≡ true → OnOk result (HasWritten program.entry number (B.receipts bank.old) (B.receipts bank.new)) }
 {
     match program {
         Program::Count { adds } => {

@@ -1,6 +1,6 @@
 //! Each node's seats at the lines of a workload.
 ghost use Rattle.std.specs.Prelude.{◌≡◌, ◌∷◌, [], IfOk, IfErr, vec_len};
-ghost use Rattle.sci_work.specs.declared.keeping.Keeping as keeps;
+ghost use Rattle.sci_work.specs.declared.recording.Recording as keeps;
 ghost use Rattle.sci_work.specs.Hands.{AreIdle, AtEach, HoldEach, IsHandOf, IsIdleSeat};
 
 use crate::refusals::WorkRefusal;
@@ -48,10 +48,10 @@ pub fn dealt<K: Keeps>(
     line: &FineLine<K>,
     seats: Vec<Seat<K>>,
 ) -> Result<Vec<Hand<K>>, WorkRefusal>
-    requires { AtEach (λ k s. IsIdleSeat keeps.Keeping.All k line.now s) seats.items }
+    requires { AtEach (λ k s. IsIdleSeat keeps.Recording.All k line.now s) seats.items }
     ensures err { IfErr result (λ e. e ≡ WorkRefusal.OutOfMemory) }
     ensures len { IfOk result (λ hands. vec_len hands ≡ vec_len seats) }
-    ensures each { IfOk result (λ hands. AtEach (λ k hand. IsHandOf keeps.Keeping.All (line.now ∷ []) k hand.items) hands.items) }
+    ensures each { IfOk result (λ hands. AtEach (λ k hand. IsHandOf keeps.Recording.All (line.now ∷ []) k hand.items) hands.items) }
     ensures hold { IfOk result (λ hands. HoldEach hands.items seats.items) }
 {
     let _ = line;
@@ -73,9 +73,9 @@ pub fn gathered<K: Keeps>(
     line: &FineLine<K>,
     hands: Vec<Hand<K>>,
 ) -> Result<Vec<Seat<K>>, WorkRefusal>
-    requires { AtEach (λ k hand. IsHandOf keeps.Keeping.All (line.now ∷ []) k hand.items) hands.items }
+    requires { AtEach (λ k hand. IsHandOf keeps.Recording.All (line.now ∷ []) k hand.items) hands.items }
     ensures err { IfErr result (λ e. e ≡ WorkRefusal.OutOfMemory) }
-    ensures ok { IfOk result (λ seats. AreIdle keeps.Keeping.All line.now seats.items) }
+    ensures ok { IfOk result (λ seats. AreIdle keeps.Recording.All line.now seats.items) }
     ensures held { IfOk result (λ seats. HoldEach hands.items seats.items) }
 {
     let _ = line;

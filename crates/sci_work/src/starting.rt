@@ -3,7 +3,7 @@ ghost use Rattle.std.specs.Prelude.{◌≡◌, ◌↔◌, [], ℕ, ◌<◌, ◌�
 ghost use Rattle.std.specs.PromisedHandle.{KeepsEach};
 ghost use Rattle.sci_core.specs.declared.pending.Pending.TheVariants.{Idle};
 ghost use Rattle.sci_work.specs.Hands.{AtEach};
-ghost use Rattle.sci_work.specs.declared.keeping.Keeping as keepings;
+ghost use Rattle.sci_work.specs.declared.recording.Recording as recordings;
 ghost use Rattle.sci_work.specs.Made.{IsReached};
 ghost use Rattle.sci_work.specs.Programs.{ComesInPart, HasWritten, IsShareOf, Suits};
 ghost use Rattle.sci_work.specs.Starts.{AreEnded, AreParts, ComesInStart, HaveEnded, IsAnswerOf, IsLowestRefusal, IsNoRefusal, IsPart, IsPartDone};
@@ -12,8 +12,8 @@ ghost use Rattle.sci_port.specs.KeepsAll.{KeepsAll};
 
 use crate::doors::Door;
 use crate::gates::Gate;
-use crate::keeping::Keeping;
 use crate::programs::{Program, run};
+use crate::recording::Recording;
 use crate::refusals::WorkRefusal;
 use crate::seating::{Done, Hand};
 use sci_cache::{Node, NodeRefusal};
@@ -32,26 +32,26 @@ struct PartOf<'s, 'a, K: Keeps> {
     lines: &'s [FineLine<K>],
     program: Program<'a>,
     number: u16,
-    keeping: Keeping,
+    recording: Recording,
 }
 
 impl<'s, 'a, K: Keeps> Promise<Done<K, Vec<u64>>> for PartOf<'s, 'a, K> {
     ghost use Rattle.sci_work.specs.Starts.{IsPartDone};
 
-    ghost kept_by = { λ p r. IsPartDone p.keeping p.lines.now p.program p.number r.hand.items r.share };
+    ghost kept_by = { λ p r. IsPartDone p.recording p.lines.now p.program p.number r.hand.items r.share };
 }
 
 /// A node's thread that runs.
 type Running<'s, 'a, K> = PromisedHandle<Done<K, Vec<u64>>, PartOf<'s, 'a, K>>;
 
 // The node, which keeps receipts of its calls or doesn't.
-fn node_that_keeps(node: Node, keeping: Keeping) -> Node
+fn node_that_keeps(node: Node, recording: Recording) -> Node
     requires { node.keeps ≡ true }
-    ensures { result ≡ record node { keeps = keeps_any keeping } }
+    ensures { result ≡ record node { keeps = keeps_any recording } }
 {
-    match keeping {
-        Keeping::All => node,
-        Keeping::Nothing => node.without_receipts(),
+    match recording {
+        Recording::All => node,
+        Recording::Nothing => node.without_receipts(),
     }
 }
 
@@ -63,7 +63,7 @@ pub fn share_of<R: Wait, G: Gate, B: Bank>(
     bank: &mut B,
     program: Program<'_>,
     number: u16,
-    keeping: Keeping,
+    recording: Recording,
     capacity: u16,
 ) -> Result<Vec<u64>, WorkRefusal>
     requires idle { (line : ℕ) → B.at_step bank.old line ≡ Idle }
@@ -72,12 +72,12 @@ pub fn share_of<R: Wait, G: Gate, B: Bank>(
     ensures err { IfErr result (ComesInPart program.entry) }
     ensures idle { (line : ℕ) → B.at_step bank.new line ≡ Idle }
     ensures reached { IsReached B.gives B.readies bank.old bank.new }
-    ensures kept { keeping ≡ keepings.Keeping.All → KeepsAll B.gives B.readies B.told bank.old bank.new }
-    ensures written { keeping ≡ keepings.Keeping.All → OnOk result (HasWritten program.entry number (B.told bank.old) (B.told bank.new)) }
+    ensures kept { recording ≡ recordings.Recording.All → KeepsAll B.gives B.readies B.receipts bank.old bank.new }
+    ensures written { recording ≡ recordings.Recording.All → OnOk result (HasWritten program.entry number (B.receipts bank.old) (B.receipts bank.new)) }
 {
     match Node::new(alloc, bank.node(), bank.lines(), capacity) {
         Ok(node) => {
-            let mut node = node_that_keeps(node, keeping);
+            let mut node = node_that_keeps(node, recording);
             run(rt, alloc, door, &mut node, bank, program, number)
         }
         // the capacity was within its limits before any line was opened
@@ -102,18 +102,18 @@ fn run_node<R: Wait, G: Gate, K: Keeps>(
     hand: Hand<K>,
     program: Program<'_>,
     number: u16,
-    keeping: Keeping,
+    recording: Recording,
     capacity: u16,
 ) -> Done<K, Vec<u64>>
-    requires { IsPart K.fits keeping lines.now program number hand.items }
-    ensures { IsPartDone keeping lines.now program.entry number result.hand.items result.share }
+    requires { IsPart K.fits recording lines.now program number hand.items }
+    ensures { IsPartDone recording lines.now program.entry number result.hand.items result.share }
 {
     let mut door = Door::new(gate, stop, number);
     let Ok(mut bank) = FineBank::new(lines, hand) else {
         unreachable!()
     };
     let share = share_of(
-        rt, alloc, &mut door, &mut bank, program, number, keeping, capacity,
+        rt, alloc, &mut door, &mut bank, program, number, recording, capacity,
     );
     let share = door.told(share);
     let hand = bank.into_seats();
@@ -142,14 +142,14 @@ fn start_each<'s, 'a: 's, E, R: Threads + Wait + Sync, G: Gate, K: Keeps + Send 
     lines: &'s [FineLine<K>],
     hands: Vec<Hand<K>>,
     program: Program<'a>,
-    keeping: Keeping,
+    recording: Recording,
     capacity: u16,
     room: Vec<Running<'s, 'a, K>>,
 ) -> Vec<Running<'s, 'a, K>>
-    requires parts { AreParts K.fits keeping lines.now program hands }
+    requires parts { AreParts K.fits recording lines.now program hands }
     requires room { (vec_len room ≡ 0) × (vec_len hands ≤ vec_capacity room) }
     ensures few { vec_len result ≤ vec_len hands }
-    ensures each { (k : ℕ) (d : _) → k < vec_len result → ((slice_index_or result.items k d).promise.lines.now ≡ lines.now) × ((slice_index_or result.items k d).promise.program ≡ program.entry) × ((slice_index_or result.items k d).promise.number ≡ k) × ((slice_index_or result.items k d).promise.keeping ≡ keeping) }
+    ensures each { (k : ℕ) (d : _) → k < vec_len result → ((slice_index_or result.items k d).promise.lines.now ≡ lines.now) × ((slice_index_or result.items k d).promise.program ≡ program.entry) × ((slice_index_or result.items k d).promise.number ≡ k) × ((slice_index_or result.items k d).promise.recording ≡ recording) }
 {
     let mut handles = room;
     let mut number = 0u16;
@@ -158,15 +158,15 @@ fn start_each<'s, 'a: 's, E, R: Threads + Wait + Sync, G: Gate, K: Keeps + Send 
             lines,
             program,
             number,
-            keeping,
+            recording,
         };
         let started = scope.spawn_with(
             promise,
             move || -> Done<K, Vec<u64>>
-                requires { IsPart K.fits keeping lines.now program number hand.items }
+                requires { IsPart K.fits recording lines.now program number hand.items }
             {
                 run_node(
-                    rt, alloc, gate, stop, lines, hand, program, number, keeping, capacity,
+                    rt, alloc, gate, stop, lines, hand, program, number, recording, capacity,
                 )
             },
         );
@@ -207,17 +207,17 @@ fn start_all<'s, 'a: 's, E, R: Threads + Wait + Sync, G: Gate, K: Keeps + Send +
     lines: &'s [FineLine<K>],
     hands: Vec<Hand<K>>,
     program: Program<'a>,
-    keeping: Keeping,
+    recording: Recording,
     capacity: u16,
 ) -> Result<Vec<Done<K, Vec<u64>>>, WorkRefusal>
-    requires { AreParts K.fits keeping lines.now program hands }
+    requires { AreParts K.fits recording lines.now program hands }
     ensures few { IfOk result (λ done. vec_len done ≤ vec_len hands) }
-    ensures each { IfOk result (λ done. AtEach (λ k one. IsPartDone keeping lines.now program.entry k one.hand.items one.share) done.items) }
+    ensures each { IfOk result (λ done. AtEach (λ k one. IsPartDone recording lines.now program.entry k one.hand.items one.share) done.items) }
     ensures err { IfErr result (λ e. e ≡ WorkRefusal.OutOfMemory) }
 {
     let (handles, done) = rooms(alloc, hands.len())?;
     let handles = start_each(
-        rt, scope, alloc, gate, stop, lines, hands, program, keeping, capacity, handles,
+        rt, scope, alloc, gate, stop, lines, hands, program, recording, capacity, handles,
     );
     Ok(joined(rt, handles, done))
 }
@@ -258,7 +258,7 @@ fn have_ended<K: Keeps>(done: &[Done<K, Vec<u64>>], nodes: usize) -> bool
 
 // Whether so many nodes have ended well: else the refusal of the first whose refusal isn't 25. Without one it was the starter that
 // raised the mark: 26.
-fn settled<K: Keeps>(
+fn check_ended<K: Keeps>(
     done: &[Done<K, Vec<u64>>],
     nodes: usize,
     program: Program<'_>,
@@ -277,21 +277,21 @@ fn settled<K: Keeps>(
 }
 
 // Each node's seats, and each node's share.
-fn parted<K: Keeps>(
+fn part<K: Keeps>(
     alloc: Global,
     lines: &[FineLine<K>],
     program: Program<'_>,
-    keeping: Keeping,
+    recording: Recording,
     done: Vec<Done<K, Vec<u64>>>,
 ) -> Result<(Vec<Hand<K>>, Vec<Vec<u64>>), WorkRefusal>
-    requires done { AtEach (λ k one. IsPartDone keeping lines.now program k one.hand.items one.share) done.items }
+    requires done { AtEach (λ k one. IsPartDone recording lines.now program k one.hand.items one.share) done.items }
     requires ended { AtEach (λ k one. IsOk one.share) done.items }
-    ensures ok { IfOk result (λ r. AreEnded keeping lines.now program.entry (vec_len done) r.0 r.1) }
+    ensures ok { IfOk result (λ r. AreEnded recording lines.now program.entry (vec_len done) r.0 r.1) }
     ensures err { IfErr result (λ e. e ≡ WorkRefusal.OutOfMemory) }
 {
     let _ = lines;
     let _ = program;
-    let _ = keeping;
+    let _ = recording;
     let (mut hands, mut shares) = rooms(alloc, done.len())?;
     for one in done {
         let Done { hand, share } = one;
@@ -310,12 +310,12 @@ fn run_each<R: Threads + Wait + Sync, G: Gate, K: Keeps + Send + Sync>(
     lines: &[FineLine<K>],
     hands: Vec<Hand<K>>,
     program: Program<'_>,
-    keeping: Keeping,
+    recording: Recording,
     capacity: u16,
 ) -> Result<Vec<Done<K, Vec<u64>>>, WorkRefusal>
-    requires { AreParts K.fits keeping lines.now program hands }
+    requires { AreParts K.fits recording lines.now program hands }
     ensures few { IfOk result (λ done. vec_len done ≤ vec_len hands) }
-    ensures each { IfOk result (λ done. AtEach (λ k one. IsPartDone keeping lines.now program.entry k one.hand.items one.share) done.items) }
+    ensures each { IfOk result (λ done. AtEach (λ k one. IsPartDone recording lines.now program.entry k one.hand.items one.share) done.items) }
     ensures err { IfErr result (λ e. e ≡ WorkRefusal.OutOfMemory) }
 {
     let stop = AtomicBool::new(false);
@@ -324,13 +324,13 @@ fn run_each<R: Threads + Wait + Sync, G: Gate, K: Keeps + Send + Sync>(
         thread::scope_env(),
         rt,
         |scope| -> Result<Vec<Done<K, Vec<u64>>>, WorkRefusal>
-            requires { AreParts K.fits keeping lines.now program hands }
+            requires { AreParts K.fits recording lines.now program hands }
             ensures few { IfOk result (λ done. vec_len done ≤ vec_len hands) }
-            ensures each { IfOk result (λ done. AtEach (λ k one. IsPartDone keeping lines.entry.now program.entry k one.hand.items one.share) done.items) }
+            ensures each { IfOk result (λ done. AtEach (λ k one. IsPartDone recording lines.entry.now program.entry k one.hand.items one.share) done.items) }
             ensures err { IfErr result (λ e. e ≡ WorkRefusal.OutOfMemory) }
         {
             start_all(
-                rt, scope, alloc, gate, mark, lines, hands, program, keeping, capacity,
+                rt, scope, alloc, gate, mark, lines, hands, program, recording, capacity,
             )
         },
     )
@@ -346,15 +346,15 @@ pub fn run_all<R: Threads + Wait + Sync, G: Gate, K: Keeps + Send + Sync>(
     lines: &[FineLine<K>],
     hands: Vec<Hand<K>>,
     program: Program<'_>,
-    keeping: Keeping,
+    recording: Recording,
     capacity: u16,
 ) -> Result<(Vec<Hand<K>>, Vec<Vec<u64>>), WorkRefusal>
-    requires { AreParts K.fits keeping lines.now program hands }
-    ensures ok { IfOk result (λ r. AreEnded keeping lines.now program.entry (vec_len hands) r.0 r.1) }
+    requires { AreParts K.fits recording lines.now program hands }
+    ensures ok { IfOk result (λ r. AreEnded recording lines.now program.entry (vec_len hands) r.0 r.1) }
     ensures err { IfErr result (ComesInStart program.entry) }
 {
     let nodes = hands.len();
-    let done = run_each(rt, alloc, gate, lines, hands, program, keeping, capacity)?;
-    settled(&done, nodes, program)?;
-    parted(alloc, lines, program, keeping, done)
+    let done = run_each(rt, alloc, gate, lines, hands, program, recording, capacity)?;
+    check_ended(&done, nodes, program)?;
+    part(alloc, lines, program, recording, done)
 }

@@ -12,7 +12,9 @@ use crate::runs::Job;
 use sci_cache::Node;
 use sci_port::Bank;
 use sci_words::NodeId;
-use sci_work::{Keeping, OpenGate, RingFact, WorkRefusal, consume, count, produce, ring, stencil};
+use sci_work::{
+    OpenGate, Recording, RingFact, WorkRefusal, consume, count, produce, ring, stencil,
+};
 use std::alloc::Global;
 use std::process::Abort;
 use std::sync::Wait;
@@ -34,11 +36,11 @@ fn called<R: Abort + Threads + Wait + Sync>(
             same(rt, &(word, memory.lines.len()), &(2, 1));
         }
         Job::Ring(_) => {
-            let (items, memory) = ring(rt, alloc, &[0; 0], 1, 2, Keeping::Nothing, gate)?;
+            let (items, memory) = ring(rt, alloc, &[0; 0], 1, 2, Recording::Nothing, gate)?;
             same(rt, &(items.len(), memory.lines.len()), &(0, 2));
         }
         Job::Stencil(_) => {
-            let (cells, memory) = stencil(rt, alloc, &[1; 7], 1, 1, 1, Keeping::All, gate)?;
+            let (cells, memory) = stencil(rt, alloc, &[1; 7], 1, 1, 1, Recording::All, gate)?;
             same(rt, &cells.as_slice(), &[2, 3, 3, 3, 3, 3, 2].as_slice());
             same(rt, &memory.lines.len(), &2);
         }

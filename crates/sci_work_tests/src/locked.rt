@@ -12,7 +12,7 @@ use sci_core::{AnyWords, Keeps, Line};
 use sci_ops::Answer;
 use sci_port::Bank;
 use sci_work::parts::{Door, Program, Work, share_of};
-use sci_work::{Keeping, OpenGate, RingFact, StencilFact, WorkRefusal};
+use sci_work::{OpenGate, Recording, RingFact, StencilFact, WorkRefusal};
 use std::alloc::Global;
 use std::sync::Wait;
 use std::sync::atomic::AtomicBool;
@@ -90,7 +90,7 @@ fn ran<R: Wait, K: Keeps>(
         &mut bank,
         program,
         number,
-        Keeping::Nothing,
+        Recording::Nothing,
         2,
     );
     let share = door.told(share);

@@ -4,7 +4,7 @@ use crossbeam_utils::Backoff;
 use sci_core::{AnyWords, Line};
 use sci_fine::FineLine;
 use sci_work::parts::{Program, dealt, run_all};
-use sci_work::{Gate, Keeping, WorkRefusal};
+use sci_work::{Gate, Recording, WorkRefusal};
 use std::alloc::Global;
 use std::slice;
 use std::sync::Wait;
@@ -75,7 +75,7 @@ fn refused<R: Threads + Wait + Sync>(rt: &R, alloc: Global, node: u16) -> Result
         slice::from_ref(&line),
         hands,
         program,
-        Keeping::Nothing,
+        Recording::Nothing,
         1,
     )?;
     Ok(())

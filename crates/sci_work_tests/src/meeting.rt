@@ -2,7 +2,7 @@
 use crate::checks::{same, same_at};
 use crate::rings::{consumed, passed};
 use crate::runs::{Job, ran};
-use sci_work::{Gate, Keeping, WorkRefusal};
+use sci_work::{Gate, Recording, WorkRefusal};
 use std::sync::atomic::{AtomicBool, Ordering};
 use std::test::Fail;
 
@@ -79,12 +79,12 @@ const MEETINGS: [(Job, &[u64], u16, &[u64]); 3] = [
 #[test]
 fn nodes_in_threads_of_their_own_meet(rt: HostRuntime) -> Result<(), Fail> {
     for (place, (job, items, capacity, given)) in MEETINGS.iter().enumerate() {
-        let (gate, sizes, keeping) = (
+        let (gate, sizes, recording) = (
             MeetingGate::new(1_000_000),
             (2, *capacity),
-            Keeping::Nothing,
+            Recording::Nothing,
         );
-        let (found, _) = ran(&rt, rt.alloc(), job, items, sizes, keeping, &gate)?;
+        let (found, _) = ran(&rt, rt.alloc(), job, items, sizes, recording, &gate)?;
         same_at(&rt, &place, &found.as_slice(), given);
         same_at(&rt, &place, &gate.has_met(), &true);
     }
@@ -95,7 +95,16 @@ fn nodes_in_threads_of_their_own_meet(rt: HostRuntime) -> Result<(), Fail> {
 fn one_thread_meets_none(rt: HostRuntime) -> Result<(), Fail> {
     let (gate, stop) = (MeetingGate::new(10), AtomicBool::new(false));
     for (job, items, _, _) in &MEETINGS[..2] {
-        let refused = ran(&rt, rt.alloc(), job, items, (1, 2), Keeping::Nothing, &gate).err();
+        let refused = ran(
+            &rt,
+            rt.alloc(),
+            job,
+            items,
+            (1, 2),
+            Recording::Nothing,
+            &gate,
+        )
+        .err();
         same(&rt, &refused, &Some(WorkRefusal::Stalled));
     }
     let (produced, _) = passed(&rt, rt.alloc(), &[7], 1, &gate, &stop).ok_or("no bank")?;

@@ -4,7 +4,7 @@ ghost use Rattle.std.specs.Prelude.{◌≡◌, ◌*◌, ◌<◌, ◌≤◌, leng
 use crate::checks::same;
 use crate::turns::InOrder;
 use sci_work::parts::{Program, Work, opened, run_all};
-use sci_work::{Keeping, OpenGate, StencilFact, WorkRefusal};
+use sci_work::{OpenGate, Recording, StencilFact, WorkRefusal};
 use std::alloc::Global;
 use std::sync::Wait;
 use std::test::Fail;
@@ -28,7 +28,7 @@ fn again<R: Threads + Wait + Sync>(rt: &R, alloc: Global, work: Work<'_>) -> Res
         &lines,
         hands,
         program,
-        Keeping::All,
+        Recording::All,
         2,
     )?;
     let gate = InOrder::new(&[0; 3]);
@@ -39,7 +39,7 @@ fn again<R: Threads + Wait + Sync>(rt: &R, alloc: Global, work: Work<'_>) -> Res
         &lines,
         hands,
         program,
-        Keeping::Nothing,
+        Recording::Nothing,
         2,
     )?;
     Ok(())

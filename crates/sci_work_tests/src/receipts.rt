@@ -5,7 +5,7 @@ use crate::checks::{same, same_at};
 use crate::runs::{Job, ran};
 use sci_core::Receipt;
 use sci_work::parts::{Program, Work, opened, run_all};
-use sci_work::{ClosedMemory, Keeping, OpenGate, StencilFact, WorkRefusal};
+use sci_work::{ClosedMemory, OpenGate, Recording, StencilFact, WorkRefusal};
 use std::alloc::Global;
 use std::process::Abort;
 use std::sync::Wait;
@@ -51,11 +51,19 @@ const KEPT: [(Job, &[u64], &[(usize, usize)]); 3] = [
 #[test]
 fn two_nodes_keep_what_they_do(rt: HostRuntime) -> Result<(), Fail> {
     for (job, items, wanted) in &KEPT {
-        let (_, memory) = ran(&rt, rt.alloc(), job, items, (2, 2), Keeping::All, &OpenGate)?;
+        let (_, memory) = ran(
+            &rt,
+            rt.alloc(),
+            job,
+            items,
+            (2, 2),
+            Recording::All,
+            &OpenGate,
+        )?;
         keeps(&rt, &memory, wanted);
         if !matches!(job, Job::Count(_)) {
-            let keeping = Keeping::Nothing;
-            let (_, memory) = ran(&rt, rt.alloc(), job, items, (2, 2), keeping, &OpenGate)?;
+            let recording = Recording::Nothing;
+            let (_, memory) = ran(&rt, rt.alloc(), job, items, (2, 2), recording, &OpenGate)?;
             let lists = (memory.lines.len(), memory.receipts.len());
             same(&rt, &lists, &(wanted.len(), 0));
         }
@@ -68,7 +76,7 @@ fn left<R: Threads + Wait + Sync>(
     rt: &R,
     alloc: Global,
     work: Work<'_>,
-    keeping: Keeping,
+    recording: Recording,
 ) -> Result<Vec<usize>, WorkRefusal>
     requires whole { length work.cells.now ≡ 7 * work.tiles }
     requires tiles { (0 < work.tiles) × (work.tiles ≤ 512) }
@@ -78,7 +86,7 @@ fn left<R: Threads + Wait + Sync>(
     let fact = StencilFact::new(work.cells, work.phases);
     let (lines, hands) = opened(alloc, work.nodes, 2 * work.tiles, fact)?;
     let program = Program::Stencil(work);
-    let (hands, _) = run_all(rt, alloc, &OpenGate, &lines, hands, program, keeping, 2)?;
+    let (hands, _) = run_all(rt, alloc, &OpenGate, &lines, hands, program, recording, 2)?;
     let mut counts = Vec::new(alloc);
     for hand in hands.iter() {
         for seat in hand.iter() {
@@ -99,8 +107,8 @@ fn no_seat_has_receipts_of_nodes_that_keep_nothing(rt: HostRuntime) -> Result<()
         nodes: 1,
     };
     // the node writes its tile and reads it again
-    for (keeping, wanted) in [(Keeping::Nothing, [0, 0]), (Keeping::All, [3, 0])] {
-        let found = left(&rt, rt.alloc(), work, keeping)?;
+    for (recording, wanted) in [(Recording::Nothing, [0, 0]), (Recording::All, [3, 0])] {
+        let found = left(&rt, rt.alloc(), work, recording)?;
         same(&rt, &found.as_slice(), &wanted.as_slice());
     }
     Ok(())

@@ -2,7 +2,7 @@
 use crate::checks::{same, same_at};
 use crate::gates::{Hears, Opens};
 use sci_core::Closed;
-use sci_work::{ClosedMemory, Gate, Keeping, OpenGate, WorkRefusal, count, ring, stencil};
+use sci_work::{ClosedMemory, Gate, OpenGate, Recording, WorkRefusal, count, ring, stencil};
 use std::alloc::{AllocError, Global};
 use std::sync::Wait;
 use std::sync::atomic::AtomicBool;
@@ -27,7 +27,7 @@ pub(crate) fn ran<R: Threads + Wait + Sync, G: Gate>(
     job: &Job,
     items: &[u64],
     sizes: (u16, u16),
-    keeping: Keeping,
+    recording: Recording,
     gate: &G,
 ) -> Result<(Vec<u64>, ClosedMemory), WorkRefusal> {
     let (nodes, capacity) = sizes;
@@ -40,8 +40,8 @@ pub(crate) fn ran<R: Threads + Wait + Sync, G: Gate>(
                 Err(_) => Err(WorkRefusal::OutOfMemory),
             }
         }
-        Job::Ring(lines) => ring(rt, alloc, items, lines, capacity, keeping, gate),
-        Job::Stencil(phases) => stencil(rt, alloc, items, phases, nodes, capacity, keeping, gate),
+        Job::Ring(lines) => ring(rt, alloc, items, lines, capacity, recording, gate),
+        Job::Stencil(phases) => stencil(rt, alloc, items, phases, nodes, capacity, recording, gate),
     }
 }
 
@@ -94,7 +94,7 @@ fn workloads_come_to_their_results(rt: HostRuntime) -> Result<(), Fail> {
             job,
             items,
             *sizes,
-            Keeping::Nothing,
+            Recording::Nothing,
             &OpenGate,
         )?;
         same_at(&rt, &place, &found.as_slice(), given);
@@ -113,14 +113,14 @@ fn a_hundred_items_pass_and_the_most_cells_are_taken_in(rt: HostRuntime) -> Resu
     for i in 0..100 {
         source.push(3 * i)?;
     }
-    let keeping = Keeping::Nothing;
+    let recording = Recording::Nothing;
     let (items, memory) = ran(
         &rt,
         rt.alloc(),
         &Job::Ring(2),
         &source,
         (2, 1),
-        keeping,
+        recording,
         &OpenGate,
     )?;
     same(&rt, &items, &source);
@@ -137,7 +137,7 @@ fn a_hundred_items_pass_and_the_most_cells_are_taken_in(rt: HostRuntime) -> Resu
         &Job::Stencil(0),
         &cells,
         (64, 1024),
-        keeping,
+        recording,
         &OpenGate,
     )?;
     same(&rt, &found, &cells);
@@ -164,7 +164,7 @@ fn a_node_names_as_many_lines_as_it_may(rt: HostRuntime) -> Result<(), Fail> {
             &job,
             &ONE,
             sizes,
-            Keeping::Nothing,
+            Recording::Nothing,
             &OpenGate,
         )?;
         let mut named = [false; 3];
@@ -310,7 +310,7 @@ fn workloads_are_refused(rt: HostRuntime) -> Result<(), Fail> {
             job,
             &items,
             *sizes,
-            Keeping::Nothing,
+            Recording::Nothing,
             &gate,
         );
         same_at(&rt, &place, &refused.err(), &Some(*refusal));
@@ -333,7 +333,15 @@ fn each_node_asks_for_its_calls(rt: HostRuntime) -> Result<(), Fail> {
     for (place, ((job, items, sizes), first, second)) in CALLS.iter().enumerate() {
         let stop = AtomicBool::new(false);
         let gate = Hears::new(0, u64::MAX, &stop, u64::MAX);
-        ran(&rt, rt.alloc(), job, items, *sizes, Keeping::Nothing, &gate)?;
+        ran(
+            &rt,
+            rt.alloc(),
+            job,
+            items,
+            *sizes,
+            Recording::Nothing,
+            &gate,
+        )?;
         same_at(&rt, &place, &gate.heard(0), &(*first, *first, false));
         if let Some(calls) = second {
             same_at(&rt, &place, &gate.heard(1), &(*calls, *calls, false));

@@ -3,7 +3,7 @@ use crate::checks::{same, same_at};
 use crate::runs::{Job, ran};
 use crossbeam_utils::Backoff;
 use sci_words::Kind;
-use sci_work::{Gate, Keeping};
+use sci_work::{Gate, Recording};
 use std::sync::atomic::{AtomicU64, Ordering};
 use std::test::Fail;
 
@@ -78,7 +78,15 @@ const ORDERS: [Row; 4] = [
 fn a_read_or_a_write_has_ended_when_it_is_told(rt: HostRuntime) -> Result<(), Fail> {
     for (place, (job, items, order, is_all, given)) in ORDERS.iter().enumerate() {
         let gate = InOrder::new(order);
-        let (found, _) = ran(&rt, rt.alloc(), job, items, (2, 2), Keeping::Nothing, &gate)?;
+        let (found, _) = ran(
+            &rt,
+            rt.alloc(),
+            job,
+            items,
+            (2, 2),
+            Recording::Nothing,
+            &gate,
+        )?;
         same_at(&rt, &place, &found.as_slice(), given);
         same_at(&rt, &place, &(gate.calls() == order.len()), is_all);
     }
@@ -96,7 +104,7 @@ fn an_addition_has_ended_when_it_is_told(rt: HostRuntime) -> Result<(), Fail> {
             &Job::Count(1),
             &[],
             (2, 1),
-            Keeping::Nothing,
+            Recording::Nothing,
             &gate,
         )?;
         same(&rt, &(word.as_slice(), gate.calls()), &([2].as_slice(), 2));

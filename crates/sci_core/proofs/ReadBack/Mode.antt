@@ -6,9 +6,8 @@ use Rattle.sci_words.specs.declared.memory.MemState.{MemState}
 use Rattle.sci_core.specs.declared.lines.Line.{Line}
 use Rattle.sci_core.specs.declared.pending.Pending.{Pending}
 use Rattle.sci_core.specs.State.{State}
-use Rattle.sci_core.specs.Shape.{Phase, shape, phase_of, flag_of, has_copy}
+use Rattle.sci_core.specs.Shape.{Phase, shape, phase_of, flag_of, has_copy, kept_line}
 use Rattle.sci_core.specs.Law.{Law, Witness, suits, has_attached, has_dirty, is_dirty_front}
-use Rattle.sci_core.specs.Copies.{kept_line}
 use Rattle.sci_core.specs.Mode.{is_dirty_step, is_turned, IsFreshList, IsDirtyFront, IsDirtyWaiting, IsGoneList, FitsMemoryWord}
 use Rattle.sci_core.proofs.ReadBack.Ranked.{Stands}
 use Rattle.sci_core.proofs.ReadBack.LastFront.{last_front_is, waiting_above}

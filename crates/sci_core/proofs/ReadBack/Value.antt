@@ -5,10 +5,10 @@ use Rattle.sci_words.specs.declared.memory.MemState.{MemState}
 use Rattle.sci_core.specs.declared.lines.Line.{Line}
 use Rattle.sci_core.specs.declared.pending.Pending.{Pending}
 use Rattle.sci_core.specs.State.{State}
-use Rattle.sci_core.specs.Shape.{Phase, shape, phase_of, kept_of, line_of, has_copy}
+use Rattle.sci_core.specs.Shape.{Phase, shape, phase_of, kept_of, line_of, has_copy, kept_line}
 use Rattle.sci_core.specs.Law.{Law, Witness, suits, has_attached, has_slot, has_memory_slot, is_valid, is_dirty_front}
 use Rattle.sci_core.specs.Sharers.{IsValidSharer}
-use Rattle.sci_core.specs.Copies.{HasInHand, IsCopy, IsMemoryCopy, kept_line}
+use Rattle.sci_core.specs.Copies.{HasInHand, IsCopy, IsMemoryCopy}
 use Rattle.sci_core.specs.Value.{HasOneValue}
 use Rattle.sci_core.proofs.ReadBack.Ranked.{Stands}
 use Rattle.sci_core.proofs.ReadBack.LastFront.{last_front_is}

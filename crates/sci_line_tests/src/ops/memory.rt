@@ -5,7 +5,7 @@ use super::{answers_of, opened};
 use crate::checks::allocates;
 use sci_core::{AnyWords, Whole};
 use sci_ops::{Answer, Op, Turn};
-use sci_port::recording::Trace;
+use sci_port::recording::EventList;
 use sci_words::{NodeId, mem_name, name, read_mem, read_tag, write_mem, write_tag};
 use std::alloc::Global;
 use std::process::Abort;
@@ -39,13 +39,18 @@ fn has_words(whole: &Whole<AnyWords>, number: u16) -> Option<bool> {
 }
 
 /// One turn of a node. Some(true): its operation has ended. None too: a word is read or named as another.
-fn ends(whole: &mut Whole<AnyWords>, trace: &mut Trace, number: u16, op: &mut Op) -> Option<bool> {
+fn ends(
+    whole: &mut Whole<AnyWords>,
+    trace: &mut EventList,
+    number: u16,
+    op: &mut Op,
+) -> Option<bool> {
     let taken = turn(whole, trace, number, op)?;
     has_words(whole, number)?.then_some(matches!(taken, Turn::Done(_)))
 }
 
 /// Turns by chance of three nodes, each with one operation after the other: how many of them ended.
-fn turns(whole: &mut Whole<AnyWords>, trace: &mut Trace) -> Option<u32> {
+fn turns(whole: &mut Whole<AnyWords>, trace: &mut EventList) -> Option<u32> {
     let mut ops = [Op::load(); 3];
     let mut ended: u32 = 0;
     let mut chance = 1;
@@ -70,11 +75,11 @@ fn line(rt: &impl Abort, alloc: Global) -> Whole<AnyWords> {
 }
 
 /// A trace with room for 16 events. It takes one allocation.
-fn trace(rt: &impl Abort, alloc: Global) -> Trace {
+fn trace(rt: &impl Abort, alloc: Global) -> EventList {
     let Ok(room) = Vec::with_capacity(alloc, 16) else {
         panic!(rt; "no room")
     };
-    Trace::new(room)
+    EventList::new(room)
 }
 
 #[test]

@@ -2,7 +2,7 @@
 use crate::checks::{same, same_at};
 use sci_core::{Event, Line, Whole};
 use sci_ops::{Answer, BadWord, Op, Turn};
-use sci_port::recording::{Recorder, Trace};
+use sci_port::recording::{EventList, Recorder};
 use sci_port::{AnyWords, Port, Receipts, Solo};
 use sci_words::NodeId;
 use std::alloc::Global;
@@ -10,14 +10,14 @@ use std::process::Abort;
 use std::test::Fail;
 
 // One turn of an operation over a port, through a recorder of it.
-fn turn_on<P: Port<Keep = AnyWords>>(port: &mut P, trace: &mut Trace, op: &mut Op) -> Turn {
+fn turn_on<P: Port<Keep = AnyWords>>(port: &mut P, trace: &mut EventList, op: &mut Op) -> Turn {
     op.turn(&mut Recorder::new(port, trace))
 }
 
 // One turn of a node's operation, through a port that records it.
 pub(crate) fn turn(
     whole: &mut Whole<AnyWords>,
-    trace: &mut Trace,
+    trace: &mut EventList,
     number: u16,
     op: &mut Op,
 ) -> Option<Turn> {
@@ -71,7 +71,7 @@ fn operations() -> Result<[[Op; 3]; 4], BadWord> {
 // One turn of a node, recorded, whose events are done once more on the other line. Some(true): then it is the same.
 fn turn_alike(
     whole: &mut Whole<AnyWords>,
-    trace: &mut Trace,
+    trace: &mut EventList,
     again: &mut Whole<AnyWords>,
     number: u16,
     op: &mut Op,
@@ -85,7 +85,7 @@ fn turn_alike(
 fn take_turns(
     rt: &impl Abort,
     whole: &mut Whole<AnyWords>,
-    trace: &mut Trace,
+    trace: &mut EventList,
     again: &mut Whole<AnyWords>,
     ops: &mut [Op; 3],
 ) {
@@ -99,7 +99,7 @@ fn take_turns(
 }
 
 // Node 2 reads these words in its sixth turn, after four writes.
-fn sees(rt: &impl Abort, whole: &mut Whole<AnyWords>, trace: &mut Trace, words: [u64; 8]) {
+fn sees(rt: &impl Abort, whole: &mut Whole<AnyWords>, trace: &mut EventList, words: [u64; 8]) {
     let seen = Turn::Done(Answer::Seen { words, stamp: 4 });
     let mut op = Op::load();
     for _ in 0..5 {
@@ -115,7 +115,7 @@ fn replays(
     whole: &mut Whole<AnyWords>,
     again: &mut Whole<AnyWords>,
 ) -> Result<(), Fail> {
-    let mut trace = Trace::new(Vec::with_capacity(alloc, 1_000)?);
+    let mut trace = EventList::new(Vec::with_capacity(alloc, 1_000)?);
     for ops in operations()?.iter_mut() {
         take_turns(rt, whole, &mut trace, again, ops);
     }

@@ -1,6 +1,7 @@
 //! What races come to. The numbers of states and of outcomes were counted on another model of the protocol.
 mod growths;
 
+use crate::checks::{same, same_at};
 use sci_outcomes::{Report, outcomes_text, race_after, search_outcomes};
 use sci_script::read_script;
 use sci_search::{SearchRefusal, Unwatched};
@@ -46,8 +47,8 @@ fn report(alloc: Global, text: &str, most: usize) -> Result<Report, SearchRefusa
 fn states_and_outcomes_are_as_counted(rt: HostRuntime) -> Result<(), Fail> {
     for (script, states, outcomes) in COUNTED {
         let found = report(rt.alloc(), script, 100_000)?;
-        assert_eq!(rt; found.states, states, "{script}");
-        assert_eq!(rt; found.outcomes.len(), outcomes, "{script}");
+        same_at(&rt, &script, &found.states, &states);
+        same_at(&rt, &script, &found.outcomes.len(), &outcomes);
         let few = report(rt.alloc(), script, states.saturating_sub(1)).is_err();
         assert!(rt; few, "{script}");
     }
@@ -58,6 +59,6 @@ fn states_and_outcomes_are_as_counted(rt: HostRuntime) -> Result<(), Fail> {
 fn a_load_has_one_outcome(rt: HostRuntime) -> Result<(), Fail> {
     let found = report(rt.alloc(), "memory 1 1\nload 0 0 0\n", 100)?;
     let text = outcomes_text(rt.alloc(), &found)?;
-    assert_eq!(rt; text.as_str(), LOADED);
+    same(&rt, &text.as_str(), &LOADED);
     Ok(())
 }

@@ -4,6 +4,7 @@ ghost use Rattle.std.specs.Prelude.{◌≡◌};
 mod growths;
 mod ring;
 
+use crate::checks::{same, same_at};
 use ring::Ring;
 use sci_search::{SearchRefusal, Unwatched, search};
 use std::alloc::Global;
@@ -24,11 +25,11 @@ const FOUND: [(u32, &[u32]); 7] = [
 // Whether the search answers that.
 pub(crate) fn finds(rt: &impl Abort, alloc: Global, most: usize) -> Result<(), SearchRefusal> {
     let found = search(alloc, &Ring { last: 6 }, &Unwatched, 5, most)?;
-    assert_eq!(rt; found.len(), FOUND.len());
+    same(rt, &found.len(), &FOUND.len());
     for (place, (state, turns)) in FOUND.iter().enumerate() {
         if let Some(one) = found.get(place) {
-            assert_eq!(rt; one.state, *state, "at {place}");
-            assert_eq!(rt; one.turns.as_slice(), *turns, "at {place}");
+            same_at(rt, &place, &one.state, state);
+            same_at(rt, &place, &one.turns.as_slice(), turns);
         }
     }
     Ok(())
@@ -41,7 +42,7 @@ fn each_state_once_with_the_least_turns(rt: HostRuntime) -> Result<(), Fail> {
     }
     for most in 0..7 {
         let refused = finds(&rt, rt.alloc(), most);
-        assert_eq!(rt; refused, Err(SearchRefusal::TooManyStates), "at {most}");
+        same_at(&rt, &most, &refused, &Err(SearchRefusal::TooManyStates));
     }
     Ok(())
 }

@@ -3,6 +3,7 @@ mod growths;
 mod plays;
 
 use super::races::LOADED;
+use crate::checks::{same_at, same_bytes_at};
 use sci_script::ScriptRefusal;
 use sci_search::Unwatched;
 use sci_serve::{INPUT_LIMIT, RaceFault, SimFault, serve_outcomes};
@@ -111,8 +112,8 @@ fn served(
 fn outcomes_are_written_where_there_is_room(rt: HostRuntime) -> Result<(), Fail> {
     for (script, most, room, wanted, fault) in CASES {
         let (written, result) = served(rt.alloc(), script, most, room);
-        assert_eq!(rt; written.as_slice(), wanted.as_bytes(), "{script}");
-        assert_eq!(rt; result.err(), fault, "{script}");
+        same_bytes_at(&rt, &script, &written, wanted.as_bytes());
+        same_at(&rt, &script, &result.err(), &fault);
     }
     Ok(())
 }

@@ -1,7 +1,7 @@
 //! What nodes do on a line that is lent, with the events that pass.
 use sci_core::{AnyWords, Whole};
 use sci_ops::{Op, Turn};
-use sci_port::recording::{Recorder, Trace};
+use sci_port::recording::{EventList, Recorder};
 use sci_port::{Port, Receipts, Solo};
 use sci_words::NodeId;
 
@@ -38,7 +38,7 @@ fn ends<P: Port<Keep = AnyWords>>(port: &mut P, op: &mut Op) -> bool {
 /// So many turns, with their events recorded. Some(true): the operation has ended.
 pub(crate) fn turns(
     whole: &mut Whole<AnyWords>,
-    trace: &mut Trace,
+    trace: &mut EventList,
     node: NodeId,
     op: &mut Op,
     count: usize,
@@ -70,7 +70,7 @@ fn begun(command: Command) -> Option<Op> {
 // Carries a node's command out. None: there is no such node, or no such word.
 fn carry_out(
     whole: &mut Whole<AnyWords>,
-    trace: &mut Trace,
+    trace: &mut EventList,
     ops: &mut Ops,
     number: u16,
     command: Command,
@@ -93,7 +93,7 @@ fn carry_out(
 /// Carries the nodes' commands out, with the events recorded. None: there is no such node, or no such word.
 pub(crate) fn record(
     whole: &mut Whole<AnyWords>,
-    trace: &mut Trace,
+    trace: &mut EventList,
     ops: &mut Ops,
     commands: &[(u16, Command)],
 ) -> Option<()> {

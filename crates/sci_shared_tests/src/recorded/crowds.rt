@@ -3,7 +3,7 @@ use super::commands::turns;
 use super::{Recorded, opened};
 use sci_core::{AnyWords, Line, Whole};
 use sci_ops::Op;
-use sci_port::recording::Trace;
+use sci_port::recording::EventList;
 use sci_words::NodeId;
 use std::alloc::Global;
 use std::test::Fail;
@@ -30,7 +30,7 @@ fn operation(number: u16, shift: u16) -> Result<Op, Fail> {
 // So many turns of each node, one node after another. Some(true): all operations have ended.
 fn round(
     whole: &mut Whole<AnyWords>,
-    trace: &mut Trace,
+    trace: &mut EventList,
     ops: &mut [Op],
     count: usize,
 ) -> Option<bool> {
@@ -47,7 +47,7 @@ fn round(
 // turn may disturb each other for ever.
 fn carry_out(
     whole: &mut Whole<AnyWords>,
-    trace: &mut Trace,
+    trace: &mut EventList,
     ops: &mut [Op],
     patience: usize,
 ) -> Option<()> {

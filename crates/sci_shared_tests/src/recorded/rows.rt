@@ -4,7 +4,7 @@ use super::commands::{Command, record};
 use super::{Recorded, opened};
 use sci_core::{Event, Line};
 use sci_ops::Op;
-use sci_port::recording::Trace;
+use sci_port::recording::EventList;
 use sci_words::{Kind, NodeId, Tag};
 use std::alloc::Global;
 use std::test::Fail;
@@ -261,6 +261,6 @@ pub(crate) fn missing(alloc: Global) -> Result<Recorded, Fail> {
     Ok(Recorded {
         nodes: 2,
         opening: Line::ZERO,
-        trace: Trace::new(events),
+        trace: EventList::new(events),
     })
 }

@@ -3,7 +3,7 @@ ghost use Rattle.std.specs.Prelude.{◌≡◌, ◌≢◌, ◌+◌, ◌^◌, ◌<
 ghost use Rattle.sci_work.specs.Made.{ComesInWork, IsBankOf, IsStillBankOf, Made, MadeSome};
 ghost use Rattle.sci_work.specs.Ring.{IsRing, IsRingSize, IsRingOf, count_words, count_writes};
 
-use crate::calls::{reached, written};
+use crate::calls::{load_until, write_line};
 use crate::doors::Door;
 use crate::gates::Gate;
 use crate::refusals::WorkRefusal;
@@ -35,11 +35,11 @@ fn item<R: Wait, G: Gate, B: Bank>(
     ensures value { IfOk result (λ x. (source : List ℕ) → IsRing (B.Keep.fits (B.keep bank.old)) source lines → x ≡ slice_index source i) }
     ensures err { IfErr result ComesInWork }
     ensures made { Made B.gives B.readies B.at_step [] node.old bank.old node.new bank.new }
-    ensures still { IsStillBankOf node.old.keeps [] B.way B.keep B.at_step B.gives B.readies B.told bank.old node.new bank.new }
+    ensures still { IsStillBankOf node.old.keeps [] B.way B.keep B.at_step B.gives B.readies B.receipts bank.old node.new bank.new }
 {
     let line = line_of(i, lines);
     let number = i + 1;
-    let words = reached(rt, door, node, bank, line, number)?;
+    let words = load_until(rt, door, node, bank, line, number)?;
     if words[0] == number {
         return Ok(words[1]);
     }
@@ -64,7 +64,7 @@ pub(crate) fn consumed<R: Wait, G: Gate, B: Bank>(
     ensures ok { OnOk result (Made B.gives B.readies B.at_step (count_writes lines n) node.old bank.old node.new bank.new) }
     ensures err { IfErr result ComesInWork }
     ensures made { MadeSome B.gives B.readies B.at_step (count_writes lines) n node.old bank.old node.new bank.new }
-    ensures still { (ws : List (ℕ × List ℕ)) × IsStillBankOf node.old.keeps ws B.way B.keep B.at_step B.gives B.readies B.told bank.old node.new bank.new × OnOk result (ws ≡ count_writes lines n) }
+    ensures still { (ws : List (ℕ × List ℕ)) × IsStillBankOf node.old.keeps ws B.way B.keep B.at_step B.gives B.readies B.receipts bank.old node.new bank.new × OnOk result (ws ≡ count_writes lines n) }
 {
     let mut items = Vec::new(alloc);
     for i in 0..n {
@@ -73,7 +73,7 @@ pub(crate) fn consumed<R: Wait, G: Gate, B: Bank>(
         if items.push(value).is_err() {
             return Err(WorkRefusal::OutOfMemory);
         }
-        written(rt, door, node, bank, lines, count_of(number + 1))?;
+        write_line(rt, door, node, bank, lines, count_of(number + 1))?;
     }
     Ok(items)
 }
@@ -102,7 +102,7 @@ pub fn consume<R: Wait, G: Gate, B: Bank>(
     ensures ok { OnOk result (Made B.gives B.readies B.at_step (count_writes lines n) node.old bank.old node.new bank.new) }
     ensures err { IsRingSize n lines → IfErr result ComesInWork }
     ensures made { MadeSome B.gives B.readies B.at_step (count_writes lines) n node.old bank.old node.new bank.new }
-    ensures still { (ws : List (ℕ × List ℕ)) × IsStillBankOf node.old.keeps ws B.way B.keep B.at_step B.gives B.readies B.told bank.old node.new bank.new × OnOk result (ws ≡ count_writes lines n) }
+    ensures still { (ws : List (ℕ × List ℕ)) × IsStillBankOf node.old.keeps ws B.way B.keep B.at_step B.gives B.readies B.receipts bank.old node.new bank.new × OnOk result (ws ≡ count_writes lines n) }
 {
     let mut door = Door::new(gate, stop, node.id().get());
     if !is_ring_size(n, lines) {

@@ -8,9 +8,9 @@ ghost use Rattle.sci_work.specs.Written.{AreWrittenAs, WritesAlone};
 
 use crate::facts::RingFact;
 use crate::gates::Gate;
-use crate::keeping::{ClosedMemory, Keeping};
 use crate::lines::{closed, opened};
 use crate::programs::Program;
+use crate::recording::{ClosedMemory, Recording};
 use crate::refusals::WorkRefusal;
 use crate::rings::limits::is_ring_size;
 use crate::starting::run_all;
@@ -39,21 +39,23 @@ fn passed<R: Threads + Wait + Sync, G: Gate>(
     source: &[u64],
     lines: u16,
     capacity: u16,
-    keeping: Keeping,
+    recording: Recording,
     gate: &G,
 ) -> Result<(Vec<u64>, ClosedMemory), WorkRefusal>
     requires { IsRingSize (length source.now) lines }
     ensures items { IfOk result (λ r. r.0.items ≡ source.now) }
     ensures closed { IfOk result (λ r. AreClosed (FitsRing source.now lines) (lines + 1) r.1.lines.items) }
     ensures nodes { IfOk result (λ r. HaveNodes 2 r.1.lines.items) }
-    ensures kept { IfOk result (λ r. AreKept keeping (FitsRing source.now lines) 2 r.1) }
+    ensures kept { IfOk result (λ r. AreKept recording (FitsRing source.now lines) 2 r.1) }
     ensures wrote { IfOk result (λ r. AreWrittenAs (WritesAlone (ring_writes source.now lines)) (map lists_in r.1.receipts.items)) }
     ensures err { IfErr result (ComesInStart (Program.Ring source.entry lines)) }
 {
     let (shared, hands) = opened(alloc, 2, lines + 1, RingFact::new(source, lines))?;
     let program = Program::Ring { source, lines };
-    let (hands, shares) = run_all(rt, alloc, gate, &shared, hands, program, keeping, capacity)?;
-    let all = closed(alloc, shared, keeping, hands)?;
+    let (hands, shares) = run_all(
+        rt, alloc, gate, &shared, hands, program, recording, capacity,
+    )?;
+    let all = closed(alloc, shared, recording, hands)?;
     let items = last_share(source, shares);
     Ok((items, all))
 }
@@ -70,19 +72,19 @@ pub fn ring<R: Threads + Wait + Sync, G: Gate>(
     source: &[u64],
     lines: u16,
     capacity: u16,
-    keeping: Keeping,
+    recording: Recording,
     gate: &G,
 ) -> Result<(Vec<u64>, ClosedMemory), WorkRefusal>
     ensures limits { (result ≡ Err WorkRefusal.BadSettings) ↔ (IsRingRun (length source.now) lines capacity → ⊥) }
     ensures items { IfOk result (λ r. r.0.items ≡ source.now) }
     ensures closed { IfOk result (λ r. AreClosed (FitsRing source.now lines) (lines + 1) r.1.lines.items) }
     ensures nodes { IfOk result (λ r. HaveNodes 2 r.1.lines.items) }
-    ensures kept { IfOk result (λ r. AreKept keeping (FitsRing source.now lines) 2 r.1) }
+    ensures kept { IfOk result (λ r. AreKept recording (FitsRing source.now lines) 2 r.1) }
     ensures wrote { IfOk result (λ r. AreWrittenAs (WritesAlone (ring_writes source.now lines)) (map lists_in r.1.receipts.items)) }
     ensures err { IfErr result ComesInRun }
 {
     if !is_ring_size(source.len(), lines) || capacity == 0 || capacity > 1024 {
         return Err(WorkRefusal::BadSettings);
     }
-    passed(rt, alloc, source, lines, capacity, keeping, gate)
+    passed(rt, alloc, source, lines, capacity, recording, gate)
 }

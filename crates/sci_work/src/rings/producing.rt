@@ -3,7 +3,7 @@ ghost use Rattle.std.specs.Prelude.{◌≡◌, ◌≢◌, ◌+◌, ◌^◌, ◌<
 ghost use Rattle.sci_work.specs.Made.{ComesInCall, IsBankOf, IsStillBankOf, Made, MadeSome};
 ghost use Rattle.sci_work.specs.Ring.{IsRing, IsRingSize, item_words, item_writes};
 
-use crate::calls::{reached, written};
+use crate::calls::{load_until, write_line};
 use crate::doors::Door;
 use crate::gates::Gate;
 use crate::refusals::WorkRefusal;
@@ -36,13 +36,13 @@ fn free<R: Wait, G: Gate, B: Bank>(
     ensures free { IfOk result (λ seen. i + 1 ≤ seen + lines) }
     ensures err { IfErr result ComesInCall }
     ensures made { Made B.gives B.readies B.at_step [] node.old bank.old node.new bank.new }
-    ensures still { IsStillBankOf node.old.keeps [] B.way B.keep B.at_step B.gives B.readies B.told bank.old node.new bank.new }
+    ensures still { IsStillBankOf node.old.keeps [] B.way B.keep B.at_step B.gives B.readies B.receipts bank.old node.new bank.new }
 {
     let least = (i + 1).saturating_sub(u64::from(lines));
     if consumed >= least {
         return Ok(consumed);
     }
-    match reached(rt, door, node, bank, lines, least) {
+    match load_until(rt, door, node, bank, lines, least) {
         Ok(words) => Ok(words[0]),
         Err(refusal) => Err(refusal),
     }
@@ -64,14 +64,14 @@ pub(crate) fn produced<R: Wait, G: Gate, B: Bank>(
     ensures ok { OnOk result (Made B.gives B.readies B.at_step (item_writes source.now lines (length source.now)) node.old bank.old node.new bank.new) }
     ensures err { IfErr result ComesInCall }
     ensures made { MadeSome B.gives B.readies B.at_step (item_writes source.now lines) (length source.now) node.old bank.old node.new bank.new }
-    ensures still { (ws : List (ℕ × List ℕ)) × IsStillBankOf node.old.keeps ws B.way B.keep B.at_step B.gives B.readies B.told bank.old node.new bank.new × OnOk result (ws ≡ item_writes source.now lines (length source.now)) }
+    ensures still { (ws : List (ℕ × List ℕ)) × IsStillBankOf node.old.keeps ws B.way B.keep B.at_step B.gives B.readies B.receipts bank.old node.new bank.new × OnOk result (ws ≡ item_writes source.now lines (length source.now)) }
 {
     let mut consumed = 0;
     for (i, value) in source.iter().enumerate() {
         let number = i as u64;
         consumed = free(rt, door, node, bank, lines, number, consumed)?;
         let line = line_of(number, lines);
-        written(rt, door, node, bank, line, words_of(number + 1, *value))?;
+        write_line(rt, door, node, bank, line, words_of(number + 1, *value))?;
     }
     Ok(())
 }
@@ -97,7 +97,7 @@ pub fn produce<R: Wait, G: Gate, B: Bank>(
     ensures ok { OnOk result (Made B.gives B.readies B.at_step (item_writes source.now lines (length source.now)) node.old bank.old node.new bank.new) }
     ensures err { IsRingSize (length source.now) lines → IfErr result ComesInCall }
     ensures made { MadeSome B.gives B.readies B.at_step (item_writes source.now lines) (length source.now) node.old bank.old node.new bank.new }
-    ensures still { (ws : List (ℕ × List ℕ)) × IsStillBankOf node.old.keeps ws B.way B.keep B.at_step B.gives B.readies B.told bank.old node.new bank.new × OnOk result (ws ≡ item_writes source.now lines (length source.now)) }
+    ensures still { (ws : List (ℕ × List ℕ)) × IsStillBankOf node.old.keeps ws B.way B.keep B.at_step B.gives B.readies B.receipts bank.old node.new bank.new × OnOk result (ws ≡ item_writes source.now lines (length source.now)) }
 {
     let mut door = Door::new(gate, stop, node.id().get());
     if !is_ring_size(source.len(), lines) {

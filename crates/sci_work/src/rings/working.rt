@@ -31,7 +31,7 @@ pub(crate) fn worked<R: Wait, G: Gate, B: Bank>(
     requires ring { IsRing (B.Keep.fits (B.keep bank.old)) source.now lines }
     ensures share { IfOk result (λ share. number ≡ 1 → share.items ≡ source.now) }
     ensures err { IfErr result ComesInWork }
-    ensures worked { (ws : List (ℕ × List ℕ)) × HasWorked node.old.keeps ws B.way B.keep B.at_step B.gives B.readies B.told bank.old node.new bank.new × OnOk result (ws ≡ ring_writes source.now lines number) }
+    ensures worked { (ws : List (ℕ × List ℕ)) × HasWorked node.old.keeps ws B.way B.keep B.at_step B.gives B.readies B.receipts bank.old node.new bank.new × OnOk result (ws ≡ ring_writes source.now lines number) }
 {
     if number == 0 {
         produced(rt, door, node, bank, source, lines)?;

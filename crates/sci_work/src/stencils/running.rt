@@ -10,9 +10,9 @@ ghost use Rattle.sci_work.specs.Written.{AreWrittenAs, WritesAlone};
 
 use crate::facts::StencilFact;
 use crate::gates::Gate;
-use crate::keeping::{ClosedMemory, Keeping};
 use crate::lines::{closed, opened};
 use crate::programs::Program;
+use crate::recording::{ClosedMemory, Recording};
 use crate::refusals::WorkRefusal;
 use crate::seating::Hand;
 use crate::starting::run_all;
@@ -43,22 +43,22 @@ fn ended<K: Keeps>(
     alloc: Global,
     work: Work<'_>,
     lines: Vec<FineLine<K>>,
-    keeping: Keeping,
+    recording: Recording,
     hands: Vec<Hand<K>>,
     shares: Vec<Vec<u64>>,
 ) -> Result<(Vec<u64>, ClosedMemory), WorkRefusal>
     requires whole { length work.cells.now ≡ 7 * work.tiles }
     requires nodes { (0 < work.nodes) × (vec_len shares ≡ work.nodes) }
     requires shares { AtEach (λ k share. IsShare (plain work.cells.now work.phases) work.nodes k work.tiles share.items) shares.items }
-    requires hands { AtEach (λ k hand. IsHandOf keeping lines.items k hand.items) hands.items }
+    requires hands { AtEach (λ k hand. IsHandOf recording lines.items k hand.items) hands.items }
     ensures cells { IfOk result (λ r. r.0.items ≡ plain work.entry.cells.now work.entry.phases) }
     ensures closed { IfOk result (λ r. AreClosedOf K.fits lines.items r.1.lines.items) }
-    ensures kept { IfOk result (λ r. AreKeptOn keeping K.fits lines.items r.1) }
+    ensures kept { IfOk result (λ r. AreKeptOn recording K.fits lines.items r.1) }
     ensures own { IfOk result (λ r. AreOfHands hands.items r.1) }
     ensures err { IfErr result (λ e. e ≡ WorkRefusal.OutOfMemory) }
 {
     let cells = gathered(alloc, &shares, work)?;
-    let memory = closed(alloc, lines, keeping, hands)?;
+    let memory = closed(alloc, lines, recording, hands)?;
     Ok((cells, memory))
 }
 
@@ -67,7 +67,7 @@ fn run<R: Threads + Wait + Sync, G: Gate>(
     rt: &R,
     alloc: Global,
     work: Work<'_>,
-    keeping: Keeping,
+    recording: Recording,
     capacity: u16,
     gate: &G,
 ) -> Result<(Vec<u64>, ClosedMemory), WorkRefusal>
@@ -78,15 +78,15 @@ fn run<R: Threads + Wait + Sync, G: Gate>(
     ensures cells { IfOk result (λ r. r.0.items ≡ plain work.entry.cells.now work.entry.phases) }
     ensures closed { IfOk result (λ r. AreClosed (FitsStencil work.entry.cells.now work.entry.phases) (2 * work.entry.tiles) r.1.lines.items) }
     ensures nodes { IfOk result (λ r. HaveNodes work.entry.nodes r.1.lines.items) }
-    ensures kept { IfOk result (λ r. AreKept keeping (FitsStencil work.entry.cells.now work.entry.phases) work.entry.nodes r.1) }
+    ensures kept { IfOk result (λ r. AreKept recording (FitsStencil work.entry.cells.now work.entry.phases) work.entry.nodes r.1) }
     ensures wrote { IfOk result (λ r. AreWrittenAs (WritesAlone (stencil_writes work.entry.cells.now work.entry.phases work.entry.nodes work.entry.tiles)) (map lists_in r.1.receipts.items)) }
     ensures err { IfErr result (ComesInStart (Program.Stencil work.entry)) }
 {
     let fact = StencilFact::new(work.cells, work.phases);
     let (lines, hands) = opened(alloc, work.nodes, 2 * work.tiles, fact)?;
     let program = Program::Stencil(work);
-    let (hands, shares) = run_all(rt, alloc, gate, &lines, hands, program, keeping, capacity)?;
-    ended(alloc, work, lines, keeping, hands, shares)
+    let (hands, shares) = run_all(rt, alloc, gate, &lines, hands, program, recording, capacity)?;
+    ended(alloc, work, lines, recording, hands, shares)
 }
 
 /// Takes cells, in 1 to 512 whole tiles of seven, 0 to 1,000,000 phases on: in each phase a cell becomes the sum of itself and
@@ -105,14 +105,14 @@ pub fn stencil<R: Threads + Wait + Sync, G: Gate>(
     phases: u64,
     nodes: u16,
     capacity: u16,
-    keeping: Keeping,
+    recording: Recording,
     gate: &G,
 ) -> Result<(Vec<u64>, ClosedMemory), WorkRefusal>
     ensures limits { (result ≡ Err WorkRefusal.BadSettings) ↔ (IsStencilSize (length cells.now) phases nodes capacity → ⊥) }
     ensures cells { IfOk result (λ r. r.0.items ≡ plain cells.now phases) }
     ensures closed { IfOk result (λ r. AreClosed (FitsStencil cells.now phases) (2 * (length cells.now / 7)) r.1.lines.items) }
     ensures nodes { IfOk result (λ r. HaveNodes nodes r.1.lines.items) }
-    ensures kept { IfOk result (λ r. AreKept keeping (FitsStencil cells.now phases) nodes r.1) }
+    ensures kept { IfOk result (λ r. AreKept recording (FitsStencil cells.now phases) nodes r.1) }
     ensures wrote { IfOk result (λ r. AreWrittenAs (WritesAlone (stencil_writes cells.now phases nodes (length cells.now / 7))) (map lists_in r.1.receipts.items)) }
     ensures err { IfErr result ComesInRun }
 {
@@ -126,5 +126,5 @@ pub fn stencil<R: Threads + Wait + Sync, G: Gate>(
         tiles,
         nodes,
     };
-    run(rt, alloc, work, keeping, capacity, gate)
+    run(rt, alloc, work, recording, capacity, gate)
 }

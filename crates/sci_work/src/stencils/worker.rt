@@ -6,7 +6,7 @@ ghost use Rattle.sci_work.specs.Shares.{IsShare, IsWork};
 ghost use Rattle.sci_work.specs.Stencil.{HoldsTile, stencil_writes, tile_words, tile_writes};
 ghost use Rattle.sci_work.specs.Workers.{HasWorked, IsReady};
 
-use crate::calls::{reached, written};
+use crate::calls::{load_until, write_line};
 use crate::doors::Door;
 use crate::gates::Gate;
 use crate::refusals::WorkRefusal;
@@ -43,11 +43,11 @@ fn awaited<R: Wait, G: Gate, B: Bank>(
     ensures number { IfOk result (λ words. slice_index words 0 ≡ phase + 1) }
     ensures cells { IfOk result (λ words. HoldsTile (plain work.entry.cells.now phase) tile words) }
     ensures err { IfErr result ComesInWork }
-    ensures worked { HasWorked node.old.keeps [] B.way B.keep B.at_step B.gives B.readies B.told bank.old node.new bank.new }
+    ensures worked { HasWorked node.old.keeps [] B.way B.keep B.at_step B.gives B.readies B.receipts bank.old node.new bank.new }
 {
     let line = line_at(tile, phase);
     let number = phase + 1;
-    let words = reached(rt, door, node, bank, line, number)?;
+    let words = load_until(rt, door, node, bank, line, number)?;
     if words[0] == number {
         return Ok(words);
     }
@@ -71,7 +71,7 @@ fn cell_before<R: Wait, G: Gate, B: Bank>(
     requires phase { phase ≤ work.phases }
     ensures cell { IfOk result (λ x. x ≡ slice_index (0 ∷ plain work.entry.cells.now phase) (7 * tile)) }
     ensures err { IfErr result ComesInWork }
-    ensures worked { HasWorked node.old.keeps [] B.way B.keep B.at_step B.gives B.readies B.told bank.old node.new bank.new }
+    ensures worked { HasWorked node.old.keeps [] B.way B.keep B.at_step B.gives B.readies B.receipts bank.old node.new bank.new }
 {
     if tile == 0 {
         return Ok(0);
@@ -97,7 +97,7 @@ fn cell_behind<R: Wait, G: Gate, B: Bank>(
     requires phase { phase ≤ work.phases }
     ensures cell { IfOk result (λ x. x ≡ slice_index (plain work.entry.cells.now phase) (7 * tile + 7)) }
     ensures err { IfErr result ComesInWork }
-    ensures worked { HasWorked node.old.keeps [] B.way B.keep B.at_step B.gives B.readies B.told bank.old node.new bank.new }
+    ensures worked { HasWorked node.old.keeps [] B.way B.keep B.at_step B.gives B.readies B.receipts bank.old node.new bank.new }
 {
     if tile + 1 == work.tiles {
         return Ok(0);
@@ -122,13 +122,13 @@ fn advance<R: Wait, G: Gate, B: Bank>(
     requires tile { tile < work.tiles }
     requires phase { phase < work.phases }
     ensures err { IfErr result ComesInWork }
-    ensures worked { (ws : List (ℕ × List ℕ)) × HasWorked node.old.keeps ws B.way B.keep B.at_step B.gives B.readies B.told bank.old node.new bank.new × OnOk result (ws ≡ (2 * tile + (phase + 1) % 2, tile_words work.entry.cells.now (phase + 1) tile) ∷ []) }
+    ensures worked { (ws : List (ℕ × List ℕ)) × HasWorked node.old.keeps ws B.way B.keep B.at_step B.gives B.readies B.receipts bank.old node.new bank.new × OnOk result (ws ≡ (2 * tile + (phase + 1) % 2, tile_words work.entry.cells.now (phase + 1) tile) ∷ []) }
 {
     let own = awaited(rt, door, node, bank, work, tile, phase)?;
     let left = cell_before(rt, door, node, bank, work, tile, phase)?;
     let right = cell_behind(rt, door, node, bank, work, tile, phase)?;
     let line = line_at(tile, phase + 1);
-    written(rt, door, node, bank, line, advanced(left, &own, right))
+    write_line(rt, door, node, bank, line, advanced(left, &own, right))
 }
 
 /// Writes the node's tiles as they open.
@@ -144,12 +144,12 @@ fn open_all<R: Wait, G: Gate, B: Bank>(
     requires work { IsWork (B.Keep.fits (B.keep bank.old)) work.cells.now work.phases work.tiles (B.way bank.old).lines }
     requires nodes { (number < work.nodes) × (work.nodes ≤ 64) }
     ensures err { IfErr result ComesInWork }
-    ensures worked { (ws : List (ℕ × List ℕ)) × HasWorked node.old.keeps ws B.way B.keep B.at_step B.gives B.readies B.told bank.old node.new bank.new × OnOk result (ws ≡ tile_writes work.entry.cells.now work.entry.nodes number 0 work.entry.tiles) }
+    ensures worked { (ws : List (ℕ × List ℕ)) × HasWorked node.old.keeps ws B.way B.keep B.at_step B.gives B.readies B.receipts bank.old node.new bank.new × OnOk result (ws ≡ tile_writes work.entry.cells.now work.entry.nodes number 0 work.entry.tiles) }
 {
     let mut tile = number;
     while tile < work.tiles {
         let words = opening(work.cells, 7 * usize::from(tile));
-        written(rt, door, node, bank, 2 * tile, words)?;
+        write_line(rt, door, node, bank, 2 * tile, words)?;
         tile += work.nodes;
     }
     Ok(())
@@ -170,7 +170,7 @@ fn advance_all<R: Wait, G: Gate, B: Bank>(
     requires nodes { (number < work.nodes) × (work.nodes ≤ 64) }
     requires phase { phase < work.phases }
     ensures err { IfErr result ComesInWork }
-    ensures worked { (ws : List (ℕ × List ℕ)) × HasWorked node.old.keeps ws B.way B.keep B.at_step B.gives B.readies B.told bank.old node.new bank.new × OnOk result (ws ≡ tile_writes work.entry.cells.now work.entry.nodes number (phase + 1) work.entry.tiles) }
+    ensures worked { (ws : List (ℕ × List ℕ)) × HasWorked node.old.keeps ws B.way B.keep B.at_step B.gives B.readies B.receipts bank.old node.new bank.new × OnOk result (ws ≡ tile_writes work.entry.cells.now work.entry.nodes number (phase + 1) work.entry.tiles) }
 {
     let mut tile = number;
     while tile < work.tiles {
@@ -195,7 +195,7 @@ fn collect<R: Wait, G: Gate, B: Bank>(
     requires nodes { (number < work.nodes) × (work.nodes ≤ 64) }
     ensures share { IfOk result (λ v. IsShare (plain work.entry.cells.now work.entry.phases) work.entry.nodes number work.entry.tiles v.items) }
     ensures err { IfErr result ComesInWork }
-    ensures worked { HasWorked node.old.keeps [] B.way B.keep B.at_step B.gives B.readies B.told bank.old node.new bank.new }
+    ensures worked { HasWorked node.old.keeps [] B.way B.keep B.at_step B.gives B.readies B.receipts bank.old node.new bank.new }
 {
     let mut share = Vec::new(alloc);
     let mut tile = number;
@@ -222,7 +222,7 @@ pub(crate) fn worked<R: Wait, G: Gate, B: Bank>(
     requires nodes { (number < work.nodes) × (work.nodes ≤ 64) }
     ensures share { IfOk result (λ v. IsShare (plain work.entry.cells.now work.entry.phases) work.entry.nodes number work.entry.tiles v.items) }
     ensures err { IfErr result ComesInWork }
-    ensures worked { (ws : List (ℕ × List ℕ)) × HasWorked node.old.keeps ws B.way B.keep B.at_step B.gives B.readies B.told bank.old node.new bank.new × OnOk result (ws ≡ stencil_writes work.entry.cells.now work.entry.phases work.entry.nodes work.entry.tiles number) }
+    ensures worked { (ws : List (ℕ × List ℕ)) × HasWorked node.old.keeps ws B.way B.keep B.at_step B.gives B.readies B.receipts bank.old node.new bank.new × OnOk result (ws ≡ stencil_writes work.entry.cells.now work.entry.phases work.entry.nodes work.entry.tiles number) }
 {
     open_all(rt, door, node, bank, work, number)?;
     for phase in 0..work.phases {

@@ -54,15 +54,15 @@ returns-clause-loads g c =
 
 pub returns-clause-kept : goal.returns-clause-kept
 returns-clause-kept g c =
-    let same = chain_line _ g.B.Bank.gives (λ x. x.bank.now) (λ x. x.line) (λ s call t h. (h.0, h.2)) g.B.Bank.at_step g.B.Bank.told c.turn.ensures.calls.calls c.new.result c.turn.new.port c.turn.ensures.calls.chain in
-    kept_through _ g.B.Bank.gives (λ x. x.bank.now) (λ x. x.line) (λ s call t h. (h.0, h.2)) g.B.Bank.at_step g.B.Bank.told (begun c.args.goal.now) c.turn.result c.new.result c.turn.new.port same c.args.line c.args.bank.now _ c.new.ensures.line c.new.ensures.same_bank (search rules) c.turn.ensures.kept
+    let same = chain_line _ g.B.Bank.gives (λ x. x.bank.now) (λ x. x.line) (λ s call t h. (h.0, h.2)) g.B.Bank.at_step g.B.Bank.receipts c.turn.ensures.calls.calls c.new.result c.turn.new.port c.turn.ensures.calls.chain in
+    kept_through _ g.B.Bank.gives (λ x. x.bank.now) (λ x. x.line) (λ s call t h. (h.0, h.2)) g.B.Bank.at_step g.B.Bank.receipts (begun c.args.goal.now) c.turn.result c.new.result c.turn.new.port same c.args.line c.args.bank.now _ c.new.ensures.line c.new.ensures.same_bank (search rules) c.turn.ensures.kept
 
 pub returns-clause-last : goal.returns-clause-last
 returns-clause-last g c =
-    let same = chain_line _ g.B.Bank.gives (λ x. x.bank.now) (λ x. x.line) (λ s call t h. (h.0, h.2)) g.B.Bank.at_step g.B.Bank.told c.turn.ensures.calls.calls c.new.result c.turn.new.port c.turn.ensures.calls.chain in
-    last_through (λ x. x.bank.now) (λ x. x.line) g.B.Bank.told (begun c.args.goal.now) c.turn.result c.new.result c.turn.new.port same c.args.line c.args.bank.now _ c.new.ensures.line c.new.ensures.same_bank (search rules) c.turn.ensures.last
+    let same = chain_line _ g.B.Bank.gives (λ x. x.bank.now) (λ x. x.line) (λ s call t h. (h.0, h.2)) g.B.Bank.at_step g.B.Bank.receipts c.turn.ensures.calls.calls c.new.result c.turn.new.port c.turn.ensures.calls.chain in
+    last_through (λ x. x.bank.now) (λ x. x.line) g.B.Bank.receipts (begun c.args.goal.now) c.turn.result c.new.result c.turn.new.port same c.args.line c.args.bank.now _ c.new.ensures.line c.new.ensures.same_bank (search rules) c.turn.ensures.last
 
 pub returns-clause-other_receipts : goal.returns-clause-other_receipts
 returns-clause-other_receipts g c = λ m other.
     let h = turn_through _ g.B.Bank.gives (λ x. x.bank.now) (λ x. x.line) (λ s call t h. (h.0, h.2)) (λ u. (g.B.Bank.way u).node) g.B.Bank.at_step (begun c.args.goal.now) c.turn.result c.args.line c.new.result c.turn.new.port c.args.bank.now _ c.new.ensures.line c.new.ensures.same_bank (search rules) c.turn.ensures.calls in
-    chain_keeps g.B.Bank.gives c.args.line (λ u. g.B.Bank.told u m) (λ u call v k. (g.met.B.Bank.receives u c.args.line call v k).others m other) h.calls c.args.bank.now _ h.chain
+    chain_keeps g.B.Bank.gives c.args.line (λ u. g.B.Bank.receipts u m) (λ u call v k. (g.met.B.Bank.receives u c.args.line call v k).others m other) h.calls c.args.bank.now _ h.chain

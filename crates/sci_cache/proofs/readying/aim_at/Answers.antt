@@ -13,7 +13,7 @@ pub returns-in_default : goal.returns-in_default
 returns-in_default g c = record {
   readied = readied_once c.args.line (Aimed c.args.passing) c.aim.ensures.readies;
   mark = c.aim.ensures.aims.here.mark;
-  out = subst (λ (o : Option ℕ). IfSome o (λ w. (g.B.Bank.told c.aim.new.self w).passing ≡ true)) (sym c.in_default.is) tt;
+  out = subst (λ (o : Option ℕ). IfSome o (λ w. (g.B.Bank.receipts c.aim.new.self w).passing ≡ true)) (sym c.in_default.is) tt;
   others = λ m other out. c.aim.ensures.aims.others m other;
 }
 
@@ -28,6 +28,6 @@ returns g c =
     record {
       readied = readied_then (readied_once c.args.line (Aimed c.args.passing) c.aim.ensures.readies) (readied_once c.in-Some.victim (Aimed true) c.aim-2.ensures.readies);
       mark = ap (λ (s : ReceiptList). s.passing) (c.aim-2.ensures.aims.others c.args.line apart) ∙ c.aim.ensures.aims.here.mark;
-      out = subst (λ (o : Option ℕ). IfSome o (λ w. (g.B.Bank.told c.aim-2.new.self w).passing ≡ true)) (sym c.in-Some.is) c.aim-2.ensures.aims.here.mark;
+      out = subst (λ (o : Option ℕ). IfSome o (λ w. (g.B.Bank.receipts c.aim-2.new.self w).passing ≡ true)) (sym c.in-Some.is) c.aim-2.ensures.aims.here.mark;
       others = λ m other out. c.aim-2.ensures.aims.others m (subst (λ (o : Option ℕ). IfSome o (λ w. m ≢ w)) c.in-Some.is out) ∙ c.aim.ensures.aims.others m other;
     }

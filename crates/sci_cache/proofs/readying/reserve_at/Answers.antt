@@ -24,7 +24,7 @@ pub returns : goal.returns
 returns g c = record {
   readied = readied_once c.args.line (Reserved c.args.n (is_ok c.reserve.result)) c.reserve.ensures.readies;
   room = on_ok c.reserve.result c.reserve.ensures.reserves.here.room;
-  enough = λ room. absurd (less_room c.args.n c.room.result (g.B.Bank.told c.args.bank.now c.args.line).room c.if-n-room.false c.room.ensures room);
-  same = reserves_same c.args.n (is_ok c.reserve.result) (g.B.Bank.told c.args.bank.now) c.args.line (g.B.Bank.told c.reserve.new.self) c.reserve.ensures.reserves;
+  enough = λ room. absurd (less_room c.args.n c.room.result (g.B.Bank.receipts c.args.bank.now c.args.line).room c.if-n-room.false c.room.ensures room);
+  same = reserves_same c.args.n (is_ok c.reserve.result) (g.B.Bank.receipts c.args.bank.now) c.args.line (g.B.Bank.receipts c.reserve.new.self) c.reserve.ensures.reserves;
   others = c.reserve.ensures.reserves.others;
 }

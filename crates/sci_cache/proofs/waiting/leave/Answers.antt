@@ -13,7 +13,7 @@ loop-init g c = record {
   finite = tt;
   runs = leaves_none g.B.Bank.gives g.B.Bank.at_step (g.B.Bank.way c.args.bank.now).node c.args.victim c.args.bank.now;
   others = λ m other. refl;
-  kept = λ need. record { on = none_on g.B.Bank.gives g.B.Bank.readies g.B.Bank.at_step g.B.Bank.told c.args.bank.now; need = need };
+  kept = λ need. record { on = none_on g.B.Bank.gives g.B.Bank.readies g.B.Bank.at_step g.B.Bank.receipts c.args.bank.now; need = need };
   receipts = λ m other. refl;
   way = refl;
   nodes = λ m. refl;
@@ -37,7 +37,7 @@ loop-preserved-in-Moved g c =
       finite = tt;
       runs = leaves_on g.B.Bank.gives g.B.Bank.at_step c.args.victim (g.B.Bank.way c.args.bank.now).node (g.B.Bank.way c.loop.bank).node (ap (λ (w : BankWay). w.node) i.way) (begun Goal.Evict) refl c.args.bank.now c.loop.bank c.turn_at.new.bank Turn.Moved tt (e.calls, e.answers, e.loads) i.runs;
       others = λ m other. e.others m other ∙ i.others m other;
-      kept = λ need. still_at_work g.B.Bank.gives g.B.Bank.readies g.B.Bank.at_step g.B.Bank.told Goal.Evict c.args.victim (begun Goal.Evict) refl c.loop.bank c.turn_at.new.bank Turn.Moved c.args.victim refl e.kept e.other_receipts (i.kept need) tt;
+      kept = λ need. still_at_work g.B.Bank.gives g.B.Bank.readies g.B.Bank.at_step g.B.Bank.receipts Goal.Evict c.args.victim (begun Goal.Evict) refl c.loop.bank c.turn_at.new.bank Turn.Moved c.args.victim refl e.kept e.other_receipts (i.kept need) tt;
       receipts = λ m other. e.other_receipts m other ∙ i.receipts m other;
       way = e.same_way ∙ i.way;
       nodes = λ m. e.same_nodes m ∙ i.nodes m;
@@ -53,7 +53,7 @@ loop-preserved g c =
       finite = tt;
       runs = leaves_on g.B.Bank.gives g.B.Bank.at_step c.args.victim (g.B.Bank.way c.args.bank.now).node (g.B.Bank.way c.loop.bank).node (ap (λ (w : BankWay). w.node) i.way) (begun Goal.Evict) refl c.args.bank.now c.loop.bank c.turn_at.new.bank Turn.Waiting tt (e.calls, e.answers, e.loads) i.runs;
       others = λ m other. e.others m other ∙ i.others m other;
-      kept = λ need. still_at_work g.B.Bank.gives g.B.Bank.readies g.B.Bank.at_step g.B.Bank.told Goal.Evict c.args.victim (begun Goal.Evict) refl c.loop.bank c.turn_at.new.bank Turn.Waiting c.args.victim refl e.kept e.other_receipts (i.kept need) tt;
+      kept = λ need. still_at_work g.B.Bank.gives g.B.Bank.readies g.B.Bank.at_step g.B.Bank.receipts Goal.Evict c.args.victim (begun Goal.Evict) refl c.loop.bank c.turn_at.new.bank Turn.Waiting c.args.victim refl e.kept e.other_receipts (i.kept need) tt;
       receipts = λ m other. e.other_receipts m other ∙ i.receipts m other;
       way = e.same_way ∙ i.way;
       nodes = λ m. e.same_nodes m ∙ i.nodes m;
@@ -71,8 +71,8 @@ returns-in-Done g c =
       runs = has_left g.B.Bank.gives g.B.Bank.at_step c.args.victim (g.B.Bank.way c.args.bank.now).node (g.B.Bank.way c.loop.bank).node (ap (λ (w : BankWay). w.node) i.way) (begun Goal.Evict) refl c.args.bank.now c.loop.bank c.turn_at.new.bank c.in-Done.field-0 (e.calls, e.answers, e.loads) i.runs;
       rest = λ idle. idle_all c.args.victim (g.B.Bank.at_step c.loop.bank) (g.B.Bank.at_step c.turn_at.new.bank) e.others e.idle (λ m other. i.others m other ∙ idle m);
       kept = λ ready.
-          worked_on g.B.Bank.gives g.B.Bank.readies g.B.Bank.at_step g.B.Bank.told Goal.Evict c.args.victim (begun Goal.Evict) refl c.loop.bank c.turn_at.new.bank (Turn.Done c.in-Done.field-0) c.args.victim refl e.kept e.other_receipts
-          (i.kept (ready_need Goal.Evict (g.B.Bank.at_step c.args.bank.now c.args.victim) (g.B.Bank.told c.args.bank.now c.args.victim) ready)) (evict_none c.in-Done.field-0);
+          worked_on g.B.Bank.gives g.B.Bank.readies g.B.Bank.at_step g.B.Bank.receipts Goal.Evict c.args.victim (begun Goal.Evict) refl c.loop.bank c.turn_at.new.bank (Turn.Done c.in-Done.field-0) c.args.victim refl e.kept e.other_receipts
+          (i.kept (ready_need Goal.Evict (g.B.Bank.at_step c.args.bank.now c.args.victim) (g.B.Bank.receipts c.args.bank.now c.args.victim) ready)) (evict_none c.in-Done.field-0);
       others = λ m other. e.other_receipts m other ∙ i.receipts m other;
       same_way = e.same_way ∙ i.way;
       same_nodes = λ m. e.same_nodes m ∙ i.nodes m;

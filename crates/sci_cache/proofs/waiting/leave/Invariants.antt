@@ -12,8 +12,8 @@ invariant-loop g l =
       finite : (goal.iterator-loop g).is_finite l.iterator';
       runs : Leaves g.B.Bank.gives g.B.Bank.at_step (g.B.Bank.way l.fn.bank).node l.fn.victim l.fn.bank l.bank;
       others : (m : ℕ) → m ≢ l.fn.victim → g.B.Bank.at_step l.bank m ≡ g.B.Bank.at_step l.fn.bank m;
-      kept : HasNeed Goal.Evict (g.B.Bank.at_step l.fn.bank l.fn.victim) (g.B.Bank.told l.fn.bank l.fn.victim) → IsAtWork g.B.Bank.gives g.B.Bank.readies g.B.Bank.at_step g.B.Bank.told Goal.Evict l.fn.victim l.fn.bank l.bank;
-      receipts : (m : ℕ) → m ≢ l.fn.victim → g.B.Bank.told l.bank m ≡ g.B.Bank.told l.fn.bank m;
+      kept : HasNeed Goal.Evict (g.B.Bank.at_step l.fn.bank l.fn.victim) (g.B.Bank.receipts l.fn.bank l.fn.victim) → IsAtWork g.B.Bank.gives g.B.Bank.readies g.B.Bank.at_step g.B.Bank.receipts Goal.Evict l.fn.victim l.fn.bank l.bank;
+      receipts : (m : ℕ) → m ≢ l.fn.victim → g.B.Bank.receipts l.bank m ≡ g.B.Bank.receipts l.fn.bank m;
       way : g.B.Bank.way l.bank ≡ g.B.Bank.way l.fn.bank;
       nodes : (m : ℕ) → g.B.Bank.nodes_on l.bank m ≡ g.B.Bank.nodes_on l.fn.bank m;
       fact : g.B.Bank.keep l.bank ≡ g.B.Bank.keep l.fn.bank;

@@ -9,7 +9,7 @@ pub returns-in_default : goal.returns-in_default
 returns-in_default g c = record {
   runs = λ n d mine open_ out. has_way g.B.Bank.gives g.B.Bank.at_step c.args.bank.now n d open_ (out ∙ c.in_default.is);
   rest = λ idle. idle;
-  kept = λ ready. none_on g.B.Bank.gives g.B.Bank.readies g.B.Bank.at_step g.B.Bank.told c.args.bank.now;
+  kept = λ ready. none_on g.B.Bank.gives g.B.Bank.readies g.B.Bank.at_step g.B.Bank.receipts c.args.bank.now;
   others = λ m other. refl;
   same_way = refl;
   same_nodes = λ m. refl;
@@ -20,4 +20,4 @@ pub leave-requires : goal.leave-requires
 leave-requires g c = record { line = subst (λ (o : Option ℕ). IsLine (g.B.Bank.way c.args.bank.now).lines o) c.in-Some.is c.requires.line }
 
 pub returns : goal.returns
-returns g c = subst (λ (o : Option ℕ). HasMadeWay g.B.Bank.way g.B.Bank.nodes_on g.B.Bank.keep g.B.Bank.gives g.B.Bank.readies g.B.Bank.at_step g.B.Bank.told o c.args.bank.now c.leave.new.bank) (sym c.in-Some.is) c.leave.ensures
+returns g c = subst (λ (o : Option ℕ). HasMadeWay g.B.Bank.way g.B.Bank.nodes_on g.B.Bank.keep g.B.Bank.gives g.B.Bank.readies g.B.Bank.at_step g.B.Bank.receipts o c.args.bank.now c.leave.new.bank) (sym c.in-Some.is) c.leave.ensures

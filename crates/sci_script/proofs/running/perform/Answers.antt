@@ -1,5 +1,5 @@
 use Rattle.std.proofs.lemmas.Bool.{and_parts, eqb-true, ltb-true}
-use Rattle.sci_script.specs.declared.commands.Command.TheVariants.{Begin, Turn, Done, Rest, End, List as ListLine, Tag as ShowTag, Residents}
+use Rattle.sci_script.specs.declared.commands.Command.TheVariants.{Begin, Turn, Done, Rest, End, List as ListLine, Tag as ShowTag, Show}
 use Rattle.sci_script.proofs.Runs.{stopped}
 use Rattle.sci_script.proofs.running.perform.Goals as goal
 
@@ -23,8 +23,8 @@ list-requires g c = ltb-true _ _ (rw c.in-List.is at c.requires.command)
 pub tag-requires : goal.tag-requires
 tag-requires g c = let p = and_parts _ _ (rw c.in-Tag.is at c.requires.command) in record { line = ltb-true _ _ p.0; node = ltb-true _ _ p.1 }
 
-pub residents-requires : goal.residents-requires
-residents-requires g c = ltb-true _ _ (rw c.in-Residents.is at c.requires.command)
+pub show-requires : goal.show-requires
+show-requires g c = rw c.in-Show.is at c.requires.command
 
 pub returns-in-Begin-clause-ok : goal.returns-in-Begin-clause-ok
 returns-in-Begin-clause-ok g c = rw (c.in-Begin.is, c.requires.empty) c.begin.ensures.ok
@@ -96,12 +96,12 @@ returns-in-Tag-clause-err g c =
 pub returns-in-Tag-clause-size : goal.returns-in-Tag-clause-size
 returns-in-Tag-clause-size g c = c.tag.ensures.size
 
-pub returns-in-Residents-clause-ok : goal.returns-in-Residents-clause-ok
-returns-in-Residents-clause-ok g c = rw c.in-Residents.is c.residents.ensures.ok
+pub returns-in-Show-clause-ok : goal.returns-in-Show-clause-ok
+returns-in-Show-clause-ok g c = rw c.in-Show.is c.show.ensures.ok
 
-pub returns-in-Residents-clause-err : goal.returns-in-Residents-clause-err
-returns-in-Residents-clause-err g c =
-    stopped g.D.Desk.is_open g.D.Desk.does c.args.nodes c.args.desk.now c.residents.new.desk c.args.step (Residents c.in-Residents.node) c.residents.result c.in-Residents.is c.residents.ensures.err
+pub returns-in-Show-clause-err : goal.returns-in-Show-clause-err
+returns-in-Show-clause-err g c =
+    stopped g.D.Desk.is_open g.D.Desk.does c.args.nodes c.args.desk.now c.show.new.desk c.args.step (Show c.in-Show.ask) c.show.result c.in-Show.is c.show.ensures.err
 
-pub returns-in-Residents-clause-size : goal.returns-in-Residents-clause-size
-returns-in-Residents-clause-size g c = c.residents.ensures.size
+pub returns-in-Show-clause-size : goal.returns-in-Show-clause-size
+returns-in-Show-clause-size g c = c.show.ensures.size

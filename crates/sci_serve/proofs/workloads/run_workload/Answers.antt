@@ -1,6 +1,6 @@
 use Rattle.std.proofs.Common.{◌∙◌, ◌*◌, ◌/◌, ◌+◌, ℕ, List, length, map, codes, subst, sym, ap, refl}
 use Rattle.std.proofs.lemmas.Result.{err_from_is_err_and}
-use Rattle.sci_work.specs.declared.keeping.Keeping.{Keeping}
+use Rattle.sci_work.specs.declared.recording.Recording.{Recording}
 use Rattle.sci_work.specs.Ended.{AreClosed, AreKept, HaveNodes, IsCounted, lists_in}
 use Rattle.sci_work.specs.Plain.{plain}
 use Rattle.sci_work.specs.Ring.{FitsRing, IsRingRun, ring_writes}
@@ -33,8 +33,8 @@ pub returns-in_ok-cells-in-Stencil-clause-kept : goal.returns-in_ok-cells-in-Ste
 returns-in_ok-cells-in-Stencil-clause-kept g c =
     let of = c.in-Stencil in let ended = c.in_ok-cells-in-Stencil in
     rw of.is
-    (λ all. subst (λ (cells : List ℕ). AreKept Keeping.All (FitsStencil cells of.phases) of.nodes ended.memory) c.as_slice-cells.ensures
-    (subst (λ (k : Keeping). AreKept k (FitsStencil c.as_slice-cells.result.now of.phases) of.nodes ended.memory) all ended.ensures.kept))
+    (λ all. subst (λ (cells : List ℕ). AreKept Recording.All (FitsStencil cells of.phases) of.nodes ended.memory) c.as_slice-cells.ensures
+    (subst (λ (k : Recording). AreKept k (FitsStencil c.as_slice-cells.result.now of.phases) of.nodes ended.memory) all ended.ensures.kept))
 
 pub returns-in_ok-cells-in-Stencil-clause-wrote : goal.returns-in_ok-cells-in-Stencil-clause-wrote
 returns-in_ok-cells-in-Stencil-clause-wrote g c =
@@ -64,8 +64,8 @@ pub returns-in_ok-items-in-Ring-clause-kept : goal.returns-in_ok-items-in-Ring-c
 returns-in_ok-items-in-Ring-clause-kept g c =
     let of = c.in-Ring in let ended = c.in_ok-items-in-Ring in
     rw of.is
-    (λ all. subst (λ (items : List ℕ). AreKept Keeping.All (FitsRing items of.lines) 2 ended.memory) c.as_slice-items.ensures
-    (subst (λ (k : Keeping). AreKept k (FitsRing c.as_slice-items.result.now of.lines) 2 ended.memory) all ended.ensures.kept))
+    (λ all. subst (λ (items : List ℕ). AreKept Recording.All (FitsRing items of.lines) 2 ended.memory) c.as_slice-items.ensures
+    (subst (λ (k : Recording). AreKept k (FitsRing c.as_slice-items.result.now of.lines) 2 ended.memory) all ended.ensures.kept))
 
 pub returns-in_ok-items-in-Ring-clause-wrote : goal.returns-in_ok-items-in-Ring-clause-wrote
 returns-in_ok-items-in-Ring-clause-wrote g c =

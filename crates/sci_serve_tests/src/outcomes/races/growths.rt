@@ -2,6 +2,7 @@
 //! tools/allocations runs it once for each growth of its table, with that one refused, and the test ends by saying which call
 //! answered it.
 use super::LOADED;
+use crate::checks::same;
 use sci_outcomes::{outcomes_text, race_after, search_outcomes};
 use sci_script::{ScriptRefusal, read_script};
 use sci_search::{SearchRefusal, Unwatched};
@@ -16,21 +17,21 @@ fn refuses(rt: &impl Abort, alloc: Global) -> Result<(), Fail> {
     let race = match race_after(alloc, &script) {
         Ok(race) => race,
         Err(refusal) => {
-            assert_eq!(rt; refusal, ScriptRefusal::OutOfMemory);
+            same(rt, &refusal, &ScriptRefusal::OutOfMemory);
             return Err(Fail::new("race_after answered 7"));
         }
     };
     let found = match search_outcomes(alloc, &Unwatched, race, 100) {
         Ok(found) => found,
         Err(refusal) => {
-            assert_eq!(rt; refusal, SearchRefusal::OutOfMemory);
+            same(rt, &refusal, &SearchRefusal::OutOfMemory);
             return Err(Fail::new("search_outcomes answered 7"));
         }
     };
     let Ok(text) = outcomes_text(alloc, &found) else {
         return Err(Fail::new("outcomes_text answered 7"));
     };
-    assert_eq!(rt; text.as_str(), LOADED);
+    same(rt, &text.as_str(), &LOADED);
     Ok(())
 }
 

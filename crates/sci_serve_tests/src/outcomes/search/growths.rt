@@ -1,6 +1,7 @@
 //! Each growth of a search may be refused: it then answers 7, and a second search has the memory. tools/allocations runs this test
 //! once for each growth of its table, with that one refused.
 use super::finds;
+use crate::checks::same;
 use sci_search::SearchRefusal;
 use std::process::Abort;
 use std::test::Fail;
@@ -11,7 +12,7 @@ fn refused_growths(rt: HostRuntime) -> Result<(), Fail> {
     let Err(refusal) = finds(&rt, rt.alloc(), 7) else {
         return Ok(());
     };
-    assert_eq!(rt; refusal, SearchRefusal::OutOfMemory);
+    same(&rt, &refusal, &SearchRefusal::OutOfMemory);
     finds(&rt, rt.alloc(), 7)?;
     Err(Fail::new("search answered 7"))
 }

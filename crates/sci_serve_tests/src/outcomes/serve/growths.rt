@@ -1,6 +1,7 @@
 //! Each growth of the command may be refused: it then answers 7, writes nothing, and a second try has the memory. With ample memory
 //! this test passes; tools/allocations runs it once for each growth.
 use super::LOAD;
+use crate::checks::same;
 use sci_script::ScriptRefusal;
 use sci_search::Unwatched;
 use sci_serve::{INPUT_LIMIT, RaceFault, SimFault, serve_outcomes, serve_play};
@@ -19,8 +20,8 @@ fn refuses(rt: &impl Abort, alloc: Global) -> Result<(), Fail> {
         return Ok(());
     };
     let short = RaceFault::Fault(SimFault::Refused(ScriptRefusal::OutOfMemory));
-    assert_eq!(rt; fault, short);
-    assert_eq!(rt; serves(alloc), Ok(()));
+    same(rt, &fault, &short);
+    same(rt, &serves(alloc), &Ok(()));
     Err(Fail::new("serve_outcomes answered 7"))
 }
 
@@ -40,8 +41,8 @@ fn refuses_pages(rt: &impl Abort, alloc: Global) -> Result<(), Fail> {
         return Ok(());
     };
     let short = RaceFault::Fault(SimFault::Refused(ScriptRefusal::OutOfMemory));
-    assert_eq!(rt; fault, short);
-    assert_eq!(rt; plays(alloc), Ok(()));
+    same(rt, &fault, &short);
+    same(rt, &plays(alloc), &Ok(()));
     Err(Fail::new("serve_play answered 7"))
 }
 

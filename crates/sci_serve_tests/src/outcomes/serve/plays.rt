@@ -1,5 +1,6 @@
 //! The states of a race: a node that loads a line which nobody has used, worked out by hand.
 use super::LOAD;
+use crate::checks::{same, same_bytes_at};
 use sci_outcomes::race_after;
 use sci_play::play_text;
 use sci_script::read_script;
@@ -45,8 +46,8 @@ fn states(alloc: Global, most: usize) -> Result<Vec<u8>, Fail> {
 
 #[test]
 fn a_load_has_five_states(rt: HostRuntime) -> Result<(), Fail> {
-    assert_eq!(rt; states(rt.alloc(), 5)?.as_slice(), STATES.as_bytes());
-    assert_eq!(rt; states(rt.alloc(), 4)?.len(), 0);
+    same_bytes_at(&rt, &5, &states(rt.alloc(), 5)?, STATES.as_bytes());
+    same_bytes_at(&rt, &4, &states(rt.alloc(), 4)?, b"");
     Ok(())
 }
 
@@ -61,6 +62,6 @@ fn a_page_of_too_many_states_is_refused(rt: HostRuntime) -> Result<(), Fail> {
         &mut input,
         &mut sink(),
     );
-    assert_eq!(rt; result.err(), Some(RaceFault::TooManyStates));
+    same(&rt, &result, &Err(RaceFault::TooManyStates));
     Ok(())
 }

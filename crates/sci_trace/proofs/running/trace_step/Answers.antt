@@ -6,7 +6,7 @@ use Rattle.std.specs.Io.KnownBytes.{Appends}
 use Rattle.sci_script.specs.declared.commands.Command.TheVariants.{Done}
 use Rattle.sci_script.specs.declared.commands.Step.{Step}
 use Rattle.sci_script.specs.declared.refusals.ScriptRefusal.{ScriptRefusal}
-use Rattle.sci_script.specs.declared.wholes.WholeDesk.{WholeDesk}
+use Rattle.sci_script.specs.declared.whole_desk.WholeDesk.{WholeDesk}
 use Rattle.sci_script.specs.Run.{Prints, StopsAt}
 use Rattle.sci_script.specs.Wholes.{shared_of}
 use Rattle.sci_script.proofs.Through.{prints, stops_at}

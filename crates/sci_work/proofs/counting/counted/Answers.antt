@@ -3,7 +3,7 @@ use Rattle.std.proofs.lemmas.Result.{IfOk-from_err, IfOk-weaker, IfErr-weaker}
 use mathlib.Core.Option.{some-ne-none}
 use Rattle.sci_core.specs.declared.keeps.AnyWords.{AnyWords}
 use Rattle.sci_fine.specs.Banks.{IsLine}
-use Rattle.sci_work.specs.declared.keeping.Keeping.{Keeping}
+use Rattle.sci_work.specs.declared.recording.Recording.{Recording}
 use Rattle.sci_fine.specs.declared.closing.Finished.{Finished}
 use Rattle.sci_work.specs.Ended.{any_words, lists_in}
 use Rattle.sci_work.specs.Hands.{AtEach, IsHandOf}
@@ -33,14 +33,14 @@ run_all-requires-after_bounds g c κs within =
     let line = c.in_ok-line.line in let hands = c.in_ok-hands.hands in let program = Program.Count c.args.adds in
     let len : vec_len hands ≡ c.args.nodes = c.in_ok-hands.ensures.len ∙ c.in_ok-line.ensures.len in
     let is_line = at_more (IsLine c.args.nodes _) [] (line ∷ []) line refl (λ k x e. absurd (some-ne-none x (sym e))) c.in_ok-line.ensures.line in
-    subst (λ (z : List _). AreParts fits_any Keeping.All z program hands) (sym c.from_ref.ensures.value)
-    (parts_of fits_any Keeping.All c.args.nodes _ 1 program (line ∷ []) hands refl (omega arith) (omega arith) is_line len c.requires.1
+    subst (λ (z : List _). AreParts fits_any Recording.All z program hands) (sym c.from_ref.ensures.value)
+    (parts_of fits_any Recording.All c.args.nodes _ 1 program (line ∷ []) hands refl (omega arith) (omega arith) is_line len c.requires.1
     (λ k hand at. (c.in_ok-hands.ensures.each k hand at, none_written c.in_ok-line.seats.items c.in_ok-line.ensures.new hands.items c.in_ok-hands.ensures.hold k hand at))
     (λ k low. (omega arith, λ words size fits. tt)))
 
 pub gathered-requires : goal.gathered-requires
 gathered-requires g c =
-    subst (λ (z : List _). AtEach (λ k hand. IsHandOf Keeping.All z k hand.items) c.in_ok-hands-2.hands.items) c.from_ref.ensures.value c.in_ok-hands-2.ensures.ok.hands_are
+    subst (λ (z : List _). AtEach (λ k hand. IsHandOf Recording.All z k hand.items) c.in_ok-hands-2.hands.items) c.from_ref.ensures.value c.in_ok-hands-2.ensures.ok.hands_are
 
 pub finished-requires : goal.finished-requires
 finished-requires g c = c.in_ok-seats.ensures.ok

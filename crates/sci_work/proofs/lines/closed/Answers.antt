@@ -4,7 +4,7 @@ use Rattle.std.proofs.lemmas.Result.{IfOk-from_err}
 use mathlib.Core.Option.{some, some-injective, some-ne-none}
 use lib.ListN.{get_elem?}
 use Rattle.atomic_table.proofs.Lists.{at_last, at_longer}
-use Rattle.sci_work.specs.declared.keeping.Keeping.{Keeping}
+use Rattle.sci_work.specs.declared.recording.Recording.{Recording}
 use Rattle.sci_work.specs.Ended.{IsClosedOf, IsHistoryOn, lists_in}
 use Rattle.sci_work.specs.Hands.{AtEach, IsHandOf, IsListOf}
 use Rattle.sci_work.proofs.Closing.{kept_by, own_by, read_from}
@@ -79,13 +79,13 @@ loop-preserved g c =
     let rest = vec_len c.pop.new.self in let made = c.in_ok-one.one in let told = c.in_ok-one.ensures in let kept = c.keep_lists.ensures in
     let at_rest = i.same rest line (subst (λ (z : List _). get_elem? z rest ≡ some line) (sym popped) (at_last fewer line rest size)) in
     let closed_more = ap reverse put.items ∙ reverse-append c.loop.all.items (made.closed ∷ []) in
-    let lists_more = λ (all : c.args.keeping ≡ Keeping.All). ap reverse (kept.all all) ∙ reverse-append c.loop.receipts.items (made.receipts ∷ []) in
+    let lists_more = λ (all : c.args.recording ≡ Recording.All). ap reverse (kept.all all) ∙ reverse-append c.loop.receipts.items (made.receipts ∷ []) in
     record {
       rest = fewer_rest (vec_len c.loop.rest) c.loop.counter _ (vec_len c.pop.new.self) i.rest one;
       len = put.len ∙ ap (λ (z : ℕ). z + 1) i.len;
       room = subst (λ (z : ℕ). vec_len c.args.lines ≤ z) (sym put.capacity) i.room;
       same = λ k x e. i.same k x (subst (λ (z : List _). get_elem? z k ≡ some x) (sym popped) (at_longer fewer (line ∷ []) k x e));
-      hands = λ k x e. subst (λ (z : List _). IsHandOf c.args.keeping z k (vec_items x)) c.deref.ensures.value (c.in_ok-fewer.ensures.hands k x e);
+      hands = λ k x e. subst (λ (z : List _). IsHandOf c.args.recording z k (vec_items x)) c.deref.ensures.value (c.in_ok-fewer.ensures.hands k x e);
       lists = λ all.
           let more = ap (λ (z : List _). length z) (kept.all all) in
           omega (arith, more, length-append c.loop.receipts.items (made.receipts ∷ []), i.lists all, c.keep_lists.new.receipts.ok, c.loop.receipts.ok);
@@ -122,7 +122,7 @@ returns-clause-kept g c =
     let i = c.loop.invariant in
     let none = all_done (vec_len c.loop.rest) c.loop.counter c.len-end.result (vec_len c.args.lines) i.rest c.loop-test.false c.len-end.ensures in
     let at = λ (k : ℕ) (l : _) (el : get_elem? c.args.lines.items k ≡ some l). subst (λ (z : ℕ). get_elem? c.args.lines.items z ≡ some l) (from_none k (vec_len c.loop.rest) none) el in
-    kept_by g.K.Keeps.fits c.args.keeping c.args.lines.items _
+    kept_by g.K.Keeps.fits c.args.recording c.args.lines.items _
     (λ all. record {
       count = let n = i.lists all in let r = c.reverse-2.ensures.len in omega (arith, r, n, i.rest, none, c.reverse-2.new.self.ok, c.args.lines.ok);
       each = λ k l d v el ed ev. i.histories all k l d v (at k l el) (subst (λ (z : List _). get_elem? z k ≡ some d) c.reverse.ensures.items ed) (subst (λ (z : List _). get_elem? z k ≡ some v) c.reverse-2.ensures.items ev);
@@ -133,7 +133,7 @@ pub returns-clause-own : goal.returns-clause-own
 returns-clause-own g c =
     let i = c.loop.invariant in
     let none = all_done (vec_len c.loop.rest) c.loop.counter c.len-end.result (vec_len c.args.lines) i.rest c.loop-test.false c.len-end.ensures in
-    own_by c.args.keeping c.args.hands.items (record { lines = c.reverse.new.self; receipts = c.reverse-2.new.self })
+    own_by c.args.recording c.args.hands.items (record { lines = c.reverse.new.self; receipts = c.reverse-2.new.self })
     (λ all k v e. subst (λ (n : ℕ). AtEach (λ node list. IsListOf (vec_items c.args.hands) node n list) (lists_in v)) (sym (from_none k (vec_len c.loop.rest) none)) (i.own all k v (subst (λ (z : List _). get_elem? z k ≡ some v) c.reverse-2.ensures.items e)))
     (λ nothing. c.reverse-2.ensures.items ∙ ap reverse (i.none nothing))
 
@@ -148,7 +148,7 @@ returns-in_err-receipts g c = let r = c.from_residual-in_err-receipts in record 
 
 pub last_seats-requires : goal.last_seats-requires
 last_seats-requires g c = λ k x e.
-    subst (λ (z : List _). IsHandOf c.args.keeping z k (vec_items x)) (c.in-Some.ensures.items ∙ ap (λ (z : List _). z ++ c.in-Some.line ∷ []) (sym c.deref.ensures.value)) (c.loop.invariant.hands k x e)
+    subst (λ (z : List _). IsHandOf c.args.recording z k (vec_items x)) (c.in-Some.ensures.items ∙ ap (λ (z : List _). z ++ c.in-Some.line ∷ []) (sym c.deref.ensures.value)) (c.loop.invariant.hands k x e)
 
 pub finished-requires : goal.finished-requires
 finished-requires g c = c.in_ok-fewer.ensures.seats

@@ -11,9 +11,9 @@ invariant-loop-one g l = record {
   same : vec_len l.seats ≡ vec_len l.all;
   room : vec_len l.fn.hands ≤ vec_capacity l.all;
   seat_room : vec_len l.fn.hands ≤ vec_capacity l.seats;
-  left : AtEach (λ k hand. IsHandOf l.fn.keeping (l.lines ++ l.line ∷ []) (k + vec_len l.all) (vec_items hand)) (into_iter_items l.one-iterator);
-  hands : AtEach (λ k hand. IsHandOf l.fn.keeping l.lines k (vec_items hand)) (vec_items l.all);
-  seats : AreIdle l.fn.keeping l.line (vec_items l.seats);
+  left : AtEach (λ k hand. IsHandOf l.fn.recording (l.lines ++ l.line ∷ []) (k + vec_len l.all) (vec_items hand)) (into_iter_items l.one-iterator);
+  hands : AtEach (λ k hand. IsHandOf l.fn.recording l.lines k (vec_items hand)) (vec_items l.all);
+  seats : AreIdle l.fn.recording l.line (vec_items l.seats);
   at : AtEach (λ k hand. get_elem? (vec_items l.fn.hands) (k + vec_len l.all) ≡ some hand) (into_iter_items l.one-iterator);
   fewer : AtEach (IsFewer (vec_items l.fn.hands)) (vec_items l.all);
   last : AtEach (IsSeatIn (vec_items l.fn.hands) (length l.lines)) (vec_items l.seats);

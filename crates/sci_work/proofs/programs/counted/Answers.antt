@@ -10,27 +10,27 @@ use Rattle.sci_work.proofs.Worked.{worked_not, worked_then}
 use Rattle.sci_work.proofs.programs.counted.Goals as goal
 
 pub loop-init : goal.loop-init
-loop-init g c = record { worked = ([], worked_not c.requires.ready); added = λ yes. added_none (g.B.Bank.told c.args.bank.now 0).list }
+loop-init g c = record { worked = ([], worked_not c.requires.ready); added = λ yes. added_none (g.B.Bank.receipts c.args.bank.now 0).list }
 
-pub added-requires-clause-ready : goal.added-requires-clause-ready
-added-requires-clause-ready g c κs within = c.loop.invariant.worked.1.ready
+pub add_one-requires-clause-ready : goal.add_one-requires-clause-ready
+add_one-requires-clause-ready g c κs within = c.loop.invariant.worked.1.ready
 
-pub added-requires-clause-line : goal.added-requires-clause-line
-added-requires-clause-line g c κs within = subst (λ w. 0 < w.lines) (sym c.loop.invariant.worked.1.same_way) c.requires.line
+pub add_one-requires-clause-line : goal.add_one-requires-clause-line
+add_one-requires-clause-line g c κs within = subst (λ w. 0 < w.lines) (sym c.loop.invariant.worked.1.same_way) c.requires.line
 
-pub added-requires-clause-fits : goal.added-requires-clause-fits
-added-requires-clause-fits g c κs within = subst (λ k. StoresFitting (g.B.Keep.Keeps.fits k 0) (Goal.Write (Write.Add 0 1))) (sym c.loop.invariant.worked.1.same_fact) c.requires.fits
+pub add_one-requires-clause-fits : goal.add_one-requires-clause-fits
+add_one-requires-clause-fits g c κs within = subst (λ k. StoresFitting (g.B.Keep.Keeps.fits k 0) (Goal.Write (Write.Add 0 1))) (sym c.loop.invariant.worked.1.same_fact) c.requires.fits
 
 pub loop-preserved : goal.loop-preserved
 loop-preserved g c =
-    record { worked = (_, worked_then c.loop.invariant.worked.1 c.added.ensures.worked.1); added = λ yes. added_more (c.loop.invariant.added yes) (c.in_ok-added.ensures.added (c.loop.invariant.worked.1.same_keeps ∙ yes)) refl }
+    record { worked = (_, worked_then c.loop.invariant.worked.1 c.add_one.ensures.worked.1); added = λ yes. added_more (c.loop.invariant.added yes) (c.in_ok-add_one.ensures.added (c.loop.invariant.worked.1.same_keeps ∙ yes)) refl }
 
-pub returns-in_err-added : goal.returns-in_err-added
-returns-in_err-added g c =
+pub returns-in_err-add_one : goal.returns-in_err-add_one
+returns-in_err-add_one g c =
     let r = c.from_residual in
     record {
-      err = passed_on r.result _ _ r.ensures.1 c.in_err-added.ensures.err;
-      worked = (_, worked_then c.loop.invariant.worked.1 c.added.ensures.worked.1);
+      err = passed_on r.result _ _ r.ensures.1 c.in_err-add_one.ensures.err;
+      worked = (_, worked_then c.loop.invariant.worked.1 c.add_one.ensures.worked.1);
       added = λ yes. IfOk-from_err r.result _ r.ensures.0;
     }
 
@@ -40,5 +40,5 @@ returns g c =
     record {
       err = tt;
       worked = c.loop.invariant.worked;
-      added = λ yes. subst (λ (n : ℕ). HasAdded n (g.B.Bank.told c.args.bank.now 0).list (g.B.Bank.told c.loop.bank 0).list) all (c.loop.invariant.added yes);
+      added = λ yes. subst (λ (n : ℕ). HasAdded n (g.B.Bank.receipts c.args.bank.now 0).list (g.B.Bank.receipts c.loop.bank 0).list) all (c.loop.invariant.added yes);
     }

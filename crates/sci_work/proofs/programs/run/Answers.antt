@@ -40,7 +40,7 @@ returns-in_err-counted-in-Count g c =
 
 pub returns-in_ok-counted-in-Count-clause-written : goal.returns-in_ok-counted-in-Count-clause-written
 returns-in_ok-counted-in-Count-clause-written g c =
-    λ yes. subst (λ p. HasWritten p c.args.number (g.B.Bank.told c.args.bank.now) (g.B.Bank.told c.counted.new.bank)) (sym c.in-Count.is) (c.in_ok-counted-in-Count.ensures.added yes)
+    λ yes. subst (λ p. HasWritten p c.args.number (g.B.Bank.receipts c.args.bank.now) (g.B.Bank.receipts c.counted.new.bank)) (sym c.in-Count.is) (c.in_ok-counted-in-Count.ensures.added yes)
 
 pub returns-in_ok-counted-in-Count-clause-share : goal.returns-in_ok-counted-in-Count-clause-share
 returns-in_ok-counted-in-Count-clause-share g c = subst (λ p. IsShareOf p c.args.number (vec_items c.new.result)) (sym c.in-Count.is) tt
@@ -58,8 +58,8 @@ returns-in-Ring g c =
       share = subst (λ p. IfOk c.worked.result (λ s. IsShareOf p c.args.number s.items)) is e.share;
       err = part_of_worked c.worked.result c.args.program (subst Awaits is tt) e.err;
       worked = (e.worked.0, e.worked.1);
-      written = λ yes. on_ok_then c.worked.result (λ all. subst (λ p. HasWritten p c.args.number (g.B.Bank.told c.args.bank.now) (g.B.Bank.told c.worked.new.bank)) is
-          (subst (λ (ws : List (ℕ × List ℕ)). HasWrote ws (g.B.Bank.told c.args.bank.now) (g.B.Bank.told c.worked.new.bank)) all (e.worked.1.wrote yes))) e.worked.2;
+      written = λ yes. on_ok_then c.worked.result (λ all. subst (λ p. HasWritten p c.args.number (g.B.Bank.receipts c.args.bank.now) (g.B.Bank.receipts c.worked.new.bank)) is
+          (subst (λ (ws : List (ℕ × List ℕ)). HasWrote ws (g.B.Bank.receipts c.args.bank.now) (g.B.Bank.receipts c.worked.new.bank)) all (e.worked.1.wrote yes))) e.worked.2;
     }
 
 pub returns-in-Stencil : goal.returns-in-Stencil
@@ -69,6 +69,6 @@ returns-in-Stencil g c =
       share = subst (λ p. IfOk c.worked-in-Stencil.result (λ s. IsShareOf p c.args.number s.items)) is e.share;
       err = part_of_worked c.worked-in-Stencil.result c.args.program (subst Awaits is tt) e.err;
       worked = (e.worked.0, e.worked.1);
-      written = λ yes. on_ok_then c.worked-in-Stencil.result (λ all. subst (λ p. HasWritten p c.args.number (g.B.Bank.told c.args.bank.now) (g.B.Bank.told c.worked-in-Stencil.new.bank)) is
-          (subst (λ (ws : List (ℕ × List ℕ)). HasWrote ws (g.B.Bank.told c.args.bank.now) (g.B.Bank.told c.worked-in-Stencil.new.bank)) all (e.worked.1.wrote yes))) e.worked.2;
+      written = λ yes. on_ok_then c.worked-in-Stencil.result (λ all. subst (λ p. HasWritten p c.args.number (g.B.Bank.receipts c.args.bank.now) (g.B.Bank.receipts c.worked-in-Stencil.new.bank)) is
+          (subst (λ (ws : List (ℕ × List ℕ)). HasWrote ws (g.B.Bank.receipts c.args.bank.now) (g.B.Bank.receipts c.worked-in-Stencil.new.bank)) all (e.worked.1.wrote yes))) e.worked.2;
     }

@@ -14,6 +14,6 @@ returns-clause-each g c = λ k one at.
     let lines = ap (λ h. h.promise.lines.now) e.1.handle_is ∙ p.0 in
     let program = ap (λ h. h.promise.program) e.1.handle_is ∙ p.1 in
     let number = ap (λ h. h.promise.number) e.1.handle_is ∙ p.2 in
-    let keeping = ap (λ h. h.promise.keeping) e.1.handle_is ∙ p.3 in
-    let first = rw lines at e.1.kept in let second = rw program at first in let third = rw number at second in let kept = rw keeping at third in
-    subst (λ d. IsPartDone c.args.keeping c.args.lines.now c.args.program k d.hand.items d.share) (or_at done.items k one one at) kept
+    let recording = ap (λ h. h.promise.recording) e.1.handle_is ∙ p.3 in
+    let first = rw lines at e.1.kept in let second = rw program at first in let third = rw number at second in let kept = rw recording at third in
+    subst (λ d. IsPartDone c.args.recording c.args.lines.now c.args.program k d.hand.items d.share) (or_at done.items k one one at) kept

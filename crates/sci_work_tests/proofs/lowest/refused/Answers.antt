@@ -3,7 +3,7 @@ use mathlib.Core.Option.{some-ne-none}
 use Rattle.sci_core.specs.declared.keeps.AnyWords.{AnyWords}
 use Rattle.sci_fine.specs.Banks.{IsLine}
 use Rattle.sci_work.specs.Starts.{AreParts}
-use Rattle.sci_work.specs.declared.keeping.Keeping.{Keeping}
+use Rattle.sci_work.specs.declared.recording.Recording.{Recording}
 use Rattle.sci_work.specs.declared.programs.Program.{Program}
 use Rattle.sci_work.proofs.Dealing.{new_seats}
 use Rattle.sci_work.proofs.Handed.{none_written}
@@ -22,6 +22,6 @@ run_all-requires-after_bounds g c κs within =
     let line = c.in-Ok.line in let hands = c.in_ok-hands.hands in let program = Program.Count 1 in let t = c.in-Ok.ensures.terms in
     let len : vec_len hands ≡ 2 = c.in_ok-hands.ensures.len ∙ c.in-Ok.ensures.seats.0 in
     let is_line = at_more (IsLine 2 _) [] (line ∷ []) line refl (λ k x e. absurd (some-ne-none x (sym e))) record { number = t.number; nodes_are = t.nodes; fact = t.keep } in
-    subst (λ (z : List _). AreParts any_words Keeping.Nothing z program hands) (sym c.from_ref.ensures.value)
-    (parts_of any_words Keeping.Nothing 2 _ 1 program (line ∷ []) hands refl (omega arith) (omega arith) is_line len (omega arith)
+    subst (λ (z : List _). AreParts any_words Recording.Nothing z program hands) (sym c.from_ref.ensures.value)
+    (parts_of any_words Recording.Nothing 2 _ 1 program (line ∷ []) hands refl (omega arith) (omega arith) is_line len (omega arith)
     (λ k hand at. (c.in_ok-hands.ensures.each k hand at, none_written c.in-Ok.seats.items c.in-Ok.ensures.new hands.items c.in_ok-hands.ensures.hold k hand at)) (λ k low. (omega arith, λ words size fits. tt)))

@@ -1,6 +1,6 @@
 use Rattle.std.proofs.Common.{◌≡◌, ℕ, ◌*◌, ◌∙◌, List, arith, ap, sym, subst}
 use Rattle.sci_work.specs.declared.facts.stencil.StencilFact.{StencilFact}
-use Rattle.sci_work.specs.declared.keeping.Keeping.{Keeping}
+use Rattle.sci_work.specs.declared.recording.Recording.{Recording}
 use Rattle.sci_work.specs.declared.programs.Program.{Program}
 use Rattle.sci_work.specs.Starts.{AreParts}
 use Rattle.sci_work.specs.Stencil.{FitsStencil}
@@ -19,17 +19,17 @@ opened-requires-clause-fits g c = zeros_fit c.new-fact.result.cells.now c.new-fa
 pub run_all-requires-after_bounds : goal.run_all-requires-after_bounds
 run_all-requires-after_bounds g c κs within =
     let work = c.args.work in let fact = c.new-fact.result in let made = c.in_ok-lines.ensures in
-    let parts = parts_of says Keeping.All work.nodes fact (2 * work.tiles) (Program.Stencil work) c.in_ok-lines.lines.items c.in_ok-lines.hands
+    let parts = parts_of says Recording.All work.nodes fact (2 * work.tiles) (Program.Stencil work) c.in_ok-lines.lines.items c.in_ok-lines.hands
     (omega (arith, made.count, c.in_ok-lines.lines.ok)) (omega (arith, c.requires.tiles)) (omega (arith, c.requires.tiles)) made.lines made.len c.requires.nodes.1 made.hands
     (λ k near. (is_work fact.cells.now work.cells.now fact.phases work.phases work.tiles (ap (λ (s : _). s.now) c.new-fact.ensures.cells) c.new-fact.ensures.phases c.requires.whole c.requires.tiles.1 c.requires.phases, near, c.requires.nodes.1)) in
-    subst (λ (ls : List _). AreParts says Keeping.All ls (Program.Stencil work) c.in_ok-lines.hands) (sym c.deref.ensures.value) parts
+    subst (λ (ls : List _). AreParts says Recording.All ls (Program.Stencil work) c.in_ok-lines.hands) (sym c.deref.ensures.value) parts
 
 pub run_all-requires-2-after_bounds : goal.run_all-requires-2-after_bounds
 run_all-requires-2-after_bounds g c κs within =
     let work = c.args.work in let fact = c.new-fact.result in let made = c.in_ok-lines.ensures in
-    let parts = parts_of says Keeping.All work.nodes fact (2 * work.tiles) (Program.Stencil work) c.in_ok-lines.lines.items c.in_ok-lines.hands
+    let parts = parts_of says Recording.All work.nodes fact (2 * work.tiles) (Program.Stencil work) c.in_ok-lines.lines.items c.in_ok-lines.hands
     (omega (arith, made.count, c.in_ok-lines.lines.ok)) (omega (arith, c.requires.tiles)) (omega (arith, c.requires.tiles)) made.lines made.len c.requires.nodes.1 made.hands
     (λ k near. (is_work fact.cells.now work.cells.now fact.phases work.phases work.tiles (ap (λ (s : _). s.now) c.new-fact.ensures.cells) c.new-fact.ensures.phases c.requires.whole c.requires.tiles.1 c.requires.phases, near, c.requires.nodes.1)) in
-    let first = subst (λ (ls : List _). AreParts says Keeping.All ls (Program.Stencil work) c.in_ok-lines.hands) (sym c.deref.ensures.value) parts in
+    let first = subst (λ (ls : List _). AreParts says Recording.All ls (Program.Stencil work) c.in_ok-lines.hands) (sym c.deref.ensures.value) parts in
     let again = parts_again says (Program.Stencil work) c.deref.result.now c.in_ok-lines.hands c.in_ok-hands.hands c.in_ok-hands.field-0-1 first c.in_ok-hands.ensures.ok in
-    subst (λ (ls : List _). AreParts says Keeping.Nothing ls (Program.Stencil work) c.in_ok-hands.hands) (c.deref.ensures.value ∙ sym c.deref-2.ensures.value) again
+    subst (λ (ls : List _). AreParts says Recording.Nothing ls (Program.Stencil work) c.in_ok-hands.hands) (c.deref.ensures.value ∙ sym c.deref-2.ensures.value) again

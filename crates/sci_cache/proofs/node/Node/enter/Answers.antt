@@ -16,7 +16,7 @@ returns-then-not-self-clause-readied g c = as_it_was
 
 pub put_in_with_room-requires : goal.put_in_with_room-requires
 put_in_with_room-requires g c =
-    let s = stays_readied g.B.Bank.way g.B.Bank.nodes_on g.B.Bank.keep g.B.Bank.readies g.B.Bank.at_step g.B.Bank.told g.met.B.Bank.readied c.reserve_at.ensures.readied in
+    let s = stays_readied g.B.Bank.way g.B.Bank.nodes_on g.B.Bank.keep g.B.Bank.readies g.B.Bank.at_step g.B.Bank.receipts g.met.B.Bank.readied c.reserve_at.ensures.readied in
     record {
       lines = ap (λ (w : BankWay). w.lines) s.same_way ∙ c.requires.lines;
       line = has_line c.args.self.now c.args.request.now c.requires.accepted;
@@ -29,7 +29,7 @@ pub aim_at-requires : goal.aim_at-requires
 aim_at-requires g c =
     let n = c.args.self.now in
     let r = c.args.request.now in
-    let s = stays_readied g.B.Bank.way g.B.Bank.nodes_on g.B.Bank.keep g.B.Bank.readies g.B.Bank.at_step g.B.Bank.told g.met.B.Bank.readied (readied_then c.reserve_at.ensures.readied c.put_in_with_room.ensures.readied) in
+    let s = stays_readied g.B.Bank.way g.B.Bank.nodes_on g.B.Bank.keep g.B.Bank.readies g.B.Bank.at_step g.B.Bank.receipts g.met.B.Bank.readied (readied_then c.reserve_at.ensures.readied c.put_in_with_room.ensures.readied) in
     let lines = ap (λ (w : BankWay). w.lines) s.same_way ∙ c.requires.lines in
     let e = c.in_ok-victim.ensures in
     record {
@@ -46,20 +46,20 @@ returns-clause-ready g c = λ keeps.
     let r = c.args.request.now in
     let e = c.in_ok-victim.ensures in
     let a = c.aim_at.ensures in
-    let told = g.B.Bank.told in
+    let receipts = g.B.Bank.receipts in
     let first = c.reserve_at.new.bank in
     let second = c.put_in_with_room.new.bank in
     let third = c.aim_at.new.bank in
-    let s = stays_readied g.B.Bank.way g.B.Bank.nodes_on g.B.Bank.keep g.B.Bank.readies g.B.Bank.at_step told g.met.B.Bank.readied e.readied in
-    let t = stays_readied g.B.Bank.way g.B.Bank.nodes_on g.B.Bank.keep g.B.Bank.readies g.B.Bank.at_step told g.met.B.Bank.readied a.readied in
+    let s = stays_readied g.B.Bank.way g.B.Bank.nodes_on g.B.Bank.keep g.B.Bank.readies g.B.Bank.at_step receipts g.met.B.Bank.readied e.readied in
+    let t = stays_readied g.B.Bank.way g.B.Bank.nodes_on g.B.Bank.keep g.B.Bank.readies g.B.Bank.at_step receipts g.met.B.Bank.readied a.readied in
     let l = c.line-line.result in
-    let here : IsReadyFor (goal_of r) (told third l) = record {
+    let here : IsReadyFor (goal_of r) (receipts third l) = record {
       mark = a.mark ∙ c.passes.ensures;
-      room = subst (λ (k : ℕ). k ≤ (told third l).room) c.most_needed.ensures (more_room c.most_needed.result (told first l).room (told second l).room (told third l).room c.in_ok-reserve_at.ensures.room (s.grows l) (t.grows l));
+      room = subst (λ (k : ℕ). k ≤ (receipts third l).room) c.most_needed.ensures (more_room c.most_needed.result (receipts first l).room (receipts second l).room (receipts third l).room c.in_ok-reserve_at.ensures.room (s.grows l) (t.grows l));
     } in
     record {
-      line = subst (λ (k : ℕ). IsReadyFor (goal_of r) (told third k)) c.line-line.ensures here;
-      exit = subst (λ (o : Option ℕ). IfSome o (λ w. IsReadyFor Goal.Evict (told third w))) e.victim (ready_out_by c.in_ok-victim.victim (told second) (told third) a.out e.room t.grows);
+      line = subst (λ (k : ℕ). IsReadyFor (goal_of r) (receipts third k)) c.line-line.ensures here;
+      exit = subst (λ (o : Option ℕ). IfSome o (λ w. IsReadyFor Goal.Evict (receipts third w))) e.victim (ready_out_by c.in_ok-victim.victim (receipts second) (receipts third) a.out e.room t.grows);
     }
 
 pub returns-then-not-self-clause-others : goal.returns-then-not-self-clause-others

@@ -91,6 +91,6 @@ returns g c =
       succeeds = had_memory _ _ c.self.view_is r c.line-line.ensures other (λ named. absurd (let k = c.if-renew.ensures.named ∙ named in cc));
       readied = c.reserve_out.ensures.readied;
       same_receipts = c.reserve_out.ensures.same;
-      room = ok_with result e.displaced (λ v d. subst (λ (o : Option ℕ). IfSome o (λ w. most_needed Goal.Evict ≤ (g.B.Bank.told c.reserve_out.new.bank w).room)) (last ∙ sym d) c.in_ok-reserve_out.ensures.room);
+      room = ok_with result e.displaced (λ v d. subst (λ (o : Option ℕ). IfSome o (λ w. most_needed Goal.Evict ≤ (g.B.Bank.receipts c.reserve_out.new.bank w).room)) (last ∙ sym d) c.in_ok-reserve_out.ensures.room);
       others = λ m other out. c.reserve_out.ensures.others m (subst (λ (o : Option ℕ). IfSome o (λ w. m ≢ w)) (sym put_out) out);
     }

@@ -4,7 +4,8 @@ use Rattle.sci_core.specs.declared.lines.Line.{Line}
 use Rattle.sci_core.specs.declared.pending.Pending.{Pending}
 use Rattle.sci_core.specs.declared.stages.Stage.{Stage}
 use Rattle.sci_core.specs.State.{State, invalid, blank}
-use Rattle.sci_core.specs.Copies.{IsCopy, IsCopying, kept_line}
+use Rattle.sci_core.specs.Copies.{IsCopy, IsCopying}
+use Rattle.sci_core.specs.Shape.{kept_line}
 use Rattle.sci_core.specs.Hands.{FindsKept}
 use Rattle.sci_core.specs.Laid.{seen_whole, slot_of, step_laid}
 use Rattle.sci_core.specs.Sharers.{IsValidSharer}

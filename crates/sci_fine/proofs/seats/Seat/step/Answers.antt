@@ -1,6 +1,6 @@
 use Rattle.std.proofs.Common.{◌∙◌, ap, sym, subst}
 use Rattle.sci_port.specs.declared.calls.Call.TheVariants.{Stepped}
-use Rattle.sci_port.specs.ReceiptList.{ReceiptList, ReceivesIfRoom, keeps}
+use Rattle.sci_port.specs.ReceiptList.{ReceiptList, ReceivesIfRoom, has_room_for}
 use Rattle.sci_fine.proofs.Writing.{writes_kept}
 use Rattle.sci_fine.proofs.seats.Seat.step.Goals as goal
 
@@ -8,7 +8,7 @@ pub receive_if-requires : goal.receive_if-requires
 receive_if-requires g c =
     let s = c.args.self.now in
     record {
-      asked = c.keeps-keeps.ensures ∙ ap (λ (r : ReceiptList). keeps c.args.event.now r) (sym c.make-outcome.ensures.kept);
+      asked = c.has_room_for-is_kept.ensures ∙ ap (λ (r : ReceiptList). has_room_for c.args.event.now r) (sym c.make-outcome.ensures.kept);
       counts = (writes_kept s.standing.terms.nodes s.standing.node s.standing.pending c.args.event.now c.line-before.result c.requires.allowed c.line-before.ensures).1;
     }
 

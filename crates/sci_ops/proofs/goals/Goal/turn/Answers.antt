@@ -26,8 +26,8 @@ returns g c =
     record {
       calls = taken;
       answers = answered;
-      last = keeps_answer g.P.Port.gives g.P.Port.at_step g.P.Port.told g.met.P.Port.receives op me c.args.port.now t turn answered;
-      kept = keeps_turn g.P.Port.gives g.P.Port.at_step g.P.Port.told _ _ _ g.met.P.Port.owes g.met.P.Port.receives op me c.args.port.now t turn refl taken;
+      last = keeps_answer g.P.Port.gives g.P.Port.at_step g.P.Port.receipts g.met.P.Port.receives op me c.args.port.now t turn answered;
+      kept = keeps_turn g.P.Port.gives g.P.Port.at_step g.P.Port.receipts _ _ _ g.met.P.Port.owes g.met.P.Port.receives op me c.args.port.now t turn refl taken;
       loads = three_loads op _ _;
       same_way = turn_keeps g.P.Port.way g.met.P.Port.same_way taken;
       same_fact = turn_keeps g.P.Port.keep g.met.P.Port.same_fact taken;

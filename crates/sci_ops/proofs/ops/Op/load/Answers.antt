@@ -1,4 +1,4 @@
 use Rattle.sci_ops.proofs.ops.Op.load.Goals as goal
 
 pub returns : goal.returns
-returns c = c.begin.ensures
+returns c = c.towards.ensures

@@ -5,4 +5,4 @@ use Rattle.sci_ops.specs.Table.{begun}
 use Rattle.sci_ops.proofs.ops.Op.store.Goals as goal
 
 pub returns-clause-value : goal.returns-clause-value
-returns-clause-value c = c.begin.ensures ∙ ap (λ (w : ℕ). begun (Goal.Write (Write.Store w c.args.value))) c.in_ok-word.ensures.value
+returns-clause-value c = c.towards.ensures ∙ ap (λ (w : ℕ). begun (Goal.Write (Write.Store w c.args.value))) c.in_ok-word.ensures.value

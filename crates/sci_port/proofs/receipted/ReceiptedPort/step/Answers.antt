@@ -9,7 +9,7 @@ pub returns-clause-gives : goal.returns-clause-gives
 returns-clause-gives g c =
     let s = c.args.self.now in
     let o = c.step-outcome.result in
-    let kept = kept_so c.pending-before.result c.args.event o s.receipts.now c.keep.new.self (sym c.keeps.ensures ∙ c.if-not-keeps.false) c.keep.ensures in
+    let kept = kept_so c.pending-before.result c.args.event o s.receipts.now c.keep.new.self (sym c.has_room_for.ensures ∙ c.if-not-has_room_for.false) c.keep.ensures in
     (c.step-outcome.ensures.gives, subst (λ (p : Pending). ReceivesIfRoom p (Stepped c.args.event o) s.receipts.now c.keep.new.self) c.pending-before.ensures.value kept, refl, refl)
 
 pub returns-clause-receipts : goal.returns-clause-receipts

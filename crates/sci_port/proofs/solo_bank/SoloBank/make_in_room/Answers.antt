@@ -4,7 +4,7 @@ use Rattle.sci_core.specs.Answers.{is_allowed}
 use Rattle.sci_core.specs.declared.pending.Pending.{Pending}
 use Rattle.sci_port.specs.declared.calls.Call.TheVariants.{Stepped}
 use Rattle.sci_port.specs.Banks.{lent_lines, nodes_at, step_at}
-use Rattle.sci_port.specs.ReceiptList.{ReceiptList, ReceivesIfRoom, keeps}
+use Rattle.sci_port.specs.ReceiptList.{ReceiptList, ReceivesIfRoom, has_room_for}
 use Rattle.sci_port.proofs.Banked.{written_back}
 use Rattle.sci_port.proofs.SeatReceipts.{set_changes, there}
 use Rattle.sci_port.proofs.solo_bank.SoloBank.make_in_room.Goals as goal
@@ -15,7 +15,7 @@ keep_if-requires-clause-allowed g c = (_, _, subst (λ (p : Pending). is_allowed
 pub keep_if-requires-clause-asked : goal.keep_if-requires-clause-asked
 keep_if-requires-clause-asked g c =
     let near : c.args.line < length c.args.self.now.receipts.items = subst (λ (n : ℕ). c.args.line < n) (sym c.args.self.now.count) c.requires.line in
-    c.keeps-keeps.ensures ∙ ap (λ (r : ReceiptList). keeps c.args.event r) (sym (there c.args.self.now.receipts.items c.make-outcome.new.self.receipts.items c.as_mut_slice-receipts.result.now c.from.result c.args.line c.index-receipts-from.result near c.from.ensures (ap (λ v. v.items) c.make-outcome.ensures.same_receipts) c.as_mut_slice-receipts.ensures.value))
+    c.has_room_for-is_kept.ensures ∙ ap (λ (r : ReceiptList). has_room_for c.args.event r) (sym (there c.args.self.now.receipts.items c.make-outcome.new.self.receipts.items c.as_mut_slice-receipts.result.now c.from.result c.args.line c.index-receipts-from.result near c.from.ensures (ap (λ v. v.items) c.make-outcome.ensures.same_receipts) c.as_mut_slice-receipts.ensures.value))
 
 pub bounds-receipts-from : goal.bounds-receipts-from
 bounds-receipts-from g c =

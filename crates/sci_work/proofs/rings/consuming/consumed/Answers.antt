@@ -33,24 +33,24 @@ returns-then-is_err g c =
       still = (_, still_then c.loop-i.invariant.still c.item.ensures.still, tt);
     }
 
-pub returns-in_err-written : goal.returns-in_err-written
-returns-in_err-written g c =
-    let r = c.from_residual-in_err-written in
+pub returns-in_err-write_line : goal.returns-in_err-write_line
+returns-in_err-write_line g c =
+    let r = c.from_residual-in_err-write_line in
     record {
       items = IfOk-from_err r.result _ r.ensures.0;
       ok = IfOk-from_err r.result _ r.ensures.0;
-      err = passed_on r.result _ _ r.ensures.1 (of_call _ c.in_err-written.ensures.err);
+      err = passed_on r.result _ _ r.ensures.1 (of_call _ c.in_err-write_line.ensures.err);
       made = record {
         count = c.loop-i.i;
         within = c.loop-i.auto.i-end;
-        made = made_all g.B.Bank.gives g.B.Bank.readies g.B.Bank.at_step (made_all g.B.Bank.gives g.B.Bank.readies g.B.Bank.at_step c.loop-i.invariant.made c.item.ensures.made) c.in_err-written.ensures.none;
+        made = made_all g.B.Bank.gives g.B.Bank.readies g.B.Bank.at_step (made_all g.B.Bank.gives g.B.Bank.readies g.B.Bank.at_step c.loop-i.invariant.made c.item.ensures.made) c.in_err-write_line.ensures.none;
       };
-      still = (_, still_then (still_then c.loop-i.invariant.still c.item.ensures.still) c.written.ensures.still.1, IfOk-from_err r.result _ r.ensures.0);
+      still = (_, still_then (still_then c.loop-i.invariant.still c.item.ensures.still) c.write_line.ensures.still.1, IfOk-from_err r.result _ r.ensures.0);
     }
 
 pub loop-i-preserved : goal.loop-i-preserved
 loop-i-preserved g c =
-    let more = made_all g.B.Bank.gives g.B.Bank.readies g.B.Bank.at_step (made_all g.B.Bank.gives g.B.Bank.readies g.B.Bank.at_step c.loop-i.invariant.made c.item.ensures.made) c.in_ok-written.ensures.made in
+    let more = made_all g.B.Bank.gives g.B.Bank.readies g.B.Bank.at_step (made_all g.B.Bank.gives g.B.Bank.readies g.B.Bank.at_step c.loop-i.invariant.made c.item.ensures.made) c.in_ok-write_line.ensures.made in
     record {
       items = λ source ring enough.
           let was = c.loop-i.invariant.items source ring enough in
@@ -59,11 +59,11 @@ loop-i-preserved g c =
           let pushed = c.push.ensures.items ∙ ap (λ (b : Bool). if b then was_items ++ c.in_ok-value.value ∷ [] else was_items) c.if-is_err.ensures.negation in
           pushed ∙ ap (λ (xs : List ℕ). xs ++ c.in_ok-value.value ∷ []) was ∙ take_more source c.loop-i.i c.in_ok-value.value (omega arith) value;
       made =
-          subst (λ (ws : List (ℕ × List ℕ)). Made g.B.Bank.gives g.B.Bank.readies g.B.Bank.at_step ws c.args.node.now c.args.bank.now c.written.new.node c.written.new.bank)
+          subst (λ (ws : List (ℕ × List ℕ)). Made g.B.Bank.gives g.B.Bank.readies g.B.Bank.at_step ws c.args.node.now c.args.bank.now c.write_line.new.node c.write_line.new.bank)
           (count_more c.args.lines c.loop-i.i _ c.count_of.ensures) more;
-      still = subst (λ (ws : List (ℕ × List ℕ)). IsStillBankOf c.args.node.now.keeps ws g.B.Bank.way g.B.Bank.keep g.B.Bank.at_step g.B.Bank.gives g.B.Bank.readies g.B.Bank.told c.args.bank.now c.written.new.node c.written.new.bank)
-          (ap (λ (ws : List (ℕ × List ℕ)). ws ++ count_writes c.args.lines c.loop-i.i) c.in_ok-written.ensures.still.2 ∙ count_more c.args.lines c.loop-i.i _ c.count_of.ensures)
-          (still_then (still_then c.loop-i.invariant.still c.item.ensures.still) c.in_ok-written.ensures.still.1);
+      still = subst (λ (ws : List (ℕ × List ℕ)). IsStillBankOf c.args.node.now.keeps ws g.B.Bank.way g.B.Bank.keep g.B.Bank.at_step g.B.Bank.gives g.B.Bank.readies g.B.Bank.receipts c.args.bank.now c.write_line.new.node c.write_line.new.bank)
+          (ap (λ (ws : List (ℕ × List ℕ)). ws ++ count_writes c.args.lines c.loop-i.i) c.in_ok-write_line.ensures.still.2 ∙ count_more c.args.lines c.loop-i.i _ c.count_of.ensures)
+          (still_then (still_then c.loop-i.invariant.still c.item.ensures.still) c.in_ok-write_line.ensures.still.1);
     }
 
 pub returns : goal.returns
@@ -84,14 +84,14 @@ item-requires-clause-ready g c κs within = c.loop-i.invariant.still.ready
 pub item-requires-clause-room : goal.item-requires-clause-room
 item-requires-clause-room g c κs within = let some = c.requires.size.1 in (omega (arith, some), subst (λ w. c.args.lines < w.lines) (sym c.loop-i.invariant.still.same_way) c.requires.room)
 
-pub written-requires-clause-ready : goal.written-requires-clause-ready
-written-requires-clause-ready g c κs within = c.item.ensures.still.ready
+pub write_line-requires-clause-ready : goal.write_line-requires-clause-ready
+write_line-requires-clause-ready g c κs within = c.item.ensures.still.ready
 
-pub written-requires-clause-line : goal.written-requires-clause-line
-written-requires-clause-line g c κs within = subst (λ w. c.args.lines < w.lines) (sym (c.item.ensures.still.same_way ∙ c.loop-i.invariant.still.same_way)) c.requires.room
+pub write_line-requires-clause-line : goal.write_line-requires-clause-line
+write_line-requires-clause-line g c κs within = subst (λ w. c.args.lines < w.lines) (sym (c.item.ensures.still.same_way ∙ c.loop-i.invariant.still.same_way)) c.requires.room
 
-pub written-requires-clause-fits : goal.written-requires-clause-fits
-written-requires-clause-fits g c κs within =
+pub write_line-requires-clause-fits : goal.write_line-requires-clause-fits
+write_line-requires-clause-fits g c κs within =
     let ring = c.requires.ring in let source = ring.source in let lines = c.args.lines in let words = c.count_of.result in let i = c.loop-i.i in
     let counted = count_fits source lines (i + 1) (omega (arith, c.loop-i-test.true, ring.enough)) in
     let there = subst (λ (ws : List ℕ). FitsRing source lines lines ws) (sym c.count_of.ensures) counted in

@@ -20,8 +20,8 @@ pub run_all-requires-after_bounds : goal.run_all-requires-after_bounds
 run_all-requires-after_bounds g c κs within =
     let fact = c.new.result in let made = c.in_ok-shared in let lines = c.args.lines in
     let size : length made.shared.items ≡ lines + 1 = omega (arith, made.ensures.count, made.shared.ok) in
-    subst (λ (z : List _). AreParts fits_of c.args.keeping z (Program.Ring c.args.source lines) made.hands) (sym c.deref.ensures.value)
-    (parts_of fits_of c.args.keeping 2 fact (lines + 1) (Program.Ring c.args.source lines) made.shared.items made.hands size (omega arith) (let few = c.requires.2 in omega (arith, few)) made.ensures.lines made.ensures.len (omega arith) made.ensures.hands
+    subst (λ (z : List _). AreParts fits_of c.args.recording z (Program.Ring c.args.source lines) made.hands) (sym c.deref.ensures.value)
+    (parts_of fits_of c.args.recording 2 fact (lines + 1) (Program.Ring c.args.source lines) made.shared.items made.hands size (omega arith) (let few = c.requires.2 in omega (arith, few)) made.ensures.lines made.ensures.len (omega arith) made.ensures.hands
     (λ k low. (is_ring fact.source.now c.args.source.now fact.lines lines (ap (λ z. z.now) c.new.ensures.source) c.new.ensures.lines, c.requires, omega arith)))
 
 pub last_share-items-requires : goal.last_share-items-requires
@@ -44,14 +44,14 @@ returns-clause-nodes g c = nodes_under fits_of 2 c.new.result c.in_ok-shared.sha
 pub returns-clause-kept : goal.returns-clause-kept
 returns-clause-kept g c =
     let fact = c.new.result in let made = c.in_ok-shared in let lines = c.args.lines in let all = c.in_ok-all.all in
-    let kept = kept_under fits_of c.args.keeping 2 fact made.shared.items all made.ensures.lines made.ensures.zeros c.in_ok-all.ensures.ok c.in_ok-all.ensures.kept in
-    subst (λ (s : List _). AreKept c.args.keeping (FitsRing s lines) 2 all) (ap (λ z. z.now) c.new.ensures.source)
-    (subst (λ (l : _). AreKept c.args.keeping (FitsRing fact.source.now l) 2 all) c.new.ensures.lines kept)
+    let kept = kept_under fits_of c.args.recording 2 fact made.shared.items all made.ensures.lines made.ensures.zeros c.in_ok-all.ensures.ok c.in_ok-all.ensures.kept in
+    subst (λ (s : List _). AreKept c.args.recording (FitsRing s lines) 2 all) (ap (λ z. z.now) c.new.ensures.source)
+    (subst (λ (l : _). AreKept c.args.recording (FitsRing fact.source.now l) 2 all) c.new.ensures.lines kept)
 
 pub returns-clause-wrote : goal.returns-clause-wrote
 returns-clause-wrote g c =
     let all = c.in_ok-all.ensures in
-    written_by (λ node line list. AreWritesOf (Program.Ring c.args.source c.args.lines) node line list) fits_of c.args.keeping c.in_ok-shared.shared.items c.in_ok-hands.hands.items c.in_ok-all.all c.in_ok-hands.ensures.ok.end all.kept all.own
+    written_by (λ node line list. AreWritesOf (Program.Ring c.args.source c.args.lines) node line list) fits_of c.args.recording c.in_ok-shared.shared.items c.in_ok-hands.hands.items c.in_ok-all.all c.in_ok-hands.ensures.ok.end all.kept all.own
 
 pub returns-in_err-shared : goal.returns-in_err-shared
 returns-in_err-shared g c =

@@ -21,30 +21,30 @@ returns-in_err-consumed g c =
       still = (_, still_then c.loop-i.invariant.still c.free.ensures.still, IfOk-from_err r.result _ r.ensures.0);
     }
 
-pub returns-in_err-written : goal.returns-in_err-written
-returns-in_err-written g c =
-    let r = c.from_residual-in_err-written in
+pub returns-in_err-write_line : goal.returns-in_err-write_line
+returns-in_err-write_line g c =
+    let r = c.from_residual-in_err-write_line in
     record {
       ok = IfOk-from_err r.result _ r.ensures.0;
-      err = passed_on r.result _ _ r.ensures.1 c.in_err-written.ensures.err;
+      err = passed_on r.result _ _ r.ensures.1 c.in_err-write_line.ensures.err;
       made = record {
         count = c.loop-i.i;
         within = c.loop-i.auto.i-end;
-        made = made_all g.B.Bank.gives g.B.Bank.readies g.B.Bank.at_step (made_all g.B.Bank.gives g.B.Bank.readies g.B.Bank.at_step c.loop-i.invariant.made c.free.ensures.made) c.in_err-written.ensures.none;
+        made = made_all g.B.Bank.gives g.B.Bank.readies g.B.Bank.at_step (made_all g.B.Bank.gives g.B.Bank.readies g.B.Bank.at_step c.loop-i.invariant.made c.free.ensures.made) c.in_err-write_line.ensures.none;
       };
-      still = (_, still_then (still_then c.loop-i.invariant.still c.free.ensures.still) c.written.ensures.still.1, IfOk-from_err r.result _ r.ensures.0);
+      still = (_, still_then (still_then c.loop-i.invariant.still c.free.ensures.still) c.write_line.ensures.still.1, IfOk-from_err r.result _ r.ensures.0);
     }
 
 pub loop-i-preserved : goal.loop-i-preserved
 loop-i-preserved g c =
-    let more = made_all g.B.Bank.gives g.B.Bank.readies g.B.Bank.at_step (made_all g.B.Bank.gives g.B.Bank.readies g.B.Bank.at_step c.loop-i.invariant.made c.free.ensures.made) c.in_ok-written.ensures.made in
+    let more = made_all g.B.Bank.gives g.B.Bank.readies g.B.Bank.at_step (made_all g.B.Bank.gives g.B.Bank.readies g.B.Bank.at_step c.loop-i.invariant.made c.free.ensures.made) c.in_ok-write_line.ensures.made in
     record {
       made =
-          subst (λ (ws : List (ℕ × List ℕ)). Made g.B.Bank.gives g.B.Bank.readies g.B.Bank.at_step ws c.args.node.now c.args.bank.now c.written.new.node c.written.new.bank)
+          subst (λ (ws : List (ℕ × List ℕ)). Made g.B.Bank.gives g.B.Bank.readies g.B.Bank.at_step ws c.args.node.now c.args.bank.now c.write_line.new.node c.write_line.new.bank)
           (item_more c.args.source.now c.args.lines c.loop-i.i _ _ c.line_of-line.ensures.place c.words_of.ensures) more;
-      still = subst (λ (ws : List (ℕ × List ℕ)). IsStillBankOf c.args.node.now.keeps ws g.B.Bank.way g.B.Bank.keep g.B.Bank.at_step g.B.Bank.gives g.B.Bank.readies g.B.Bank.told c.args.bank.now c.written.new.node c.written.new.bank)
-          (ap (λ (ws : List (ℕ × List ℕ)). ws ++ item_writes c.args.source.now c.args.lines c.loop-i.i) c.in_ok-written.ensures.still.2 ∙ item_more c.args.source.now c.args.lines c.loop-i.i _ _ c.line_of-line.ensures.place c.words_of.ensures)
-          (still_then (still_then c.loop-i.invariant.still c.free.ensures.still) c.in_ok-written.ensures.still.1);
+      still = subst (λ (ws : List (ℕ × List ℕ)). IsStillBankOf c.args.node.now.keeps ws g.B.Bank.way g.B.Bank.keep g.B.Bank.at_step g.B.Bank.gives g.B.Bank.readies g.B.Bank.receipts c.args.bank.now c.write_line.new.node c.write_line.new.bank)
+          (ap (λ (ws : List (ℕ × List ℕ)). ws ++ item_writes c.args.source.now c.args.lines c.loop-i.i) c.in_ok-write_line.ensures.still.2 ∙ item_more c.args.source.now c.args.lines c.loop-i.i _ _ c.line_of-line.ensures.place c.words_of.ensures)
+          (still_then (still_then c.loop-i.invariant.still c.free.ensures.still) c.in_ok-write_line.ensures.still.1);
     }
 
 pub returns : goal.returns
@@ -64,15 +64,15 @@ free-requires-clause-ready g c κs within = c.loop-i.invariant.still.ready
 pub free-requires-clause-room : goal.free-requires-clause-room
 free-requires-clause-room g c κs within = subst (λ w. c.args.lines < w.lines) (sym c.loop-i.invariant.still.same_way) c.requires.room
 
-pub written-requires-clause-ready : goal.written-requires-clause-ready
-written-requires-clause-ready g c κs within = c.free.ensures.still.ready
+pub write_line-requires-clause-ready : goal.write_line-requires-clause-ready
+write_line-requires-clause-ready g c κs within = c.free.ensures.still.ready
 
-pub written-requires-clause-line : goal.written-requires-clause-line
-written-requires-clause-line g c κs within =
+pub write_line-requires-clause-line : goal.write_line-requires-clause-line
+write_line-requires-clause-line g c κs within =
     subst (λ w. c.line_of-line.result < w.lines) (sym (c.free.ensures.still.same_way ∙ c.loop-i.invariant.still.same_way)) (omega (arith, c.line_of-line.ensures.inside, c.requires.room))
 
-pub written-requires-clause-fits : goal.written-requires-clause-fits
-written-requires-clause-fits g c κs within =
+pub write_line-requires-clause-fits : goal.write_line-requires-clause-fits
+write_line-requires-clause-fits g c κs within =
     let line = c.line_of-line.result in let words = c.words_of.result in let source = c.args.source.now in let lines = c.args.lines in let i = c.loop-i.i in
     let some = c.requires.size.1 in
     let item = item_fits source lines i (omega (arith, some)) c.loop-i-test.true in

@@ -40,17 +40,17 @@ returns-in_err-right g c =
       worked = ([], worked_then (worked_then own.worked left.worked) right.worked, IfOk-from_err r.result _ r.ensures.0);
     }
 
-pub written-requires-clause-ready : goal.written-requires-clause-ready
-written-requires-clause-ready g c κs within = may_call c.cell_behind.ensures.worked.ready
+pub write_line-requires-clause-ready : goal.write_line-requires-clause-ready
+write_line-requires-clause-ready g c κs within = may_call c.cell_behind.ensures.worked.ready
 
-pub written-requires-clause-line : goal.written-requires-clause-line
-written-requires-clause-line g c κs within =
+pub write_line-requires-clause-line : goal.write_line-requires-clause-line
+write_line-requires-clause-line g c κs within =
     let same = c.cell_behind.ensures.worked.same_way ∙ c.cell_before.ensures.worked.same_way ∙ c.awaited.ensures.worked.same_way in
     let low = c.requires.tile in let lines = c.requires.work.lines_are in
     subst (λ w. c.line_at-line.result < w.lines) (sym same) (omega (arith, low, lines, c.line_at-line.ensures))
 
-pub written-requires-clause-fits : goal.written-requires-clause-fits
-written-requires-clause-fits g c κs within =
+pub write_line-requires-clause-fits : goal.write_line-requires-clause-fits
+write_line-requires-clause-fits g c κs within =
     let work = c.requires.work in let cells = c.args.work.cells.now in let tile = c.args.tile in let phase = c.args.phase in
     let whole = work.whole in
     let same = c.cell_behind.ensures.worked.same_fact ∙ c.cell_before.ensures.worked.same_fact ∙ c.awaited.ensures.worked.same_fact in
@@ -67,17 +67,17 @@ line_at-line-requires g c = let low = c.requires.tile in let few = c.requires.wo
 
 pub returns : goal.returns
 returns g c =
-    let own = c.awaited.ensures in let left = c.cell_before.ensures in let right = c.cell_behind.ensures in let last = c.written.ensures in
+    let own = c.awaited.ensures in let left = c.cell_before.ensures in let right = c.cell_behind.ensures in let last = c.write_line.ensures in
     let cells = c.args.work.cells.now in let tile = c.args.tile in let phase = c.args.phase in let next = c.advanced.result in let whole = c.requires.work.whole in
     let inside : 7 * tile + 7 ≤ length cells = let low = c.requires.tile in omega (arith, whole, low) in
     let holds = advanced_holds cells phase tile c.in_ok-left.left c.in_ok-own.own c.in_ok-right.right next c.in_ok-own.ensures.cells c.in_ok-left.ensures.cell c.in_ok-right.ensures.cell inside c.advanced.ensures.cells in
     let eight : length next ≡ 8 = search rules in
     let is = tile_is cells (phase + 1) tile next eight inside (omega (arith, c.advanced.ensures.phase, c.in_ok-own.ensures.number)) holds in
     record {
-      err = IfErr-weaker c.written.result ComesInCall ComesInWork of_call last.err;
+      err = IfErr-weaker c.write_line.result ComesInCall ComesInWork of_call last.err;
       worked = (
         _,
         worked_then (worked_then (worked_then own.worked left.worked) right.worked) (worked_still right.worked.ready last.still.1),
-        on_ok_then c.written.result (λ wrote. ap (λ (ws : List (ℕ × List ℕ)). ws ++ []) wrote ∙ ap (λ (l : ℕ). (l, next) ∷ []) c.line_at-line.ensures ∙ ap (λ (w : List ℕ). (2 * tile + (phase + 1) % 2, w) ∷ []) is) last.still.2,
+        on_ok_then c.write_line.result (λ wrote. ap (λ (ws : List (ℕ × List ℕ)). ws ++ []) wrote ∙ ap (λ (l : ℕ). (l, next) ∷ []) c.line_at-line.ensures ∙ ap (λ (w : List ℕ). (2 * tile + (phase + 1) % 2, w) ∷ []) is) last.still.2,
       );
     }

@@ -12,7 +12,7 @@ pub loop-tile-init : goal.loop-tile-init
 loop-tile-init g c =
     let work = c.args.work in let low = c.requires.nodes.0 in
     record {
-      worked = subst (λ (ws : List (ℕ × List ℕ)). HasWorked c.args.node.now.keeps ws g.B.Bank.way g.B.Bank.keep g.B.Bank.at_step g.B.Bank.gives g.B.Bank.readies g.B.Bank.told c.args.bank.now c.args.node.now c.args.bank.now) (first_tile work.cells.now work.nodes c.args.number (c.args.phase + 1) low) (worked_not c.requires.ready);
+      worked = subst (λ (ws : List (ℕ × List ℕ)). HasWorked c.args.node.now.keeps ws g.B.Bank.way g.B.Bank.keep g.B.Bank.at_step g.B.Bank.gives g.B.Bank.readies g.B.Bank.receipts c.args.bank.now c.args.node.now c.args.bank.now) (first_tile work.cells.now work.nodes c.args.number (c.args.phase + 1) low) (worked_not c.requires.ready);
       own = mod-eq_of_lt low;
       near = omega (arith, low);
     }
@@ -24,7 +24,7 @@ pub loop-tile-preserved : goal.loop-tile-preserved
 loop-tile-preserved g c =
     let was = c.loop-tile.invariant in let e = c.in_ok-advance.ensures in let tile = c.loop-tile.tile in let n = c.args.work.nodes in
     record {
-      worked = subst (λ (ws : List (ℕ × List ℕ)). HasWorked c.args.node.now.keeps ws g.B.Bank.way g.B.Bank.keep g.B.Bank.at_step g.B.Bank.gives g.B.Bank.readies g.B.Bank.told c.args.bank.now c.advance.new.node c.advance.new.bank)
+      worked = subst (λ (ws : List (ℕ × List ℕ)). HasWorked c.args.node.now.keeps ws g.B.Bank.way g.B.Bank.keep g.B.Bank.at_step g.B.Bank.gives g.B.Bank.readies g.B.Bank.receipts c.args.bank.now c.advance.new.node c.advance.new.bank)
           (tile_more c.args.work.cells.now n c.args.number (c.args.phase + 1) tile _ _ e.worked.0 c.requires.nodes.0 was.own e.worked.2 refl refl) (worked_then was.worked e.worked.1);
       own = add-mod_right tile n ∙ was.own;
       near = omega (arith, c.loop-tile-test.true);

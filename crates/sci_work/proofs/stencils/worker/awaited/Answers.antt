@@ -8,18 +8,18 @@ use Rattle.sci_work.proofs.Showing.{shown}
 use Rattle.sci_work.proofs.Worked.{may_call, worked_still}
 use Rattle.sci_work.proofs.stencils.worker.awaited.Goals as goal
 
-pub reached-requires-clause-ready : goal.reached-requires-clause-ready
-reached-requires-clause-ready g c κs within = may_call c.requires.ready
+pub load_until-requires-clause-ready : goal.load_until-requires-clause-ready
+load_until-requires-clause-ready g c κs within = may_call c.requires.ready
 
 pub line_at-line-requires : goal.line_at-line-requires
 line_at-line-requires g c = let low = c.requires.tile in let few = c.requires.work.few in omega (arith, low, few)
 
-pub reached-requires-clause-line : goal.reached-requires-clause-line
-reached-requires-clause-line g c κs within = let low = c.requires.tile in let lines = c.requires.work.lines_are in omega (arith, low, lines, c.line_at-line.ensures)
+pub load_until-requires-clause-line : goal.load_until-requires-clause-line
+load_until-requires-clause-line g c κs within = let low = c.requires.tile in let lines = c.requires.work.lines_are in omega (arith, low, lines, c.line_at-line.ensures)
 
 pub returns-in_err-words : goal.returns-in_err-words
 returns-in_err-words g c =
-    let e = c.reached.ensures in let r = c.from_residual in
+    let e = c.load_until.ensures in let r = c.from_residual in
     let b = worked_still c.requires.ready e.still in
     record {
       number = IfOk-from_err r.result _ r.ensures.0;
@@ -30,7 +30,7 @@ returns-in_err-words g c =
 
 pub returns-then-words-number : goal.returns-then-words-number
 returns-then-words-number g c =
-    let e = c.reached.ensures in let work = c.requires.work in
+    let e = c.load_until.ensures in let work = c.requires.work in
     let cells = c.args.work.cells.now in let phases = c.args.work.phases in let line = c.line_at-line.result in let words = c.in_ok-words.words in
     let b = worked_still c.requires.ready e.still in
     let there = subst (λ (l : ℕ). FitsStencil cells phases l words) c.line_at-line.ensures (work.gives line words c.in_ok-words.ensures.fits) in
@@ -43,6 +43,6 @@ returns-then-words-number g c =
 
 pub returns : goal.returns
 returns g c =
-    let e = c.reached.ensures in
+    let e = c.load_until.ensures in
     let b = worked_still c.requires.ready e.still in
     record { number = tt; cells = tt; err = tt; worked = b }

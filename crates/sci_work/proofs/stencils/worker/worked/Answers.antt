@@ -12,7 +12,7 @@ use Rattle.sci_work.proofs.stencils.worker.worked.Goals as goal
 pub loop-phase-init : goal.loop-phase-init
 loop-phase-init g c =
     let e = c.in_ok-open_all.ensures in let work = c.args.work in
-    subst (λ (ws : List (ℕ × List ℕ)). HasWorked c.args.node.now.keeps ws g.B.Bank.way g.B.Bank.keep g.B.Bank.at_step g.B.Bank.gives g.B.Bank.readies g.B.Bank.told c.args.bank.now c.open_all.new.node c.open_all.new.bank) (first_phase work.cells.now work.nodes work.tiles c.args.number e.worked.0 e.worked.2) e.worked.1
+    subst (λ (ws : List (ℕ × List ℕ)). HasWorked c.args.node.now.keeps ws g.B.Bank.way g.B.Bank.keep g.B.Bank.at_step g.B.Bank.gives g.B.Bank.readies g.B.Bank.receipts c.args.bank.now c.open_all.new.node c.open_all.new.bank) (first_phase work.cells.now work.nodes work.tiles c.args.number e.worked.0 e.worked.2) e.worked.1
 
 pub advance_all-requires-clause-work : goal.advance_all-requires-clause-work
 advance_all-requires-clause-work g c κs within = rw (c.loop-phase.invariant.same_fact, c.loop-phase.invariant.same_way) c.requires.work
@@ -20,7 +20,7 @@ advance_all-requires-clause-work g c κs within = rw (c.loop-phase.invariant.sam
 pub loop-phase-preserved : goal.loop-phase-preserved
 loop-phase-preserved g c =
     let was = c.loop-phase.invariant in let e = c.in_ok-advance_all.ensures in let work = c.args.work in
-    subst (λ (ws : List (ℕ × List ℕ)). HasWorked c.args.node.now.keeps ws g.B.Bank.way g.B.Bank.keep g.B.Bank.at_step g.B.Bank.gives g.B.Bank.readies g.B.Bank.told c.args.bank.now c.advance_all.new.node c.advance_all.new.bank)
+    subst (λ (ws : List (ℕ × List ℕ)). HasWorked c.args.node.now.keeps ws g.B.Bank.way g.B.Bank.keep g.B.Bank.at_step g.B.Bank.gives g.B.Bank.readies g.B.Bank.receipts c.args.bank.now c.advance_all.new.node c.advance_all.new.bank)
     (next_phase work.cells.now work.nodes work.tiles c.args.number c.loop-phase.phase e.worked.0 e.worked.2) (worked_then was e.worked.1)
 
 pub collect-requires-clause-work : goal.collect-requires-clause-work

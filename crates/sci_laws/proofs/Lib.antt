@@ -1,0 +1,13 @@
+pub mod Plain
+pub mod OwnLines
+pub mod Accepting
+pub mod PlainLines
+pub mod NotedBack
+pub mod Suiting
+pub mod Taking
+pub mod TurnsFollowed
+pub mod Along
+pub mod Going
+pub mod Kept
+pub mod Fed
+pub mod LogFollows

@@ -1,0 +1,8 @@
+//! Laws of what talks and logs say of a script
+#![tactic(auto)]
+
+mod logs;
+mod talks;
+
+pub use logs::{entries_are_read_back, logs_follow, turns_are_followed};
+pub use talks::script_is_talked;

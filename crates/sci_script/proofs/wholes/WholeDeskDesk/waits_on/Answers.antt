@@ -1,6 +1,0 @@
-use Rattle.sci_script.specs.Wholes.{shared_of}
-use Rattle.sci_script.proofs.Stuck.{waits_again}
-use Rattle.sci_script.proofs.wholes.WholeDeskDesk.waits_on.Goals as goal
-
-pub returns : goal.returns
-returns c = λ e s t node h. waits_again (shared_of s) (shared_of t) node h
