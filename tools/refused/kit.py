@@ -24,15 +24,17 @@ def load():
 
 
 def linked(folder, to):
-    """Copies a folder of kept work, by links where it can: the prover replaces such a file, and writes into none."""
+    """Copies a folder of kept work, its modules by links where it can: the prover replaces a module, and writes into its notes."""
     shutil.copytree(folder, to, copy_function=link_or_copy, dirs_exist_ok=True)
 
 
 def link_or_copy(file, to):
     try:
-        os.link(file, to)
+        if file.endswith(".oantt"):
+            return os.link(file, to)
     except OSError:
-        shutil.copy2(file, to)
+        pass
+    return shutil.copy2(file, to)
 
 
 def sum_of(folder):

@@ -1,7 +1,7 @@
 """Tests tools/refused on a small crate: edits that are refused, by search alone too, and each way in which an edit fails, beside
 `rt ci` and without it; which edits a run tries; that the edits of must-fail/ begin over what `rt ci` proved of the crate; that no edit
-counts where the folder that they were tried over has changed behind them; which libraries are taken as they were built; and which
-proofs get more jobs."""
+counts where the folder that they were tried over has changed behind them, and that a check changes its copy alone; which libraries are
+taken as they were built; and which proofs get more jobs."""
 
 import contextlib
 import importlib.util
@@ -22,7 +22,7 @@ sys.dont_write_bytecode = True
 import gate
 import turns
 from edits import Edit, read_edits
-from kit import RATTLE, RT
+from kit import RATTLE, RT, linked
 from tasks import report
 from trying import Trial
 
@@ -251,6 +251,21 @@ def faults_of_last_look():
     return [] if counts == [(1, 0), (0, 1)] else ["an edit counts though what it was tried over isn't what was proved"]
 
 
+def faults_of_links():
+    """Returns what isn't as it must be where a check writes into a copy of kept work: into notes, which the prover does."""
+    with tempfile.TemporaryDirectory(prefix="refused-test-") as folder:
+        kept, copy = pathlib.Path(folder, "kept"), pathlib.Path(folder, "copy")
+        kept.mkdir()
+        for name in ("module.oantt", "compared"):
+            (kept / name).write_text("proved", encoding="utf-8")
+        linked(kept, copy)
+        with open(copy / "compared", "a", encoding="utf-8") as it:
+            it.write("edited")
+        own = {it.name: (it.read_text(encoding="utf-8"), it.samefile(copy / it.name)) for it in kept.iterdir()}
+    wanted = {"module.oantt": ("proved", True), "compared": ("proved", False)}
+    return [] if own == wanted else [f"what was kept is, behind a check over its copy, {own}"]
+
+
 def faults_of_lanes():
     """Returns what isn't as it must be of which proofs get more jobs, and how many: those that all others wait for, but those below them,
     as many as there are lanes, but four at the most, and what the kit gives them where no number of lanes is told."""
@@ -435,7 +450,7 @@ def faults_alone():
 
 
 def main():
-    faults = faults_of_reading() + faults_of_words() + faults_of_turns() + faults_of_lanes() + faults_of_gate() + faults_of_last_look()
+    faults = faults_of_reading() + faults_of_words() + faults_of_turns() + faults_of_lanes() + faults_of_gate() + faults_of_last_look() + faults_of_links()
     faults += faults_of_libraries() + faults_alone()
     for it in faults:
         print(f"the test of tools/refused: {it}")
