@@ -31,7 +31,7 @@ ORDERED = {
     'sci_pages/src/run/rows.rt': lambda text: ['Look', *re.findall(r'^  ([A-Z]\w+):', text, re.M)],
 }
 # Where each stands once, in whatever order.
-READ = ('sci_follow/src/event_names.rt', 'sci_follow/src/event_text.rt')
+READ = ('sci_logs/src/event_names.rt', 'sci_logs/src/event_text.rt')
 
 
 def faults():

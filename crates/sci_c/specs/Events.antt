@@ -6,7 +6,7 @@ use Rattle.sci_words.specs.Tag.{link_below}
 use Rattle.sci_core.specs.declared.events.Event.{Event}
 use Rattle.sci_core.specs.EventNumber.{event_number}
 use Rattle.sci_c.specs.declared.events.EventNumbers.{EventNumbers}
-use Rattle.sci_c.specs.Links.{link_number, link_meant, fits_tag}
+use Rattle.sci_c.specs.Links.{fits_tag, link_meant, link_number, no_node}
 
 -- an event that carries nothing
 abbrev pub bare : ℕ → EventNumbers
@@ -49,8 +49,8 @@ event_numbers e = numbers_with (event_number e) e
 
 -- an event has numbers: its link names a node, and its tag has a code
 abbrev pub fits_event : Event → Bool
-fits_event (Event.Queue f) = link_below 65535 f
-fits_event (Event.Requeue f) = link_below 65535 f
+fits_event (Event.Queue f) = link_below no_node f
+fits_event (Event.Requeue f) = link_below no_node f
 fits_event (Event.AttachFresh t) = fits_tag t
 fits_event (Event.Hold t) = fits_tag t
 fits_event (Event.Convert t) = fits_tag t

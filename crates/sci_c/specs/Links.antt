@@ -7,26 +7,30 @@ use Rattle.sci_words.specs.Codes.{tag_code, mem_code, tag_code_in, mem_code_in, 
 use Rattle.sci_words.specs.Tag.{tag_well_formed, tag_links_below}
 use Rattle.sci_words.specs.Mem.{mem_well_formed, mem_links_below}
 
--- the number of a link, as in a word: 65,535 stands for none
+-- what stands for no node, behind the numbers of all nodes
+abbrev pub no_node : ℕ
+no_node = 65535
+
+-- the number of a link, as in a word
 abbrev pub link_number : Option ℕ → ℕ
-link_number None = 65535
+link_number None = no_node
 link_number (Some node) = node
 
 -- the link that a number means
 abbrev pub link_meant : ℕ → Option ℕ
-link_meant n = cond (n == 65535) None (Some n)
+link_meant n = cond (n == no_node) None (Some n)
 
 -- the node that a number means, and 0 where it means none
 abbrev pub node_meant : ℕ → ℕ
-node_meant n = cond (n == 65535) 0 n
+node_meant n = cond (n == no_node) 0 n
 
 -- a tag has a code: it is well formed, and its links name nodes
 abbrev pub fits_tag : Tag → Bool
-fits_tag t = tag_well_formed t && tag_links_below 65535 t
+fits_tag t = tag_well_formed t && tag_links_below no_node t
 
 -- a memory word has a code
 abbrev pub fits_mem : Mem → Bool
-fits_mem m = mem_well_formed m && mem_links_below 65535 m
+fits_mem m = mem_well_formed m && mem_links_below no_node m
 
 -- the word is the code of this tag, in layout 2
 abbrev pub IsTag : ℕ → Tag → Type 0

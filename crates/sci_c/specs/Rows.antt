@@ -12,7 +12,7 @@ use Rattle.sci_core.specs.declared.outlines.Motion.TheVariants.{Stays, Takes, Gi
 use Rattle.sci_core.specs.declared.outlines.Outline.{Outline}
 use Rattle.sci_c.specs.declared.lines.LineNumbers.{LineNumbers}
 use Rattle.sci_c.specs.declared.rows.RowNumbers.{RowNumbers}
-use Rattle.sci_c.specs.Links.{fits_tag, fits_mem}
+use Rattle.sci_c.specs.Links.{fits_mem, fits_tag, no_node}
 use Rattle.sci_c.specs.Steps.{fits_step, step_numbers}
 
 abbrev pub line_of : LineNumbers → Line
@@ -23,7 +23,7 @@ line_numbers l = record { words = l.words; stamp = l.stamp }
 
 -- whose word is changed: 65,535 stands for memory's
 abbrev pub changed_number : Change → ℕ
-changed_number (OfMemory before after) = 65535
+changed_number (OfMemory before after) = no_node
 changed_number (OfTag x before after) = x
 
 -- the codes of that word before and after
@@ -37,7 +37,7 @@ after_code (OfTag x before after) = tag_code after
 
 -- whose slot: 65,535 stands for memory's
 abbrev pub place_number : Place → ℕ
-place_number Memory = 65535
+place_number Memory = no_node
 place_number (Node x) = x
 
 -- what becomes of a slot: 0 none moves, 1 its line is taken, 2 a line is given back into it

@@ -6,7 +6,7 @@ use Rattle.sci_words.specs.Layout.{bit}
 use Rattle.sci_words.specs.Tag.{link_below}
 use Rattle.sci_core.specs.declared.stages.Stage.{Stage}
 use Rattle.sci_c.specs.declared.steps.StepNumbers.{StepNumbers}
-use Rattle.sci_c.specs.Links.{link_number, link_meant, node_meant, fits_tag}
+use Rattle.sci_c.specs.Links.{fits_tag, link_meant, link_number, no_node, node_meant}
 
 -- a step that keeps no tag and has seen nothing
 abbrev pub plain : ℕ → ℕ → ℕ → StepNumbers
@@ -52,31 +52,31 @@ step_numbers (Stage.Unlinked f b) = record { step = 16; flag = 0; has = 0; kept 
 
 abbrev pub fits_seen : Option (Option ℕ) → Bool
 fits_seen None = true
-fits_seen (Some f) = link_below 65535 f
+fits_seen (Some f) = link_below no_node f
 
 abbrev pub fits_pair : Option (Option ℕ × ℕ) → Bool
 fits_pair None = true
-fits_pair (Some seen) = link_below 65535 seen.0 && link_below 65535 (Some seen.1)
+fits_pair (Some seen) = link_below no_node seen.0 && link_below no_node (Some seen.1)
 
 -- a step has numbers: its links name nodes, and its tag has a code
 abbrev pub fits_step : Stage → Bool
 fits_step Stage.Idle = true
 fits_step (Stage.Holding w) = fits_tag w
-fits_step (Stage.Queueing f) = link_below 65535 f
-fits_step (Stage.Fetching f d) = link_below 65535 f
-fits_step (Stage.InQueue f d c) = link_below 65535 f
-fits_step (Stage.Copying x w) = link_below 65535 (Some x) && fits_tag w
-fits_step (Stage.Ready f d) = link_below 65535 f
-fits_step (Stage.Converting f turned) = link_below 65535 f
+fits_step (Stage.Queueing f) = link_below no_node f
+fits_step (Stage.Fetching f d) = link_below no_node f
+fits_step (Stage.InQueue f d c) = link_below no_node f
+fits_step (Stage.Copying x w) = link_below no_node (Some x) && fits_tag w
+fits_step (Stage.Ready f d) = link_below no_node f
+fits_step (Stage.Converting f turned) = link_below no_node f
 fits_step (Stage.Purging seen) = fits_seen seen
-fits_step (Stage.Advancing x w) = link_below 65535 (Some x) && fits_tag w
-fits_step (Stage.Clearing x w) = link_below 65535 (Some x) && fits_tag w
+fits_step (Stage.Advancing x w) = link_below no_node (Some x) && fits_tag w
+fits_step (Stage.Clearing x w) = link_below no_node (Some x) && fits_tag w
 fits_step (Stage.Leaving d seen) = fits_seen seen
-fits_step (Stage.Promoted d x) = link_below 65535 (Some x)
+fits_step (Stage.Promoted d x) = link_below no_node (Some x)
 fits_step Stage.WritingBack = true
-fits_step (Stage.Parted f) = link_below 65535 f
+fits_step (Stage.Parted f) = link_below no_node f
 fits_step (Stage.Rolling told seen) = fits_pair seen
-fits_step (Stage.Unlinked f b) = link_below 65535 f && link_below 65535 (Some b)
+fits_step (Stage.Unlinked f b) = link_below no_node f && link_below no_node (Some b)
 
 -- these are the numbers of this step
 abbrev pub IsStep : StepNumbers → Stage → Type 0

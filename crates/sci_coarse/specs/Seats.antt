@@ -53,15 +53,3 @@ pub record HasTerms {K : Type 0} (l : CoarseLine K) (n m : ℕ) (line : Line) (k
   pub number : l.terms.number ≡ m
   pub opening : l.terms.opening ≡ line
   pub keep : l.terms.keep ≡ k
-
--- the seat is that of the node k, at a line of this number
-abbrev pub SitsAt : {K : Type 0} {g : keeps.Ghosts K} → ℕ → ℕ → Seat K g → Type 0
-SitsAt number k s = (s.node ≡ k) × (s.standing.terms.number ≡ number)
-
--- one seat per node, in order, with the line's number
-abbrev pub IsOnePerNode : {K : Type 0} {g : keeps.Ghosts K} → CoarseLine K → List (Seat K g) → Type 0
-IsOnePerNode {K} {g} l seats = (length seats ≡ l.terms.nodes) × ((k : ℕ) (s : Seat K g) → get_elem? seats k ≡ some s → SitsAt l.terms.number k s)
-
--- 9 where the list is not one seat per node in order, else 7
-abbrev pub IsRightRefusal : {K : Type 0} {g : keeps.Ghosts K} → CoarseLine K → List (Seat K g) → ℕ → Type 0
-IsRightRefusal l seats refusal = ((refusal ≡ 9) × (IsOnePerNode l seats → ⊥)) ⊎ ((refusal ≡ 7) × IsOnePerNode l seats)

@@ -16,7 +16,7 @@ mod taking;
 mod views;
 
 pub use bank::{CoarseBank, SeatOfAnother};
-pub use closing::{FinishRefusal, Finished};
+pub use closing::FinishRefusal;
 pub use laws::{law_of_kept_receipts, law_of_one_run};
 pub use line::CoarseLine;
 pub use port::CoarsePort;

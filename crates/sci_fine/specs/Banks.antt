@@ -20,6 +20,14 @@ terms_of t = record { nodes = t.nodes; number = t.number; keep = t.keep }
 abbrev pub seating_of : {K : Type 0} {g : keeps.Ghosts K} → Seat K g → Seating K
 seating_of s = record { terms = terms_of s.standing.terms; node = s.standing.node; pending = s.standing.pending; receipts = s.receipts }
 
+-- one seat per node of the line, in order, with the line's number
+abbrev pub IsOnePerNode : {K : Type 0} {g : keeps.Ghosts K} → FineLine K → List (Seat K g) → Type 0
+IsOnePerNode {K} {g} l seats = shared.IsOnePerNode (λ (l : FineLine K). terms_of l.terms) (λ (s : Seat K g). seating_of s) l seats
+
+-- 9 where they are not, else 7
+abbrev pub IsRightRefusal : {K : Type 0} {g : keeps.Ghosts K} → FineLine K → List (Seat K g) → ℕ → Type 0
+IsRightRefusal {K} {g} l seats refusal = shared.IsRightRefusal (λ (l : FineLine K). terms_of l.terms) (λ (s : Seat K g). seating_of s) l seats refusal
+
 -- the line numbered k, of so many nodes and under this fact
 abbrev pub IsLine : {K : Type 0} → ℕ → K → ℕ → FineLine K → Type 0
 IsLine nodes keep k l = shared.IsLine nodes keep k (terms_of l.terms)

@@ -6,7 +6,8 @@ ghost use Rattle.sci_port.specs.declared.calls.Call as a_call;
 ghost use Rattle.std.specs.Slots.{slots_items, slots_len, IsFull};
 ghost use Rattle.sci_core.specs.declared.pending.Pending.TheVariants.{Idle};
 ghost use Rattle.sci_core.specs.declared.receipts.Receipt as a_receipt;
-ghost use Rattle.sci_fine.specs.Seats.{AreIdleFrom, IsOnePerNode, IsRightRefusal, IsSeatOf, SitsAt, logs_of};
+ghost use Rattle.sci_fine.specs.Banks.{IsOnePerNode, IsRightRefusal};
+ghost use Rattle.sci_fine.specs.Seats.{AreIdleFrom, IsSeatOf, logs_of};
 ghost use Rattle.sci_fine.specs.Rule.{lies_at};
 ghost use Rattle.sci_fine.specs.Ends.{IsEnd, IsAtRest};
 ghost use Rattle.sci_fine.specs.Kept.{IsFinished, lists_of};
@@ -16,45 +17,12 @@ use crate::line::FineLine;
 use crate::seats::{Seat, Token};
 use crate::views::{Terms, Together};
 use sci_core::{Closed, Keeps, Line, Receipt};
+use sci_port::{Finished, are_one_per_node, room_for};
 use sci_words::{LineNo, Tag, read_mem, read_tag};
 use std::alloc::{AllocError, Global};
 
-/// A line that was closed, and what its nodes kept of it.
-#[derive(Drop)]
-pub struct Finished {
-    pub closed: Closed,
-    /// Node i's receipts at place i, in its order.
-    pub receipts: Vec<Vec<Receipt>>,
-}
-
 /// A line that was not closed. The line and the seats come back as they were.
-#[derive(Drop)]
-pub struct FinishRefusal<K: Keeps> {
-    pub line: FineLine<K>,
-    pub seats: Vec<Seat<K>>,
-    /// 9: the seats are not one per node in order. 7: memory ran out.
-    pub refusal: u8,
-}
-
-// The seat is that of the node of this number, at a line of this number.
-fn sits_at<K: Keeps>(seat: &Seat<K>, place: usize, number: LineNo) -> bool
-    ensures { IsTrue result ↔ SitsAt number place seat.now }
-{
-    usize::from(seat.node().get()) == place && seat.number() == number
-}
-
-// Room for the tags, the lines and the receipts of so many nodes.
-fn room_for(
-    alloc: Global,
-    nodes: u16,
-) -> Result<(Vec<Tag>, Vec<Line>, Vec<Vec<Receipt>>), AllocError>
-    ensures { IfOk result (λ room. (vec_len room.0 ≡ 0) × (vec_len room.1 ≡ 0) × (room.2.items ≡ []) × (nodes ≤ vec_capacity room.0) × (nodes ≤ vec_capacity room.1) × (nodes ≤ vec_capacity room.2)) }
-{
-    let tags = Vec::with_capacity(alloc, usize::from(nodes))?;
-    let lines = Vec::with_capacity(alloc, usize::from(nodes))?;
-    let lists = Vec::with_capacity(alloc, usize::from(nodes))?;
-    Ok((tags, lines, lists))
-}
+pub type FinishRefusal<K> = sci_port::FinishRefusal<FineLine<K>, Seat<K>>;
 
 // Reads the words and takes the lines of a table that nobody shares any more.
 fn read_out<K: Keeps>(
@@ -93,21 +61,6 @@ fn read_out<K: Keeps>(
 }
 
 impl<K: Keeps> FineLine<K> {
-    // The list has one seat per node, in order, with this line's number.
-    fn has_seats(&self, seats: &[Seat<K>]) -> bool
-        ensures { IsTrue result ↔ IsOnePerNode self.now seats.now }
-    {
-        if seats.len() != usize::from(self.terms.nodes) {
-            return false;
-        }
-        for (place, seat) in seats.iter().enumerate() {
-            if !sits_at(seat, place, self.terms.number) {
-                return false;
-            }
-        }
-        true
-    }
-
     /// The line as it stands once nobody uses it any more: an exact sharing list, and what each seat kept. The seats are to be of
     /// this very line, and Idle. Where each has kept all, the receipts are one history of the line, whole. The refusals: 9 where
     /// they are not one per node in order with this line's number, then 7 where memory ran out. Both hand the line and the seats
@@ -119,15 +72,15 @@ impl<K: Keeps> FineLine<K> {
         ensures ok { IfOk result (λ f. IsFinished K.fits self.terms seats.items f.closed (map (λ (v : Vec a_receipt.Receipt). v.items) f.receipts.items)) }
         ensures err { IfErr result (λ e. (e.line ≡ self) × (e.seats ≡ seats) × IsRightRefusal self seats.items e.refusal) }
     {
-        if !self.has_seats(&seats) {
-            return Err(FinishRefusal {
+        if !are_one_per_node(&self, &seats) {
+            return Err(sci_port::FinishRefusal {
                 line: self,
                 seats,
                 refusal: 9,
             });
         }
         let Ok((tags, lines, lists)) = room_for(alloc, self.terms.nodes) else {
-            return Err(FinishRefusal {
+            return Err(sci_port::FinishRefusal {
                 line: self,
                 seats,
                 refusal: 7,

@@ -16,7 +16,7 @@ mod stepping;
 mod views;
 
 pub use bank::{FineBank, SeatOfAnother};
-pub use closing::{FinishRefusal, Finished};
+pub use closing::FinishRefusal;
 pub use laws::{law_of_kept_receipts, law_of_one_run};
 pub use line::FineLine;
 pub use port::FinePort;

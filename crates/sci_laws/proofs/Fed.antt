@@ -19,19 +19,19 @@ use Rattle.sci_script.specs.Openings.{content_of, zeros}
 use Rattle.sci_script.specs.Size.{IsSize}
 use Rattle.sci_script.specs.Unused.{AreOpened, no_line}
 use Rattle.sci_script.specs.Words.{is_skipped}
-use Rattle.sci_follow.specs.declared.entries.Deviation.{Deviation}
-use Rattle.sci_follow.specs.declared.lines.Follower.{Follower}
-use Rattle.sci_follow.specs.declared.logs.Log.{Log}
-use Rattle.sci_follow.specs.declared.logs.LogFault.{LogFault}
-use Rattle.sci_follow.specs.declared.parts.Lack.{Lack}
-use Rattle.sci_follow.specs.declared.parts.Part.{Part}
-use Rattle.sci_follow.specs.declared.told.Noted.{Noted}
-use Rattle.sci_follow.specs.LineText.{◌>>=◌, acting_at, label_at, lack, memory_at, noted_at, numbered_at, opening_at, size_part, wants, word_and_space_at}
-use Rattle.sci_follow.specs.Logs.{Begins, Continues, Ends, Feeds, FeedsBy, Notes, Opens, Reads}
-use Rattle.sci_follow.specs.Steps.{AreUnused, Reopens, lines_of, unused, whole_at}
-use Rattle.sci_follow.specs.Streams.{Cuts, FaultsWith, FeedsTo, FollowsAll, Reaches, StopsWith, without_end}
-use Rattle.sci_follow.specs.Told.{IsNotedIn, TakesTold, is_told_in}
-use Rattle.sci_trace.specs.Entries.{opening_line}
+use Rattle.sci_logs.specs.declared.entries.Deviation.{Deviation}
+use Rattle.sci_logs.specs.declared.lines.Follower.{Follower}
+use Rattle.sci_logs.specs.declared.logs.Log.{Log}
+use Rattle.sci_logs.specs.declared.logs.LogFault.{LogFault}
+use Rattle.sci_logs.specs.declared.parts.Lack.{Lack}
+use Rattle.sci_logs.specs.declared.parts.Part.{Part}
+use Rattle.sci_logs.specs.declared.told.Noted.{Noted}
+use Rattle.sci_logs.specs.LineText.{◌>>=◌, acting_at, label_at, lack, memory_at, noted_at, numbered_at, opening_at, size_part, wants, word_and_space_at}
+use Rattle.sci_logs.specs.Logs.{Begins, Continues, Ends, Feeds, FeedsBy, Notes, Opens, Reads}
+use Rattle.sci_logs.specs.Steps.{AreUnused, Reopens, lines_of, unused, whole_at}
+use Rattle.sci_logs.specs.Streams.{Cuts, FaultsWith, FeedsTo, FollowsAll, Reaches, StopsWith, without_end}
+use Rattle.sci_logs.specs.Told.{IsNotedIn, TakesTold, is_told_in}
+use Rattle.sci_logs.specs.TurnText.{opening_line}
 use Rattle.sci_laws.specs.FollowedTurns.{AreReadAs}
 use Rattle.sci_laws.specs.ReadBack.{IsPlain, IsReadAs}
 use Rattle.sci_laws.proofs.Going.{AreNoted, Leads}

@@ -14,19 +14,19 @@ use Rattle.sci_cache.specs.declared.calls.OpenCall.{OpenCall}
 use Rattle.sci_cache.specs.declared.requests.Request.{Request}
 use Rattle.sci_cache.specs.Nodes.{NodeState, IsLine, IsSoundCall, IsSoundNode, call_after, line_by, node_after, node_with, goal_by, op_by}
 use Rattle.sci_cache.specs.Requests.{goal_of, line_of}
-use Rattle.sci_follow.specs.declared.entries.Deviation.{Deviation}
-use Rattle.sci_follow.specs.declared.told.Noted.{Noted}
-use Rattle.sci_follow.specs.Told.{IsNotedIn, TakesTold, is_told_in}
+use Rattle.sci_logs.specs.declared.entries.Deviation.{Deviation}
+use Rattle.sci_logs.specs.declared.told.Noted.{Noted}
+use Rattle.sci_logs.specs.Told.{IsNotedIn, TakesTold, is_told_in}
 use Rattle.sci_script.specs.declared.commands.Size.{Size}
 use Rattle.sci_script.specs.declared.desk.Toward.{Toward}
-use Rattle.sci_script.specs.declared.watching.Passed.{Passed}
+use Rattle.sci_port.specs.declared.watching.Passed.{Passed}
 use Rattle.sci_script.specs.Event.{Event, Began, Turned, Rested}
 use Rattle.sci_script.specs.Passed.{PassesOn, PassesTurnOf, passes_to_rest, shared_passes}
 use Rattle.sci_script.specs.Shared.{Shared, HasNode, TakesRestTurn, TakesTurnOf, shared_does}
 use Rattle.sci_script.specs.Size.{IsSize}
 use Rattle.sci_script.specs.Turns.{TurnsOn}
-use Rattle.sci_trace.specs.Entries.{entries_of}
-use Rattle.sci_trace.specs.Logging.{AddsEntries, AddsRestEntries, logs}
+use Rattle.sci_logs.specs.TurnText.{entries_of}
+use Rattle.sci_logs.specs.Logging.{AddsEntries, AddsRestEntries, logs}
 use Rattle.sci_trace.specs.Telling.{AddsNone, Telling, nothing}
 use Rattle.sci_script.proofs.Sound.{sound_after, sound_with}
 use Rattle.sci_laws.specs.FollowedTurns.{AreFollowed, AreReadAs, AreToldOf, fit, turn_told}

@@ -29,11 +29,11 @@ use Rattle.sci_script.specs.declared.commands.Size.{Size}
 use Rattle.sci_script.specs.Openings.{content_of, zeros}
 use Rattle.sci_script.specs.Size.{IsSize}
 use Rattle.sci_script.specs.Unused.{no_line}
-use Rattle.sci_follow.specs.declared.entries.Deviation.{Deviation}
-use Rattle.sci_follow.specs.declared.lines.Follower.{Follower}
-use Rattle.sci_follow.specs.declared.told.Noted.{Noted}
-use Rattle.sci_follow.specs.Steps.{AreUnused, Judges, Reopens, lines_of, whole_at}
-use Rattle.sci_follow.specs.Told.{TakesAs, TakesTold, meant}
+use Rattle.sci_logs.specs.declared.entries.Deviation.{Deviation}
+use Rattle.sci_logs.specs.declared.lines.Follower.{Follower}
+use Rattle.sci_logs.specs.declared.told.Noted.{Noted}
+use Rattle.sci_logs.specs.Steps.{AreUnused, Judges, Reopens, lines_of, whole_at}
+use Rattle.sci_logs.specs.Told.{TakesAs, TakesTold, meant}
 
 -- ---- one line
 

@@ -23,9 +23,9 @@ use Rattle.sci_script.specs.Request.{no_words}
 use Rattle.sci_script.specs.ScriptText.{Opens}
 use Rattle.sci_script.specs.Shared.{Shared}
 use Rattle.sci_script.specs.Size.{AreIn, IsIn, IsSize, is_in}
-use Rattle.sci_follow.specs.declared.logs.Log.{Log}
-use Rattle.sci_trace.specs.Entries.{log_head, opening_line}
-use Rattle.sci_trace.specs.Logging.{LogLeaves, LogStops, logs}
+use Rattle.sci_logs.specs.declared.logs.Log.{Log}
+use Rattle.sci_logs.specs.TurnText.{log_head, opening_line}
+use Rattle.sci_logs.specs.Logging.{LogLeaves, LogStops, logs}
 use Rattle.sci_trace.specs.Telling.{Telling, telling, telling_is_open}
 use Rattle.sci_script.proofs.Fitting.{AreOpenable, AreSmall, IsSmall, StoreSmall, StoresSmall, script_read}
 use Rattle.sci_laws.specs.FollowedTurns.{IsOfLine, IsSurelyFollowed, fit}

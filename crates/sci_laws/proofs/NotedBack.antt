@@ -10,24 +10,24 @@ use Rattle.sci_core.specs.declared.lines.Line.{Line}
 use Rattle.sci_core.specs.declared.events.Event.{Event}
 use Rattle.sci_script.specs.declared.commands.Opening.{Opening}
 use Rattle.sci_script.specs.declared.commands.Size.{Size}
-use Rattle.sci_script.specs.declared.watching.Ending.{Ending}
-use Rattle.sci_script.specs.declared.watching.Load.{Load}
-use Rattle.sci_script.specs.declared.watching.Passed.{Passed}
+use Rattle.sci_port.specs.declared.watching.Ending.{Ending}
+use Rattle.sci_port.specs.declared.watching.Load.{Load}
+use Rattle.sci_port.specs.declared.watching.Passed.{Passed}
 use Rattle.sci_script.specs.Size.{IsSize}
 use Rattle.sci_dump.specs.ReadBack.{IsContent}
 use Rattle.sci_dump.specs.Reading.{behind, number_at, word_at}
 use Rattle.sci_dump.specs.Text.{hexadecimal, values_text}
 use Rattle.sci_dump.proofs.FieldsBack.{NoDigit, behind_own, capped_own, number_own, word_own}
-use Rattle.sci_follow.specs.declared.entries.Claim.{Claim}
-use Rattle.sci_follow.specs.declared.parts.Lack.{Lack}
-use Rattle.sci_follow.specs.declared.parts.Part.{Part}
-use Rattle.sci_follow.specs.declared.told.Asks.{Asks}
-use Rattle.sci_follow.specs.declared.told.Found.{Found}
-use Rattle.sci_follow.specs.declared.told.Told.{Told}
-use Rattle.sci_follow.specs.declared.told.Noted.{Noted}
-use Rattle.sci_follow.specs.LineText.{◌>>=◌, acting_at, bare_told_at, bracketed_link_at, busy_at, claim_at, closed_at, content_at, count_at, done_at, end_at, ended_at, label_at, line_at, link_at, long_told_at, may_missed_at, maybe_words_at, memory_at, missed_at, new_words_at, node_at, noted_at, numbered_at, on_line_at, opening_at, other_told_at, own_told_at, placed_at, queue_at, requeue_at, size_part, some_node_at, space_at, tag_told_at, told_at, value_at, values_at, wants, whose_at, word_and_space_at, written_at}
-use Rattle.sci_follow.specs.Names.{bare_event_at, found_at, leaving_event_at, memory_event_at, name_at, other_asks_at, other_name_at, own_asks_at, own_event_at, settled_name_at, step_event_at}
-use Rattle.sci_trace.specs.Entries.{entry_place, exchange_line, log_head, look_line, opening_line, outcome_text}
+use Rattle.sci_logs.specs.declared.entries.Claim.{Claim}
+use Rattle.sci_logs.specs.declared.parts.Lack.{Lack}
+use Rattle.sci_logs.specs.declared.parts.Part.{Part}
+use Rattle.sci_logs.specs.declared.told.Asks.{Asks}
+use Rattle.sci_logs.specs.declared.told.Found.{Found}
+use Rattle.sci_logs.specs.declared.told.Told.{Told}
+use Rattle.sci_logs.specs.declared.told.Noted.{Noted}
+use Rattle.sci_logs.specs.LineText.{◌>>=◌, acting_at, bare_told_at, bracketed_link_at, busy_at, claim_at, closed_at, content_at, count_at, done_at, end_at, ended_at, label_at, line_at, link_at, long_told_at, may_missed_at, maybe_words_at, memory_at, missed_at, new_words_at, node_at, noted_at, numbered_at, on_line_at, opening_at, other_told_at, own_told_at, placed_at, queue_at, requeue_at, size_part, some_node_at, space_at, tag_told_at, told_at, value_at, values_at, wants, whose_at, word_and_space_at, written_at}
+use Rattle.sci_logs.specs.Names.{bare_event_at, found_at, leaving_event_at, memory_event_at, name_at, other_asks_at, other_name_at, own_asks_at, own_event_at, settled_name_at, step_event_at}
+use Rattle.sci_logs.specs.TurnText.{entry_place, exchange_line, log_head, look_line, opening_line, outcome_text}
 use Rattle.sci_trace.specs.Events.{argument_text, event_name, written_text}
 use Rattle.sci_trace.specs.Words.{found_text, link_word, of_text}
 use Rattle.sci_laws.proofs.Plain.{decimal_plain, plain_join}

@@ -9,7 +9,7 @@ use Rattle.std.proofs.lemmas.List.Folds.{list_any-append}
 use Rattle.std.proofs.lemmas.Grind.{flat_map-append}
 use Rattle.sci_dump.proofs.FieldsBack.{whole_front}
 use Rattle.sci_script.proofs.Lines.{lines_at}
-use Rattle.sci_follow.specs.Streams.{without_end}
+use Rattle.sci_logs.specs.Streams.{without_end}
 use Rattle.sci_laws.specs.Accepted.{unless_ok, without_ok, is_refusal, refuses}
 use Rattle.sci_laws.specs.ReadBack.{IsPlain, is_kept}
 use Rattle.sci_laws.proofs.Plain.{Each, ended_line, AreOwn}

@@ -6,9 +6,9 @@ use Rattle.sci_words.specs.declared.tags.Tag.{Tag}
 use Rattle.sci_words.specs.Tag.{name_of}
 use Rattle.sci_core.specs.declared.events.Event.{Event}
 use Rattle.sci_dump.specs.Text.{hexadecimal, values_text}
-use Rattle.sci_script.specs.declared.watching.Ending.{Ending}
-use Rattle.sci_script.specs.declared.watching.Load.{Load}
-use Rattle.sci_trace.specs.Entries.{entry_place, outcome_text}
+use Rattle.sci_port.specs.declared.watching.Ending.{Ending}
+use Rattle.sci_port.specs.declared.watching.Load.{Load}
+use Rattle.sci_logs.specs.TurnText.{entry_place, outcome_text}
 use Rattle.sci_trace.specs.Events.{argument_text, event_name, written_text}
 use Rattle.sci_trace.specs.Words.{found_text, link_word, of_text}
 use Rattle.sci_laws.specs.ReadBack.{IsPlain, is_kept}

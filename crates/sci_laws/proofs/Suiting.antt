@@ -22,7 +22,7 @@ use Rattle.sci_ops.specs.declared.goals.Write.{Write}
 use Rattle.sci_ops.specs.Change.{change, StoresFitting}
 use Rattle.sci_ops.specs.Plan.{Plan, own, mem, tag, exchange, ends}
 use Rattle.sci_ops.specs.Table.{is_same, is_free, may_adopt, is_behind, is_before, idle_as, idle_at, prepend, purging_at, purge, promote, return_home, leave, tell_successor, tell_predecessor, roll_on, roll, converting, write, attach, in_queue, turn_in, turn_again}
-use Rattle.sci_script.specs.declared.watching.Load.{Load}
+use Rattle.sci_port.specs.declared.watching.Load.{Load}
 use Rattle.sci_laws.specs.FollowedTurns.{fit}
 use Rattle.sci_laws.specs.ReadBack.{AreWords, IsLink, IsOfOwn}
 

@@ -26,21 +26,22 @@ use Rattle.sci_core.specs.WellFormed.{FindsWord, IsTag, IsMem}
 use Rattle.sci_core.proofs.Answered.{update_same}
 use Rattle.sci_ops.specs.declared.answers.Turn.{Turn}
 use Rattle.sci_ops.specs.Plan.{Plan, own, mem, tag, exchange, ends}
-use Rattle.sci_script.specs.declared.watching.Ending.{Ending}
-use Rattle.sci_script.specs.declared.watching.Load.{Load}
-use Rattle.sci_script.specs.declared.watching.Passed.{Passed}
-use Rattle.sci_script.specs.Passed.{Passes, passed_by, ending_of}
+use Rattle.sci_port.specs.declared.watching.Ending.{Ending}
+use Rattle.sci_port.specs.declared.watching.Load.{Load}
+use Rattle.sci_port.specs.declared.watching.Passed.{Passed}
+use Rattle.sci_port.specs.Watching.{passed_by, ending_of}
+use Rattle.sci_script.specs.Passed.{Passes}
 use Rattle.sci_script.specs.Turns.{Made}
 use Rattle.sci_port.specs.declared.calls.Call.TheVariants.{Own, MemWas, TagWas, Stepped}
 use Rattle.sci_script.proofs.Once.{answers_once}
-use Rattle.sci_follow.specs.declared.entries.Claim.{Claim}
-use Rattle.sci_follow.specs.declared.entries.Deviation.{Deviation}
-use Rattle.sci_follow.specs.declared.told.Asks.{Asks}
-use Rattle.sci_follow.specs.declared.told.Found.{Found}
-use Rattle.sci_follow.specs.declared.told.Told.{Told}
-use Rattle.sci_follow.specs.declared.told.Noted.{Noted}
-use Rattle.sci_follow.specs.Steps.{IsAs, Judges, Takes}
-use Rattle.sci_follow.specs.Told.{TakesAs, TakesTold, asked_tag, entry_of, is_told_in, event_on, is_on, meant, on_tag_of, asking, whose_tag}
+use Rattle.sci_logs.specs.declared.entries.Claim.{Claim}
+use Rattle.sci_logs.specs.declared.entries.Deviation.{Deviation}
+use Rattle.sci_logs.specs.declared.told.Asks.{Asks}
+use Rattle.sci_logs.specs.declared.told.Found.{Found}
+use Rattle.sci_logs.specs.declared.told.Told.{Told}
+use Rattle.sci_logs.specs.declared.told.Noted.{Noted}
+use Rattle.sci_logs.specs.Steps.{IsAs, Judges, Takes}
+use Rattle.sci_logs.specs.Told.{TakesAs, TakesTold, asked_tag, entry_of, is_told_in, event_on, is_on, meant, on_tag_of, asking, whose_tag}
 use Rattle.sci_laws.specs.ReadBack.{AreWords, IsBehind, IsLink, IsOfOther, IsOfOwn, MayEnd, asks_for_tag, claim_of, named, on_tag, told_of, whose}
 use Rattle.sci_laws.proofs.Suiting.{OnOther, OnOwn, Says, SaysTurn, Suits}
 

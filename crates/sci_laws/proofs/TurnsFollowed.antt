@@ -26,17 +26,18 @@ use Rattle.sci_ops.specs.Operation.{Operation}
 use Rattle.sci_ops.specs.Table.{turn_of}
 use Rattle.sci_port.specs.declared.calls.Call.TheVariants.{Own}
 use Rattle.sci_script.proofs.Once.{done_makes}
-use Rattle.sci_script.specs.declared.watching.Ending.{Ending}
-use Rattle.sci_script.specs.declared.watching.Load.{Load}
-use Rattle.sci_script.specs.declared.watching.Passed.{Passed}
-use Rattle.sci_script.specs.Passed.{PassesOn, ending_of, passed_by}
+use Rattle.sci_port.specs.declared.watching.Ending.{Ending}
+use Rattle.sci_port.specs.declared.watching.Load.{Load}
+use Rattle.sci_port.specs.declared.watching.Passed.{Passed}
+use Rattle.sci_port.specs.Watching.{ending_of, passed_by}
+use Rattle.sci_script.specs.Passed.{PassesOn}
 use Rattle.sci_script.specs.Turns.{TurnsOn}
-use Rattle.sci_trace.specs.Entries.{entries_of, entry_place, exchange_line, look_line, outcome_text, repeated}
+use Rattle.sci_logs.specs.TurnText.{entries_of, entry_place, exchange_line, look_line, outcome_text, repeated}
 use Rattle.sci_trace.specs.Events.{argument_text, event_name}
 use Rattle.sci_trace.specs.Telling.{nothing}
-use Rattle.sci_follow.specs.declared.told.Noted.{Noted}
-use Rattle.sci_follow.specs.LineText.{noted_at}
-use Rattle.sci_follow.specs.Told.{meant}
+use Rattle.sci_logs.specs.declared.told.Noted.{Noted}
+use Rattle.sci_logs.specs.LineText.{noted_at}
+use Rattle.sci_logs.specs.Told.{meant}
 use Rattle.sci_laws.specs.FollowedTurns.{AreFollowed, AreReadAs, AreToldOf, exchange_told, fit, turn_told}
 use Rattle.sci_laws.specs.ReadBack.{IsLink, IsReadAs, look_of, noted_of}
 use Rattle.sci_laws.proofs.NotedBack.{exchange_back, look_back}

@@ -1,15 +1,15 @@
 -- A turn, told as a log tells it, and followed. This project's profile.
 use Rattle.std.specs.Prelude.{◌≡◌, ◌≢◌, ◌⊎◌, ℕ, true, List, [], ◌∷◌, ◌++◌, Option, Some, None, Result, Ok, Err, replicate}
 use Rattle.sci_core.specs.State.{State}
-use Rattle.sci_follow.specs.declared.entries.Deviation.{Deviation}
-use Rattle.sci_follow.specs.declared.told.Noted.{Noted}
-use Rattle.sci_follow.specs.LineText.{noted_at}
-use Rattle.sci_follow.specs.declared.logs.LogFault.{LogFault}
-use Rattle.sci_follow.specs.Streams.{FollowsAll, StopsWith}
-use Rattle.sci_follow.specs.Told.{TakesTold, is_told_in}
+use Rattle.sci_logs.specs.declared.entries.Deviation.{Deviation}
+use Rattle.sci_logs.specs.declared.told.Noted.{Noted}
+use Rattle.sci_logs.specs.LineText.{noted_at}
+use Rattle.sci_logs.specs.declared.logs.LogFault.{LogFault}
+use Rattle.sci_logs.specs.Streams.{FollowsAll, StopsWith}
+use Rattle.sci_logs.specs.Told.{TakesTold, is_told_in}
 use Rattle.sci_script.specs.declared.refusals.ScriptRefusal.{ScriptRefusal}
 use Rattle.sci_script.specs.declared.refusals.ScriptRefusal.TheVariants.{OutOfMemory, BadCommand, BadNumber, NotDone, WriteFailed}
-use Rattle.sci_script.specs.declared.watching.Passed.{Passed}
+use Rattle.sci_port.specs.declared.watching.Passed.{Passed}
 use Rattle.sci_laws.specs.ReadBack.{AreWords, IsReadAs, look_of, noted_of}
 
 -- a refusal of a line of the script

@@ -4,15 +4,15 @@ use Rattle.std.specs.List.{list_all}
 use Rattle.sci_words.specs.declared.tags.Kind.{Kind}
 use Rattle.sci_words.specs.declared.tags.Tag.{Tag}
 use Rattle.sci_core.specs.declared.events.Event.{Event}
-use Rattle.sci_script.specs.declared.watching.Ending.{Ending}
-use Rattle.sci_script.specs.declared.watching.Load.{Load}
-use Rattle.sci_script.specs.declared.watching.Passed.{Passed}
-use Rattle.sci_follow.specs.declared.entries.Claim.{Claim}
-use Rattle.sci_follow.specs.declared.told.Asks.{Asks}
-use Rattle.sci_follow.specs.declared.told.Found.{Found}
-use Rattle.sci_follow.specs.declared.told.Told.{Told}
-use Rattle.sci_follow.specs.declared.told.Noted.{Noted}
-use Rattle.sci_follow.specs.Names.{sample}
+use Rattle.sci_port.specs.declared.watching.Ending.{Ending}
+use Rattle.sci_port.specs.declared.watching.Load.{Load}
+use Rattle.sci_port.specs.declared.watching.Passed.{Passed}
+use Rattle.sci_logs.specs.declared.entries.Claim.{Claim}
+use Rattle.sci_logs.specs.declared.told.Asks.{Asks}
+use Rattle.sci_logs.specs.declared.told.Found.{Found}
+use Rattle.sci_logs.specs.declared.told.Told.{Told}
+use Rattle.sci_logs.specs.declared.told.Noted.{Noted}
+use Rattle.sci_logs.specs.Names.{sample}
 
 -- no byte of it is a line feed or a carriage return
 abbrev pub is_kept : ℕ → Bool

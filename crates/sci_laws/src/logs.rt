@@ -1,28 +1,35 @@
 //! Logs are read as what they tell, and follow.
-ghost use Rattle.std.specs.List.{flat_map};
-ghost use Rattle.std.specs.Prelude.{◌≡◌, ◌<◌, ◌≤◌, ◌++◌, ℕ, List, Some};
 ghost use Rattle.sci_core.specs.State.{State};
 ghost use Rattle.sci_core.specs.Whole.{IsRuled};
 ghost use Rattle.sci_core.specs.declared.events.Event.{Event};
 ghost use Rattle.sci_dump.specs.ReadBack.{IsContent};
-ghost use Rattle.sci_follow.specs.LineText.{memory_at, noted_at, opening_at};
 ghost use Rattle.sci_laws.specs.FollowedTurns.{IsOfLine, IsSurelyFollowed, AreFollowed, AreReadAs, AreToldOf, fit, turn_told};
 ghost use Rattle.sci_laws.specs.ReadBack.{IsBehind, IsReadAs, MayEnd, look_of, noted_of, told_of};
+ghost use Rattle.sci_logs.specs.LineText.{memory_at, noted_at, opening_at};
+ghost use Rattle.sci_logs.specs.Logging.{logs};
+ghost use Rattle.sci_logs.specs.TurnText.{entries_of, exchange_line, log_head, look_line, opening_line};
 ghost use Rattle.sci_ops.specs.Change.{StoresFitting};
 ghost use Rattle.sci_ops.specs.Operation.{Operation};
 ghost use Rattle.sci_ops.specs.declared.answers.Turn.{Turn};
+ghost use Rattle.sci_port.specs.declared.watching.Ending.{Ending};
+ghost use Rattle.sci_port.specs.declared.watching.Passed.{Passed};
 ghost use Rattle.sci_script.specs.Passed.{PassesOn};
-ghost use Rattle.sci_script.specs.Size.{IsSize};
+ghost use Rattle.sci_script.specs.Request.{no_words};
+ghost use Rattle.sci_script.specs.Run.{IsNoRest, PrintsAll, StopsAt};
+ghost use Rattle.sci_script.specs.ScriptText.{Opens};
+ghost use Rattle.sci_script.specs.Shared.{Shared};
+ghost use Rattle.sci_script.specs.Size.{IsSize, AreIn};
 ghost use Rattle.sci_script.specs.Turns.{TurnsOn};
 ghost use Rattle.sci_script.specs.declared.commands.Opening.{Opening};
 ghost use Rattle.sci_script.specs.declared.commands.Size.{Size};
+ghost use Rattle.sci_script.specs.declared.commands.Step.{Step};
+ghost use Rattle.sci_script.specs.declared.refusals.ScriptRefusal.TheVariants.{NotDone};
 ghost use Rattle.sci_script.specs.declared.refusals.ScriptRefusal.{ScriptRefusal};
-ghost use Rattle.sci_script.specs.declared.watching.Ending.{Ending};
-ghost use Rattle.sci_script.specs.declared.watching.Passed.{Passed};
 ghost use Rattle.sci_serve.specs.Serve.{Serves, StopsRunning};
 ghost use Rattle.sci_serve.specs.declared.scripts.Form.TheVariants as forms;
-ghost use Rattle.sci_trace.specs.Entries.{entries_of, exchange_line, log_head, look_line, opening_line};
-ghost use Rattle.sci_trace.specs.Telling.{nothing};
+ghost use Rattle.sci_trace.specs.Telling.{nothing, Telling, telling, telling_is_open};
+ghost use Rattle.std.specs.List.{flat_map};
+ghost use Rattle.std.specs.Prelude.{◌≡◌, ◌<◌, ◌≤◌, ◌++◌, ℕ, List, Some, take, slice_get};
 
 /// What `trace --log` writes line by line is read by `check` as what it tells: the size, what a line opens with, each look, and each
 /// exchange with its outcome.
@@ -49,4 +56,12 @@ pub fn turns_are_followed()
 pub fn logs_follow()
     ensures ended { (limit : ℕ) (input text : List ℕ) → Serves limit forms.Log input text → IsSurelyFollowed text }
     ensures refused { (limit : ℕ) (input written : List ℕ) (refusal : ScriptRefusal) → IsOfLine refusal → StopsRunning limit forms.Log refusal input written → IsSurelyFollowed written }
+{}
+
+/// `rest` and `end` are never refused 18 where a script is logged either, as `rest_and_end_are_done` of `sci_script` says of its runs
+/// and of its traces. It computes nothing: its contract is the law.
+pub fn logged_rest_and_end_are_done()
+    ensures { (size : Size) (capacity : ℕ) (openings : List Opening) (steps : List Step) (step : Step) (k n : ℕ) (text log : List ℕ) (s : Shared) (mid t : Telling) → IsSize size → AreIn size steps
+        → Opens size capacity openings s → PrintsAll telling_is_open logs no_words (telling s log) (take k steps) text mid → slice_get steps k ≡ Some step
+        → StopsAt telling_is_open logs size.nodes mid step (NotDone n) t → IsNoRest step.command }
 {}

@@ -6,6 +6,8 @@ mod checks;
 #[cfg(test)]
 mod dump;
 #[cfg(test)]
+mod events;
+#[cfg(test)]
 mod histories;
 #[cfg(test)]
 mod ops;

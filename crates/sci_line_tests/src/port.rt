@@ -5,8 +5,8 @@ ghost use Rattle.sci_port.specs.Missing.{MissesOther};
 mod receipts;
 
 use crate::checks::same;
+use crate::events::{Events, keep};
 use sci_core::{Event, Line, Outcome, Pending, Whole};
-use sci_port::recording::{EventList, Recorder};
 use sci_port::*;
 use sci_words::{Kind, LineNo, MemState, NodeId, Tag};
 use std::alloc::Global;
@@ -50,19 +50,10 @@ fn step_of<P: Port<Keep = AnyWords>>(port: &mut P, event: Event) -> Option<Outco
     }
 }
 
-/// The same through a recorder of the port.
-fn record_of<P: Port<Keep = AnyWords>>(
-    port: &mut P,
-    trace: &mut EventList,
-    event: Event,
-) -> Option<Outcome> {
-    step_of(&mut Recorder::new(port, trace), event)
-}
-
-/// One event of a node through a port that records it, if there is that node and its step allows it.
+/// One event of a node through a port that is watched, if there is that node and its step allows it. What passes is kept.
 fn step(
     whole: &mut Whole<AnyWords>,
-    trace: &mut EventList,
+    events: &mut Events,
     number: u16,
     event: Event,
 ) -> Option<Outcome> {
@@ -71,14 +62,13 @@ fn step(
         return None;
     }
     let mut receipts = Receipts::new(whole.allocator());
-    record_of(&mut Solo::new(whole, &mut receipts, node), trace, event)
-}
-
-/// A line of two nodes, and a trace with so much room.
-fn opened(alloc: Global, room: usize) -> Result<(Whole<AnyWords>, EventList), Fail> {
-    let whole = Whole::open(alloc, 2, 0, LINE, AnyWords)?;
-    let events = Vec::with_capacity(alloc, room)?;
-    Ok((whole, EventList::new(events)))
+    let mut watched = Watched {
+        port: Solo::new(whole, &mut receipts, node),
+        passed: Passed::NOTHING,
+    };
+    let outcome = step_of(&mut watched, event)?;
+    keep(events, node, &watched.passed)?;
+    Some(outcome)
 }
 
 /// A node's event, and what it comes to. None: it isn't allowed.
@@ -107,31 +97,31 @@ fn behind_the_miss() -> [Row; 3] {
     ]
 }
 
-// An event of a node through a port that records it comes to this.
-fn comes_to(rt: &impl Abort, whole: &mut Whole<AnyWords>, trace: &mut EventList, row: &Row) {
+// An event of a node through a port that is watched comes to this.
+fn comes_to(rt: &impl Abort, whole: &mut Whole<AnyWords>, events: &mut Events, row: &Row) {
     let (number, event, outcome) = *row;
-    same(rt, &step(whole, trace, number, event), &outcome);
+    same(rt, &step(whole, events, number, event), &outcome);
 }
 
-// What passed at the miss and behind it stands in the trace.
-fn shows_the_miss(rt: &impl Abort, trace: &EventList) -> Result<(), Fail> {
-    let events = trace.events().ok_or("no room")?;
+// What passed at the miss and behind it was kept.
+fn shows_the_miss(rt: &impl Abort, events: &[(NodeId, Event)]) {
     let miss = [(node(0), Event::FreshToGone), (node(0), Event::Unconverted)];
     same(rt, &events.len(), &10);
     same(rt, &events.get(7..9), &Some(miss.as_slice()));
-    Ok(())
 }
 
 #[test]
 fn steps_two_readers(rt: HostRuntime) -> Result<(), Fail> {
-    let (mut whole, mut trace) = opened(rt.alloc(), 16)?;
+    let mut whole = Whole::open(rt.alloc(), 2, 0, LINE, AnyWords)?;
+    let mut events = Vec::new(rt.alloc());
     for row in &two_readers() {
-        comes_to(&rt, &mut whole, &mut trace, row);
+        comes_to(&rt, &mut whole, &mut events, row);
     }
     for row in &behind_the_miss() {
-        comes_to(&rt, &mut whole, &mut trace, row);
+        comes_to(&rt, &mut whole, &mut events, row);
     }
-    shows_the_miss(&rt, &trace)
+    shows_the_miss(&rt, &events);
+    Ok(())
 }
 
 /// A port's node, the nodes and the number of its line, the pending step, memory's state, and the kinds of the own tag and node 1's.
@@ -156,37 +146,29 @@ fn says<P: Port>(port: &mut P) -> Says
     (me, nodes, number, pending, mem, [own, other])
 }
 
-// What node 2's port to a line says, through a recorder of it; if there is that node.
-fn says_recorded(whole: &mut Whole<AnyWords>, trace: &mut EventList) -> Option<Says> {
+// What node 2's port to a line says, and what passes; if there is that node.
+fn says_watched(whole: &mut Whole<AnyWords>) -> Option<(Says, Passed)> {
     let me = node(2);
     if me.get() >= whole.nodes() {
         return None;
     }
     let mut receipts = Receipts::new(whole.allocator());
-    let mut solo = Solo::new(whole, &mut receipts, me);
-    Some(says(&mut Recorder::new(&mut solo, trace)))
+    let mut watched = Watched {
+        port: Solo::new(whole, &mut receipts, me),
+        passed: Passed::NOTHING,
+    };
+    let said = says(&mut watched);
+    Some((said, watched.passed))
 }
 
 #[test]
 fn loads_the_words_that_stand(rt: HostRuntime) -> Result<(), Fail> {
     let mut whole = Whole::open(rt.alloc(), 3, 7, LINE, AnyWords)?;
-    let mut trace = EventList::new(Vec::with_capacity(rt.alloc(), 16)?);
-    let said = says_recorded(&mut whole, &mut trace);
+    let (said, passed) = says_watched(&mut whole).ok_or("no node")?;
     let (home, invalid) = (Some(MemState::Home), Some(Kind::Invalid));
-    let want = (2, 3, 7, Pending::Idle, home, [invalid; 2]);
-    same(&rt, &said, &Some(want));
+    same(&rt, &said, &(2, 3, 7, Pending::Idle, home, [invalid; 2]));
     // the only event that passed is the node's look
-    let look = [(node(2), Event::Look)];
-    same(&rt, &trace.events(), &Some(look.as_slice()));
-    Ok(())
-}
-
-#[test]
-fn a_trace_without_room_is_cut(rt: HostRuntime) -> Result<(), Fail> {
-    let (mut whole, mut trace) = opened(rt.alloc(), 3)?;
-    for (place, row) in two_readers().iter().enumerate() {
-        comes_to(&rt, &mut whole, &mut trace, row);
-        same(&rt, &trace.events().is_some(), &(place < 3));
-    }
+    assert!(rt; passed.looks == 1 && passed.step.is_none());
+    assert!(rt; matches!(passed.load, Some(Load::Tag(_, Some(_)))));
     Ok(())
 }

@@ -1,5 +1,5 @@
 -- A node's seats at the lines of a memory, one at each, whatever the lines are. L is a line, S a seat at one. This project's profile.
-use Rattle.std.specs.Prelude.{◌≡◌, ℕ, ◌<◌, ◌≤◌, List, length, map, slice_set}
+use Rattle.std.specs.Prelude.{◌≡◌, ◌⊎◌, ℕ, ◌<◌, ◌≤◌, List, length, map, slice_set}
 use mathlib.Core.Option.{some}
 use lib.ListN.{get_elem?}
 use base.Stored.{Coded, coded×, coded_ℕ, coded_list, coded_via}
@@ -60,6 +60,14 @@ pub record AreLines {K L : Type 0} (terms : L → LineTerms K) (lines : List L) 
 -- the seat is the node's, at a line of this number
 abbrev pub SitsOn : {K : Type 0} → ℕ → ℕ → Seating K → Type 0
 SitsOn node number s = (s.node ≡ node) × (s.terms.number ≡ number)
+
+-- one seat per node of the line, in order, with the line's number
+abbrev pub IsOnePerNode : {K L S : Type 0} → (L → LineTerms K) → (S → Seating K) → L → List S → Type 0
+IsOnePerNode {K} {L} {S} terms seating l seats = (length seats ≡ (terms l).nodes) × ((k : ℕ) (s : S) → get_elem? seats k ≡ some s → SitsOn k (terms l).number (seating s))
+
+-- 9 where they are not, else 7
+abbrev pub IsRightRefusal : {K L S : Type 0} → (L → LineTerms K) → (S → Seating K) → L → List S → ℕ → Type 0
+IsRightRefusal terms seating l seats refusal = ((refusal ≡ 9) × (IsOnePerNode terms seating l seats → ⊥)) ⊎ ((refusal ≡ 7) × IsOnePerNode terms seating l seats)
 
 -- one seat per line, in the order of the lines, and of one node
 pub record IsOnePerLine {K L S : Type 0} (seating : S → Seating K) (lines : List L) (seats : List S) : Type 0 where

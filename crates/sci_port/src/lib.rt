@@ -4,20 +4,22 @@
 mod at;
 mod bank;
 mod calls;
+mod closing;
 mod laws;
 mod port;
 mod receipted;
 mod receipts;
-pub mod recording;
 mod seat_bank;
 mod seat_port;
 mod shared;
 mod solo;
 mod solo_bank;
+mod watching;
 
 pub use at::At;
 pub use bank::Bank;
 pub use calls::Call;
+pub use closing::{FinishRefusal, Finished, are_one_per_node, room_for};
 pub use laws::receipts_are_one_history;
 pub use port::Port;
 pub use receipted::Receipted;
@@ -28,3 +30,4 @@ pub use seat_port::SeatPort;
 pub use shared::SharedLine;
 pub use solo::Solo;
 pub use solo_bank::SoloBank;
+pub use watching::{Ending, Load, Passed, Watched, WatchedBank};

@@ -11,7 +11,7 @@ use Rattle.sci_cache.specs.declared.calls.OpenCall.{OpenCall}
 use Rattle.sci_cache.specs.Nodes.{NodeState, node_after, line_by, op_by}
 use Rattle.sci_script.specs.declared.commands.Size.{Size}
 use Rattle.sci_script.specs.declared.commands.Opening.{Opening}
-use Rattle.sci_script.specs.declared.watching.Passed.{Passed}
+use Rattle.sci_port.specs.declared.watching.Passed.{Passed}
 use Rattle.sci_script.specs.Nodes.{TurnsOverOf, whole_of}
 use Rattle.sci_script.specs.Passed.{PassesOn, PassesOverOf, PassesTurnOf}
 use Rattle.sci_script.specs.Openings.{zeros, content_of}

@@ -15,9 +15,10 @@ use Rattle.sci_ops.specs.declared.answers.Turn.{Turn}
 use Rattle.sci_ops.specs.Operation.{Operation}
 use Rattle.sci_ops.specs.Table.{turn_of}
 use Rattle.sci_ops.specs.Plan.{Plan, own, mem, tag, exchange, ends, Follows, Takes}
-use Rattle.sci_script.specs.declared.watching.Passed.{Passed}
+use Rattle.sci_port.specs.declared.watching.Passed.{Passed}
 use Rattle.sci_script.specs.Turns.{Made, TurnsOn}
-use Rattle.sci_script.specs.Passed.{passed_by, Passes, PassesOn}
+use Rattle.sci_port.specs.Watching.{passed_by}
+use Rattle.sci_script.specs.Passed.{Passes, PassesOn}
 
 abbrev inside : {A : Type 0} → A → Option A → A
 inside d (Some a) = a

@@ -26,9 +26,10 @@ use Rattle.sci_script.specs.declared.commands.Step.{Step}
 use Rattle.sci_script.specs.declared.reasons.Reason.{Reason}
 use Rattle.sci_script.specs.declared.reasons.Reason.TheVariants.{WaitsFor}
 use Rattle.sci_script.specs.declared.refusals.ScriptRefusal.TheVariants.{NotDone}
-use Rattle.sci_script.specs.declared.watching.Passed.{Passed}
+use Rattle.sci_port.specs.declared.watching.Passed.{Passed}
 use Rattle.sci_script.specs.Event.{Turned, IsNoEnd}
-use Rattle.sci_script.specs.Passed.{passed_by, Passes, shared_passes, PassesTurnOf}
+use Rattle.sci_port.specs.Watching.{passed_by}
+use Rattle.sci_script.specs.Passed.{Passes, shared_passes, PassesTurnOf}
 use Rattle.sci_script.specs.Reasons.{IsUnendedBy, IsUndone, IsUndoneOf, IsWhy, wait_reason}
 use Rattle.sci_script.specs.Request.{no_words}
 use Rattle.sci_script.specs.Resting.{any, TakesLentOf}

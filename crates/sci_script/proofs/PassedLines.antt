@@ -9,9 +9,10 @@ use Rattle.sci_ops.specs.Plan.{Plan, own, mem, tag, exchange, ends}
 use Rattle.sci_ops.specs.Table.{turn_of}
 use Rattle.sci_cache.specs.declared.calls.OpenCall.{OpenCall}
 use Rattle.sci_cache.specs.Nodes.{NodeState, line_by, op_by}
-use Rattle.sci_script.specs.declared.watching.Passed.{Passed}
+use Rattle.sci_port.specs.declared.watching.Passed.{Passed}
 use Rattle.sci_script.specs.Nodes.{whole_of}
-use Rattle.sci_script.specs.Passed.{passed_by, Passes, PassesOverOf}
+use Rattle.sci_port.specs.Watching.{passed_by}
+use Rattle.sci_script.specs.Passed.{Passes, PassesOverOf}
 
 -- what passes along a plan is on its line
 passes_line : (n me line : ℕ) (s : State) (plan : Plan) (t : State) (p q : Passed) (most : ℕ) → line < most → p.line < most → Passes n me line s plan t p q → q.line < most

@@ -9,9 +9,10 @@ use Rattle.sci_ops.specs.Table.{turn_of}
 use Rattle.sci_cache.specs.declared.calls.OpenCall.{OpenCall}
 use Rattle.sci_cache.specs.Nodes.{NodeState, TurnsBy, line_by, op_by}
 use Rattle.sci_cache.proofs.Through.{chain_keeps}
-use Rattle.sci_script.specs.declared.watching.Passed.{Passed}
+use Rattle.sci_port.specs.declared.watching.Passed.{Passed}
 use Rattle.sci_script.specs.Nodes.{TurnsOverOf}
-use Rattle.sci_script.specs.Passed.{passed_by, PassesOverOf}
+use Rattle.sci_port.specs.Watching.{passed_by}
+use Rattle.sci_script.specs.Passed.{PassesOverOf}
 use Rattle.sci_script.proofs.Followed.{turned_by, passed_in}
 
 module _ {U : Type 0} (fits : AnyWords → ℕ → List ℕ → Type 0) (lent : U → LentLines AnyWords) (gives : U → ℕ → Call → U → Type 0)

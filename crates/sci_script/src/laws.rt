@@ -8,7 +8,7 @@ ghost use Rattle.sci_script.specs.declared.commands.Step.{Step};
 ghost use Rattle.sci_script.specs.declared.reasons.Reason.{Reason};
 ghost use Rattle.sci_ops.specs.declared.answers.Turn.TheVariants.{Waiting};
 ghost use Rattle.sci_script.specs.declared.refusals.ScriptRefusal.{ScriptRefusal};
-ghost use Rattle.sci_script.specs.declared.watching.Passed.{Passed};
+ghost use Rattle.sci_port.specs.declared.watching.Passed.{Passed};
 ghost use Rattle.sci_script.specs.declared.refusals.ScriptRefusal.TheVariants.{OutOfMemory, NotDone};
 ghost use Rattle.sci_script.specs.Causes.{HasReason, IsRefusedFor};
 ghost use Rattle.sci_script.specs.Format.{Sayings, script_of};

@@ -39,7 +39,6 @@ pub use running::{NODES, TURNS, is_end, note, perform};
 pub use talk::Talk;
 pub use texts::{list_text, tag_text, turn_text};
 pub use waiting::waits_for;
-pub use watching::{Ending, Load, Passed};
 pub use whole_desk::WholeDesk;
 pub use why::why_script;
 pub use writing::{WriteFailed, put};

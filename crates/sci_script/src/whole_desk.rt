@@ -9,11 +9,10 @@ ghost use Rattle.sci_script.specs.Unused.{AreOpened};
 use crate::commands::{Ask, Script, Size};
 use crate::desk::{Desk, Look, Toward};
 use crate::nodes::{begin_over, idle};
-use crate::watching::Passed;
 use sci_cache::{Node, OpenCall, Request};
 use sci_core::{AnyWords, Whole};
 use sci_ops::Turn;
-use sci_port::{Bank, Receipts, SoloBank};
+use sci_port::{Bank, Passed, Receipts, SoloBank};
 use sci_words::{LineNo, Mem, NodeId, Tag};
 use std::alloc::{AllocError, Global};
 

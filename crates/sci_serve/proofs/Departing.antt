@@ -5,12 +5,12 @@ use Rattle.std.proofs.KnownBytes.{Appends-nil}
 use Rattle.std.proofs.lemmas.Option.{IfSome_then}
 use Rattle.std.specs.Io.KnownBytes.{Appends}
 use Rattle.sci_script.specs.declared.refusals.ScriptRefusal.TheVariants.{OutOfMemory, BadCommand, BadNumber}
-use Rattle.sci_follow.specs.declared.entries.Deviation.{Deviation}
-use Rattle.sci_follow.specs.declared.logs.LogFault.{LogFault}
-use Rattle.sci_follow.specs.declared.parts.LineReason.{LineReason}
-use Rattle.sci_follow.specs.Reasons.{StopsWhy}
-use Rattle.sci_follow.specs.Streams.{FollowsAll, StopsWith}
-use Rattle.sci_follow.proofs.Cutting.{without_why}
+use Rattle.sci_logs.specs.declared.entries.Deviation.{Deviation}
+use Rattle.sci_logs.specs.declared.logs.LogFault.{LogFault}
+use Rattle.sci_logs.specs.declared.parts.LineReason.{LineReason}
+use Rattle.sci_logs.specs.Reasons.{StopsWhy}
+use Rattle.sci_logs.specs.Streams.{FollowsAll, StopsWith}
+use Rattle.sci_logs.proofs.Cutting.{without_why}
 use Rattle.sci_serve.specs.declared.faults.SimFault.{SimFault}
 use Rattle.sci_serve.specs.declared.faults.SimFault.TheVariants.{CannotRead, CannotWrite, Refused, Unlawful}
 use Rattle.sci_serve.specs.Followed.{departure_line, IsFollowed, StopsFollowing}

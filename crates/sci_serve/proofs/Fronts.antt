@@ -13,7 +13,7 @@ use Rattle.sci_script.specs.Shared.{Shared, shared_is_open, shared_does}
 use Rattle.sci_trace.specs.Telling.{TellsAll}
 use Rattle.sci_trace.specs.Traces.{TracedTo, FormLeaves}
 use Rattle.sci_trace.proofs.Tracing.{traced_so, traced_then}
-use Rattle.sci_trace.specs.Logging.{LogLeaves}
+use Rattle.sci_logs.specs.Logging.{LogLeaves}
 use Rattle.sci_trace.specs.Pages.{page_of}
 use Rattle.sci_serve.specs.declared.faults.SimFault.{SimFault}
 use Rattle.sci_serve.specs.declared.faults.SimFault.TheVariants.{CannotRead, CannotWrite, InputTooLong, Refused, NoDump, Unlawful, NoRun}

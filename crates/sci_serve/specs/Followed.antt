@@ -2,11 +2,11 @@
 use Rattle.std.specs.Prelude.{◌≡◌, ◌⊎◌, ℕ, ◌<◌, List, [], ◌++◌, length, take, Option, None, codes}
 use Rattle.std.specs.Fmt.{decimal}
 use Rattle.sci_script.specs.declared.refusals.ScriptRefusal.TheVariants.{OutOfMemory, BadCommand, BadNumber, NotDone, WriteFailed}
-use Rattle.sci_follow.specs.declared.entries.Deviation.{Deviation}
-use Rattle.sci_follow.specs.declared.logs.LogFault.{LogFault}
-use Rattle.sci_follow.specs.declared.parts.LineReason.{LineReason}
-use Rattle.sci_follow.specs.Reasons.{FaultsWhy}
-use Rattle.sci_follow.specs.Streams.{FollowsAll, FaultsWith}
+use Rattle.sci_logs.specs.declared.entries.Deviation.{Deviation}
+use Rattle.sci_logs.specs.declared.logs.LogFault.{LogFault}
+use Rattle.sci_logs.specs.declared.parts.LineReason.{LineReason}
+use Rattle.sci_logs.specs.Reasons.{FaultsWhy}
+use Rattle.sci_logs.specs.Streams.{FollowsAll, FaultsWith}
 use Rattle.sci_serve.specs.declared.faults.SimFault.{SimFault}
 use Rattle.sci_serve.specs.declared.faults.SimFault.TheVariants.{CannotRead, CannotWrite, InputTooLong, Refused, NoDump, Unlawful, NoRun}
 

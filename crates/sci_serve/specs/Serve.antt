@@ -13,7 +13,7 @@ use Rattle.sci_script.specs.Format.{script_of}
 use Rattle.sci_script.specs.ScriptText.{Opens, IsTextOf, IsLeftOf}
 use Rattle.sci_script.specs.Request.{no_words}
 use Rattle.sci_script.specs.Shared.{Shared}
-use Rattle.sci_trace.specs.Logging.{Logs, LogLeaves}
+use Rattle.sci_logs.specs.Logging.{Logs, LogLeaves}
 use Rattle.sci_trace.specs.Pages.{page_of}
 use Rattle.sci_trace.specs.Telling.{TellsAll}
 use Rattle.sci_trace.specs.Traces.{FormLeaves}

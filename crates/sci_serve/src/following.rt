@@ -2,11 +2,11 @@
 
 ghost use Rattle.std.specs.Prelude.{◌≡◌, ℕ, List, IfOk, IfErr, IfSome, OnOk, codes, string_bytes};
 ghost use Rattle.std.specs.Io.KnownBytes.{Appends};
-ghost use Rattle.sci_follow.specs.Streams.{FollowsAll};
+ghost use Rattle.sci_logs.specs.Streams.{FollowsAll};
 ghost use Rattle.sci_serve.specs.Followed.{departure_line, reason, IsWhyUnfollowed, StopsFollowing};
 
 use crate::faults::SimFault;
-use sci_follow::{Deviation, LineReason, LogFault, follow_told};
+use sci_logs::{Deviation, LineReason, LogFault, follow_told};
 use sci_script::{ScriptRefusal, put};
 use std::alloc::{AllocError, Global};
 use std::io::{BufRead, Write};

@@ -10,8 +10,9 @@ ghost use Rattle.sci_serve.specs.Serve.{IsWritten, FailsWith, Serves, Stops, Lea
 
 use crate::faults::SimFault;
 use crate::input::{INPUT_LIMIT, read_input};
+use sci_logs::{LogDesk, log};
 use sci_script::{Script, ScriptRefusal, WholeDesk, put, read_script};
-use sci_trace::{LogDesk, TraceDesk, draw, log, trace};
+use sci_trace::{TraceDesk, draw, trace};
 use std::alloc::Global;
 use std::io::{BufWriter, Read, Write};
 

@@ -1,4 +1,4 @@
-//! Each growth may be refused: the calls that serve a command, the reader of settings, the texts of results, or a call of sci_trace
+//! Each growth may be refused: the calls that serve a command, the reader of settings, the texts of results, a trace or a log
 //! then answer 7, and a second try has the memory. Nothing is written then by checks and runs, by scripts and traces whole lines
 //! at the front of their text, and by pages nothing or a whole one. Where the memory of a workload's thread is refused, runs
 //! answer 26. With ample memory these tests pass. tools/allocations runs each once for each growth of its table, with that one
@@ -10,11 +10,12 @@ use crate::checks::{same, same_at};
 use crate::fixed::{Fixed, empty, is_front};
 use crate::rows::{ALONE, COUNTED, DUMP, LAWFUL};
 use crate::texts::{SHORT_RING, are_read};
+use sci_logs::{LogDesk, log};
 use sci_script::{Script, ScriptRefusal, read_script};
 use sci_serve::{Form, SimFault, cells_text, count_text, items_text};
 use sci_settings::SettingsRefusal;
 use sci_trace::parts::NoteText;
-use sci_trace::{LogDesk, TraceDesk, draw, log, trace};
+use sci_trace::{TraceDesk, draw, trace};
 use sci_work::WorkRefusal;
 use std::alloc::{AllocError, Global};
 use std::process::Abort;

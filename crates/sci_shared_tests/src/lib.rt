@@ -8,6 +8,8 @@ mod checks;
 #[cfg(test)]
 mod coarse;
 #[cfg(test)]
+mod events;
+#[cfg(test)]
 mod lines;
 pub mod plain;
 #[cfg(test)]

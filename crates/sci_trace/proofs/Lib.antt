@@ -8,6 +8,4 @@ pub mod Digits
 pub mod Pieces
 pub mod Walking
 pub mod Pushing
-pub mod Repeated
-pub mod Logged
 pub mod Named

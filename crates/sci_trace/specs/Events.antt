@@ -3,8 +3,8 @@ use Rattle.std.specs.Prelude.{ℕ, List, ◌++◌, Option, Some, None, codes}
 use Rattle.std.specs.Fmt.{decimal}
 use Rattle.std.specs.List.{flat_map}
 use Rattle.sci_core.specs.declared.events.Event.{Event}
-use Rattle.sci_script.specs.declared.watching.Ending.{Ending}
-use Rattle.sci_script.specs.declared.watching.Load.{Load}
+use Rattle.sci_port.specs.declared.watching.Ending.{Ending}
+use Rattle.sci_port.specs.declared.watching.Load.{Load}
 use Rattle.sci_trace.specs.Words.{link_word, found_text}
 
 -- an event's name, and the bracket in front of its argument, where it has one

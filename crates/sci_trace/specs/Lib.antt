@@ -8,7 +8,5 @@ pub mod Texts
 pub mod Coding
 pub mod Notes
 pub mod Telling
-pub mod Entries
-pub mod Logging
 pub mod Traces
 pub mod Pages

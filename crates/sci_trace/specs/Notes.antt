@@ -5,7 +5,7 @@ use Rattle.sci_words.specs.declared.memory.Mem.{Mem}
 use Rattle.sci_words.specs.declared.tags.Tag.{Tag}
 use Rattle.sci_core.specs.declared.stages.Stage.{Stage}
 use Rattle.sci_ops.specs.declared.goals.Goal.{Goal}
-use Rattle.sci_script.specs.declared.watching.Passed.{Passed}
+use Rattle.sci_port.specs.declared.watching.Passed.{Passed}
 use Rattle.sci_trace.specs.declared.texts.Wait.{Wait}
 use Rattle.sci_trace.specs.Texts.{note_line}
 

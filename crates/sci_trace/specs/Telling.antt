@@ -5,7 +5,7 @@ use Rattle.sci_ops.specs.declared.answers.Turn.{Turn}
 use Rattle.sci_script.specs.declared.commands.Command.{Command}
 use Rattle.sci_script.specs.declared.commands.Step.{Step}
 use Rattle.sci_script.specs.declared.desk.Toward.{Toward}
-use Rattle.sci_script.specs.declared.watching.Passed.{Passed}
+use Rattle.sci_port.specs.declared.watching.Passed.{Passed}
 use Rattle.sci_script.specs.Event.{Event, Turned, Rested}
 use Rattle.sci_script.specs.Passed.{passes_to_rest, shared_passes}
 use Rattle.sci_script.specs.Request.{words_after}

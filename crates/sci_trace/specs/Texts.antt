@@ -6,8 +6,8 @@ use Rattle.sci_words.specs.declared.tags.Tag.{Tag}
 use Rattle.sci_core.specs.declared.stages.Stage.{Stage}
 use Rattle.sci_ops.specs.declared.goals.Goal.{Goal}
 use Rattle.sci_ops.specs.declared.goals.Write.{Write}
-use Rattle.sci_script.specs.declared.watching.Load.{Load}
-use Rattle.sci_script.specs.declared.watching.Passed.{Passed}
+use Rattle.sci_port.specs.declared.watching.Load.{Load}
+use Rattle.sci_port.specs.declared.watching.Passed.{Passed}
 use Rattle.sci_trace.specs.declared.texts.Wait.{Wait}
 use Rattle.sci_trace.specs.Words.{link_word, tag_text}
 use Rattle.sci_trace.specs.Events.{event_text}

@@ -3,7 +3,7 @@ use Rattle.std.specs.Prelude.{ℕ, List, [], ◌++◌, Option, Some, None, codes
 use Rattle.std.specs.Fmt.{decimal}
 use Rattle.sci_words.specs.declared.tags.Tag.{Tag}
 use Rattle.sci_words.specs.Tag.{name_of}
-use Rattle.sci_script.specs.declared.watching.Load.{Load}
+use Rattle.sci_port.specs.declared.watching.Load.{Load}
 use Rattle.sci_script.specs.Text.{held_text}
 
 -- a link: a node, or `none`

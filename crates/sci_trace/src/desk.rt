@@ -13,7 +13,8 @@ use crate::notes::Notes;
 use crate::texts::Wait;
 use sci_cache::Request;
 use sci_ops::{Goal, Turn};
-use sci_script::{Ask, Desk, Look, Passed, Script, Size, Toward, WholeDesk};
+use sci_port::Passed;
+use sci_script::{Ask, Desk, Look, Script, Size, Toward, WholeDesk};
 use sci_words::{LineNo, Mem, NodeId, Tag};
 use std::alloc::{AllocError, Global};
 

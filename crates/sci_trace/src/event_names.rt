@@ -64,7 +64,7 @@ fn place_of(event: &Event) -> usize
 
 /// An event's name, and the bracket in front of its argument, where it has one.
 #[inline(always)]
-pub(crate) fn event_name(event: &Event) -> Short
+pub fn event_name(event: &Event) -> Short
     ensures { short_bytes result ≡ event_name event.now }
 {
     let place = place_of(event);

@@ -13,7 +13,7 @@ use crate::numbers::push_between;
 use crate::short::Short;
 use crate::words::{push_found, push_link};
 use sci_core::Event;
-use sci_script::{Ending, Load};
+use sci_port::{Ending, Load};
 use std::alloc::AllocError;
 
 /// Words, each behind a space.
@@ -63,7 +63,7 @@ fn closed_ending(ending: Ending) -> Short
 
 /// What stands behind an event's name: a link, the words, or the tag that was found behind this load, and what closes it; or what
 /// stands there without.
-pub(crate) fn push_argument(
+pub fn push_argument(
     text: &mut NoteText,
     load: &Option<Load>,
     event: &Event,

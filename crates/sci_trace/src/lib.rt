@@ -4,13 +4,9 @@
 mod coding;
 mod desk;
 mod drawing;
-mod entries;
 mod event_names;
 mod events;
-mod laws;
 mod lists;
-mod log_desk;
-mod logging;
 mod note_text;
 mod notes;
 mod numbers;
@@ -23,18 +19,17 @@ mod words;
 
 pub use desk::TraceDesk;
 pub use drawing::{draw, put_play};
-pub use laws::logged_rest_and_end_are_done;
-pub use log_desk::LogDesk;
-pub use logging::log;
 pub use running::trace;
 
 /// What the calls of this crate are made of, for the tests and for the texts of crates above.
 #[doc(hidden)]
 pub mod parts {
     pub use crate::coding::{Coding, put_coded};
-    pub use crate::events::push_words;
+    pub use crate::event_names::event_name;
+    pub use crate::events::{push_argument, push_words};
     pub use crate::note_text::NoteText;
     pub use crate::numbers::push_between;
+    pub use crate::short::Short;
     pub use crate::steps::push_step;
     pub use crate::texts::{Wait, push_act};
     pub use crate::words::{push_link, push_node, push_tag};

@@ -203,7 +203,7 @@ impl NoteText {
 
     /// Adds a piece whose length is known.
     #[inline(always)]
-    pub(crate) fn push<const N: usize>(&mut self, piece: &[u8; N]) -> Result<(), AllocError>
+    pub fn push<const N: usize>(&mut self, piece: &[u8; N]) -> Result<(), AllocError>
         ensures { OnOk result (note_bytes self.new ≡ note_bytes self.old ++ piece.now) }
     {
         let at = self.waiting;
@@ -216,7 +216,7 @@ impl NoteText {
 
     /// Adds a short text. It is written as one piece of 16 bytes, so there is no branch on its length.
     #[inline(always)]
-    pub(crate) fn push_short(&mut self, short: Short) -> Result<(), AllocError>
+    pub fn push_short(&mut self, short: Short) -> Result<(), AllocError>
         ensures { OnOk result (note_bytes self.new ≡ note_bytes self.old ++ short_bytes short) }
     {
         let at = self.waiting;

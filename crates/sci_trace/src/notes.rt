@@ -11,7 +11,8 @@ use crate::note_text::NoteText;
 use crate::texts::{Wait, push_note};
 use sci_core::Stage;
 use sci_ops::Goal;
-use sci_script::{Passed, WholeDesk};
+use sci_port::Passed;
+use sci_script::WholeDesk;
 use sci_words::{Mem, NodeId};
 use std::alloc::Global;
 

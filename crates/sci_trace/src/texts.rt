@@ -16,7 +16,8 @@ use crate::steps::push_step;
 use crate::words::{push_link, push_node, push_tag};
 use sci_core::Stage;
 use sci_ops::{Goal, Write};
-use sci_script::{Load, Passed, WholeDesk};
+use sci_port::{Load, Passed};
+use sci_script::WholeDesk;
 use sci_words::{LineNo, Mem, NodeId, Tag};
 use std::alloc::AllocError;
 

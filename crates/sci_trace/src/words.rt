@@ -9,7 +9,7 @@ ghost use Rattle.sci_trace.specs.Words.{link_word, found_text, tag_text};
 use crate::note_text::NoteText;
 use crate::numbers::{push_between, push_named};
 use crate::tag_names::tag_name;
-use sci_script::Load;
+use sci_port::Load;
 use sci_words::{NodeId, Tag};
 use std::alloc::AllocError;
 

@@ -15,7 +15,7 @@ use crate::refusals::WorkRefusal;
 use crate::seating::{dealt, gathered};
 use crate::starting::run_all;
 use sci_core::AnyWords;
-use sci_fine::Finished;
+use sci_port::Finished;
 use std::alloc::Global;
 use std::slice;
 use std::sync::Wait;

@@ -12,7 +12,8 @@ use crate::recording::{ClosedMemory, Recording};
 use crate::refusals::WorkRefusal;
 use crate::seating::Hand;
 use sci_core::{Keeps, Line, OpenRefusal, Receipt};
-use sci_fine::{FineLine, Finished, Seat};
+use sci_fine::{FineLine, Seat};
+use sci_port::Finished;
 use std::alloc::Global;
 
 // The hands of so many nodes, at no line.

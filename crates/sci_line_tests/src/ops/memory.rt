@@ -1,11 +1,10 @@
-//! Turns, ports, recorders, words and operations alone take no memory. tools/allocations runs each of these tests with the allocation of
+//! Turns, ports that are watched, words and operations alone take no memory. tools/allocations runs each of these tests with the allocation of
 //! its last line refused, and wants it to fail there, and there alone.
-use super::replays::turn;
 use super::{answers_of, opened};
 use crate::checks::allocates;
 use sci_core::{AnyWords, Whole};
 use sci_ops::{Answer, Op, Turn};
-use sci_port::recording::EventList;
+use sci_port::{Passed, Receipts, Solo, Watched};
 use sci_words::{NodeId, mem_name, name, read_mem, read_tag, write_mem, write_tag};
 use std::alloc::Global;
 use std::process::Abort;
@@ -38,19 +37,28 @@ fn has_words(whole: &Whole<AnyWords>, number: u16) -> Option<bool> {
     Some(is_named && read_mem(write_mem(mem)) == Ok(mem) && read_tag(write_tag(tag)) == Ok(tag))
 }
 
+/// One turn of a node's operation, through a port that is watched; if there is that node.
+fn turn(whole: &mut Whole<AnyWords>, number: u16, op: &mut Op) -> Option<Turn> {
+    let node = NodeId::new(number)?;
+    if node.get() >= whole.nodes() {
+        return None;
+    }
+    let mut receipts = Receipts::new(whole.allocator());
+    let mut watched = Watched {
+        port: Solo::new(whole, &mut receipts, node),
+        passed: Passed::NOTHING,
+    };
+    Some(op.turn(&mut watched))
+}
+
 /// One turn of a node. Some(true): its operation has ended. None too: a word is read or named as another.
-fn ends(
-    whole: &mut Whole<AnyWords>,
-    trace: &mut EventList,
-    number: u16,
-    op: &mut Op,
-) -> Option<bool> {
-    let taken = turn(whole, trace, number, op)?;
+fn ends(whole: &mut Whole<AnyWords>, number: u16, op: &mut Op) -> Option<bool> {
+    let taken = turn(whole, number, op)?;
     has_words(whole, number)?.then_some(matches!(taken, Turn::Done(_)))
 }
 
 /// Turns by chance of three nodes, each with one operation after the other: how many of them ended.
-fn turns(whole: &mut Whole<AnyWords>, trace: &mut EventList) -> Option<u32> {
+fn turns(whole: &mut Whole<AnyWords>) -> Option<u32> {
     let mut ops = [Op::load(); 3];
     let mut ended: u32 = 0;
     let mut chance = 1;
@@ -58,7 +66,7 @@ fn turns(whole: &mut Whole<AnyWords>, trace: &mut EventList) -> Option<u32> {
         chance = next(chance);
         let number = (chance >> 16) as u16 % 3;
         let at_work = &mut ops[usize::from(number)];
-        if ends(whole, trace, number, at_work)? {
+        if ends(whole, number, at_work)? {
             *at_work = op(chance >> 20);
             ended = ended.saturating_add(1);
         }
@@ -74,22 +82,11 @@ fn line(rt: &impl Abort, alloc: Global) -> Whole<AnyWords> {
     whole
 }
 
-/// A trace with room for 16 events. It takes one allocation.
-fn trace(rt: &impl Abort, alloc: Global) -> EventList {
-    let Ok(room) = Vec::with_capacity(alloc, 16) else {
-        panic!(rt; "no room")
-    };
-    EventList::new(room)
-}
-
 #[test]
 fn turns_take_no_memory(rt: HostRuntime) {
     let mut whole = line(&rt, rt.alloc());
-    let mut trace = trace(&rt, rt.alloc());
-    assert!(rt; matches!(turns(&mut whole, &mut trace), Some(1_000..)));
-    // more events passed than it had room for
-    assert!(rt; trace.events().is_none());
-    allocates(&rt, rt.alloc(), "allocation 5 is refused");
+    assert!(rt; matches!(turns(&mut whole), Some(1_000..)));
+    allocates(&rt, rt.alloc(), "allocation 4 is refused");
 }
 
 fn are_given(answers: &[Option<Answer>]) -> bool {

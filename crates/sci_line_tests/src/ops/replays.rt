@@ -1,23 +1,18 @@
-//! A run of several nodes, whose recorded events are done once more on another line.
+//! A run of several nodes, whose events are done once more on another line.
 use crate::checks::{same, same_at};
+use crate::events::{Events, keep};
 use sci_core::{Event, Line, Whole};
 use sci_ops::{Answer, BadWord, Op, Turn};
-use sci_port::recording::{EventList, Recorder};
-use sci_port::{AnyWords, Port, Receipts, Solo};
+use sci_port::{AnyWords, Passed, Receipts, Solo, Watched};
 use sci_words::NodeId;
 use std::alloc::Global;
 use std::process::Abort;
 use std::test::Fail;
 
-// One turn of an operation over a port, through a recorder of it.
-fn turn_on<P: Port<Keep = AnyWords>>(port: &mut P, trace: &mut EventList, op: &mut Op) -> Turn {
-    op.turn(&mut Recorder::new(port, trace))
-}
-
-// One turn of a node's operation, through a port that records it.
-pub(crate) fn turn(
+// One turn of a node's operation, with the events that pass kept.
+fn turn(
     whole: &mut Whole<AnyWords>,
-    trace: &mut EventList,
+    events: &mut Events,
     number: u16,
     op: &mut Op,
 ) -> Option<Turn> {
@@ -26,7 +21,13 @@ pub(crate) fn turn(
         return None;
     }
     let mut receipts = Receipts::new(whole.allocator());
-    Some(turn_on(&mut Solo::new(whole, &mut receipts, node), trace, op))
+    let mut watched = Watched {
+        port: Solo::new(whole, &mut receipts, node),
+        passed: Passed::NOTHING,
+    };
+    let turn = op.turn(&mut watched);
+    keep(events, node, &watched.passed)?;
+    Some(turn)
 }
 
 // Does the events from this place on; whether each was in turn.
@@ -68,44 +69,44 @@ fn operations() -> Result<[[Op; 3]; 4], BadWord> {
     ])
 }
 
-// One turn of a node, recorded, whose events are done once more on the other line. Some(true): then it is the same.
+// One turn of a node, whose events are done once more on the other line. Some(true): then it is the same.
 fn turn_alike(
     whole: &mut Whole<AnyWords>,
-    trace: &mut EventList,
+    events: &mut Events,
     again: &mut Whole<AnyWords>,
     number: u16,
     op: &mut Op,
 ) -> Option<bool> {
-    let replayed = trace.events()?.len();
-    turn(whole, trace, number, op)?;
-    Some(replay(again, trace.events()?, replayed) && is_same(whole, again))
+    let replayed = events.len();
+    turn(whole, events, number, op)?;
+    Some(replay(again, events, replayed) && is_same(whole, again))
 }
 
 // Forty turns of each node, each node with one of these operations.
 fn take_turns(
     rt: &impl Abort,
     whole: &mut Whole<AnyWords>,
-    trace: &mut EventList,
+    events: &mut Events,
     again: &mut Whole<AnyWords>,
     ops: &mut [Op; 3],
 ) {
     for _ in 0..40 {
         for number in 0..3 {
             let op = &mut ops[usize::from(number)];
-            let alike = turn_alike(whole, trace, again, number, op);
+            let alike = turn_alike(whole, events, again, number, op);
             same_at(rt, &number, &alike, &Some(true));
         }
     }
 }
 
 // Node 2 reads these words in its sixth turn, after four writes.
-fn sees(rt: &impl Abort, whole: &mut Whole<AnyWords>, trace: &mut EventList, words: [u64; 8]) {
+fn sees(rt: &impl Abort, whole: &mut Whole<AnyWords>, events: &mut Events, words: [u64; 8]) {
     let seen = Turn::Done(Answer::Seen { words, stamp: 4 });
     let mut op = Op::load();
     for _ in 0..5 {
-        assert!(rt; turn(whole, trace, 2, &mut op) != Some(Turn::Waiting));
+        assert!(rt; turn(whole, events, 2, &mut op) != Some(Turn::Waiting));
     }
-    same(rt, &turn(whole, trace, 2, &mut op), &Some(seen));
+    same(rt, &turn(whole, events, 2, &mut op), &Some(seen));
 }
 
 // Each node carries out its operations on a line, and what passed is done once more on another.
@@ -115,16 +116,16 @@ fn replays(
     whole: &mut Whole<AnyWords>,
     again: &mut Whole<AnyWords>,
 ) -> Result<(), Fail> {
-    let mut trace = EventList::new(Vec::with_capacity(alloc, 1_000)?);
+    let mut events = Vec::new(alloc);
     for ops in operations()?.iter_mut() {
-        take_turns(rt, whole, &mut trace, again, ops);
+        take_turns(rt, whole, &mut events, again, ops);
     }
-    sees(rt, again, &mut trace, [3, 11, 3, 3, 3, 3, 3, 3]);
+    sees(rt, again, &mut events, [3, 11, 3, 3, 3, 3, 3, 3]);
     Ok(())
 }
 
 #[test]
-fn replays_what_a_recorder_kept(rt: HostRuntime) -> Result<(), Fail> {
+fn replays_what_passed(rt: HostRuntime) -> Result<(), Fail> {
     let mut whole = Whole::open(rt.alloc(), 3, 0, Line::ZERO, AnyWords)?;
     let mut again = Whole::open(rt.alloc(), 3, 0, Line::ZERO, AnyWords)?;
     replays(&rt, rt.alloc(), &mut whole, &mut again)

@@ -3,7 +3,8 @@
 
 use super::desks::{RACE, begun, bring_to_rest, take_to_end};
 use sci_ops::Answer;
-use sci_script::{Passed, Toward, WholeDesk};
+use sci_port::Passed;
+use sci_script::{Toward, WholeDesk};
 use std::process::Abort;
 
 // How many turns towards rest were taken on the first line, of so many that are asked for. None: there is no such line.

@@ -1,14 +1,14 @@
 //! Entries of logs, worked out by hand from the table of exchanges.
 ghost use Rattle.std.specs.Prelude.{◌≡◌, ◌<◌, IfOk};
 ghost use Rattle.sci_script.specs.Size.{IsSize};
-ghost use Rattle.sci_follow.specs.Steps.{IsIn};
+ghost use Rattle.sci_logs.specs.Steps.{IsIn};
 
 mod growths;
 mod memory;
 
 use crate::checks::same_at;
 use sci_core::{Event, Line};
-use sci_follow::{Claim, Departure, Deviation, Entry, Follower};
+use sci_logs::{Claim, Departure, Deviation, Entry, Follower};
 use sci_script::Size;
 use sci_words::{Kind, NodeId, Tag};
 use std::alloc::{AllocError, Global};

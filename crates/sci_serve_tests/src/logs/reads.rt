@@ -3,7 +3,7 @@
 use super::follow::node;
 use crate::checks::same_at;
 use sci_core::{Event, Line};
-use sci_follow::{Asks, Claim, Found, Noted, Told, read_entry};
+use sci_logs::{Asks, Claim, Found, Noted, Told, read_entry};
 use sci_words::{Kind, Tag};
 use std::alloc::{AllocError, Global};
 use std::process::Abort;

@@ -1,7 +1,7 @@
 //! Why a line of a log is refused: of a text with no memory, and of a line at each stage of a log. tools/statuses has the parts of each line.
 
 use crate::checks::same_at;
-use sci_follow::{LineReason, Part, Seen};
+use sci_logs::{LineReason, Part, Seen};
 use sci_script::ScriptRefusal;
 use sci_serve::{SimFault, serve_follow_told};
 use std::io::sink;

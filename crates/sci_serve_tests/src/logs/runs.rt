@@ -3,7 +3,7 @@
 use super::{follow, texts};
 use crate::checks::same_at;
 use sci_core::{AnyWords, Event, Line, OpenRefusal, Whole};
-use sci_follow::{Claim, Entry, Found, Noted, Told, read_entry, read_opening};
+use sci_logs::{Claim, Entry, Found, Noted, Told, read_entry, read_opening};
 use sci_words::{NodeId, Tag};
 use std::alloc::Global;
 use std::process::Abort;

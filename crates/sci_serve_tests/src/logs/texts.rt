@@ -1,7 +1,7 @@
 //! Logs as text, each of them one run with a change, and what is told of it: worked out by hand from the table of exchanges.
 
 use crate::checks::same_at;
-use sci_follow::{Deviation, LogFault, follow_text};
+use sci_logs::{Deviation, LogFault, follow_text};
 use std::alloc::{AllocError, Global};
 use std::process::Abort;
 use std::test::Fail;

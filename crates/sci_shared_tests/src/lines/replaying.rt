@@ -94,7 +94,7 @@ pub(crate) fn replay_run<L: TestedLine>(
     alloc: Global,
     run: &Recorded,
 ) -> Result<(), Fail> {
-    let events = run.trace.events().ok_or("no room")?;
+    let events = run.events.as_slice();
     assert!(rt; !events.is_empty());
     let mut whole = Whole::open(alloc, run.nodes, 0, run.opening, AnyWords)?;
     let (line, mut seats) = L::opened(alloc, run.nodes, 0, run.opening)?;

@@ -1,8 +1,8 @@
 //! What nodes do on a line that is lent, with the events that pass.
+use crate::events::{Events, keep};
 use sci_core::{AnyWords, Whole};
 use sci_ops::{Op, Turn};
-use sci_port::recording::{EventList, Recorder};
-use sci_port::{Port, Receipts, Solo};
+use sci_port::{Passed, Receipts, Solo, Watched};
 use sci_words::NodeId;
 
 // An operation that has not ended after so many turns waits for others.
@@ -30,15 +30,10 @@ pub(crate) enum Command {
 /// The last operation that each node began.
 pub(crate) type Ops = [Op; 4];
 
-// One turn over a port. Whether the operation has ended.
-fn ends<P: Port<Keep = AnyWords>>(port: &mut P, op: &mut Op) -> bool {
-    matches!(op.turn(port), Turn::Done(_))
-}
-
 /// So many turns, with their events recorded. Some(true): the operation has ended.
 pub(crate) fn turns(
     whole: &mut Whole<AnyWords>,
-    trace: &mut EventList,
+    events: &mut Events,
     node: NodeId,
     op: &mut Op,
     count: usize,
@@ -49,8 +44,12 @@ pub(crate) fn turns(
             return None;
         }
         let mut receipts = Receipts::new(whole.allocator());
-        let mut solo = Solo::new(whole, &mut receipts, node);
-        done = ends(&mut Recorder::new(&mut solo, trace), op);
+        let mut watched = Watched {
+            port: Solo::new(whole, &mut receipts, node),
+            passed: Passed::NOTHING,
+        };
+        done = matches!(op.turn(&mut watched), Turn::Done(_));
+        keep(events, node, &watched.passed)?;
     }
     Some(done)
 }
@@ -70,7 +69,7 @@ fn begun(command: Command) -> Option<Op> {
 // Carries a node's command out. None: there is no such node, or no such word.
 fn carry_out(
     whole: &mut Whole<AnyWords>,
-    trace: &mut EventList,
+    events: &mut Events,
     ops: &mut Ops,
     number: u16,
     command: Command,
@@ -86,19 +85,19 @@ fn carry_out(
             0
         }
     };
-    turns(whole, trace, node, op, count)?;
+    turns(whole, events, node, op, count)?;
     Some(())
 }
 
 /// Carries the nodes' commands out, with the events recorded. None: there is no such node, or no such word.
 pub(crate) fn record(
     whole: &mut Whole<AnyWords>,
-    trace: &mut EventList,
+    events: &mut Events,
     ops: &mut Ops,
     commands: &[(u16, Command)],
 ) -> Option<()> {
     for (number, command) in commands {
-        carry_out(whole, trace, ops, *number, *command)?;
+        carry_out(whole, events, ops, *number, *command)?;
     }
     Some(())
 }

@@ -1,15 +1,12 @@
 //! Runs of crowds: nodes that are all at work at once.
+use super::Recorded;
 use super::commands::turns;
-use super::{Recorded, opened};
+use crate::events::Events;
 use sci_core::{AnyWords, Line, Whole};
 use sci_ops::Op;
-use sci_port::recording::EventList;
 use sci_words::NodeId;
 use std::alloc::Global;
 use std::test::Fail;
-
-// No run here has so many events.
-const ROOM: usize = 100_000;
 
 // Operations end well before so many rounds of turns.
 const ROUNDS: usize = 4_000;
@@ -30,7 +27,7 @@ fn operation(number: u16, shift: u16) -> Result<Op, Fail> {
 // So many turns of each node, one node after another. Some(true): all operations have ended.
 fn round(
     whole: &mut Whole<AnyWords>,
-    trace: &mut EventList,
+    events: &mut Events,
     ops: &mut [Op],
     count: usize,
 ) -> Option<bool> {
@@ -38,7 +35,7 @@ fn round(
     for number in 0..whole.nodes() {
         let node = NodeId::new(number)?;
         let op = ops.get_mut(usize::from(number))?;
-        ended = turns(whole, trace, node, op, count)? && ended;
+        ended = turns(whole, events, node, op, count)? && ended;
     }
     Some(ended)
 }
@@ -47,13 +44,13 @@ fn round(
 // turn may disturb each other for ever.
 fn carry_out(
     whole: &mut Whole<AnyWords>,
-    trace: &mut EventList,
+    events: &mut Events,
     ops: &mut [Op],
     patience: usize,
 ) -> Option<()> {
     for done in 0..ROUNDS {
         let count = if done < patience { 1 } else { BURST };
-        if round(whole, trace, ops, count)? {
+        if round(whole, events, ops, count)? {
             return Some(());
         }
     }
@@ -64,17 +61,18 @@ fn carry_out(
 /// with another operation. After so many rounds of one turn a node, a node takes many at once.
 pub(crate) fn crowd(alloc: Global, nodes: u16, patience: usize) -> Result<Recorded, Fail> {
     let opening = Line::ZERO;
-    let (mut whole, mut trace) = opened(alloc, nodes, opening, ROOM)?;
+    let mut whole = Whole::open(alloc, nodes, 0, opening, AnyWords)?;
+    let mut events = Vec::new(alloc);
     for shift in 0..3 {
         let mut ops = Vec::with_capacity(alloc, usize::from(nodes))?;
         for number in 0..nodes {
             ops.push(operation(number, shift)?)?;
         }
-        carry_out(&mut whole, &mut trace, &mut ops, patience).ok_or("it did not end")?;
+        carry_out(&mut whole, &mut events, &mut ops, patience).ok_or("it did not end")?;
     }
     Ok(Recorded {
         nodes,
         opening,
-        trace,
+        events,
     })
 }

@@ -1,16 +1,12 @@
 //! Runs of one to four nodes, alone and in each other's way.
+use super::Recorded;
 use super::commands::Command::{Add, Done, Evict, Load, Store, Turns, WriteLine};
 use super::commands::{Command, record};
-use super::{Recorded, opened};
-use sci_core::{Event, Line};
+use sci_core::{AnyWords, Event, Line, Whole};
 use sci_ops::Op;
-use sci_port::recording::EventList;
 use sci_words::{Kind, NodeId, Tag};
 use std::alloc::Global;
 use std::test::Fail;
-
-// No run here has so many events.
-const ROOM: usize = 1_000;
 
 /// A run: how many nodes there are, how many of them load to the end first, and what they do then.
 pub(crate) type Run = (u16, u16, &'static [(u16, Command)]);
@@ -196,16 +192,17 @@ pub(crate) const LAST_STAMPS: Run = (
 /// Records a run on a line with this opening: loads of so many nodes, and what they do then.
 pub(crate) fn recorded(alloc: Global, opening: Line, run: &Run) -> Result<Recorded, Fail> {
     let (nodes, sharers, commands) = *run;
-    let (mut whole, mut trace) = opened(alloc, nodes, opening, ROOM)?;
+    let mut whole = Whole::open(alloc, nodes, 0, opening, AnyWords)?;
+    let mut events = Vec::new(alloc);
     let mut ops = [Op::load(); 4];
     for sharer in 0..sharers {
-        record(&mut whole, &mut trace, &mut ops, &[(sharer, Done)]).ok_or("no node")?;
+        record(&mut whole, &mut events, &mut ops, &[(sharer, Done)]).ok_or("no node")?;
     }
-    record(&mut whole, &mut trace, &mut ops, commands).ok_or("no node")?;
+    record(&mut whole, &mut events, &mut ops, commands).ok_or("no node")?;
     Ok(Recorded {
         nodes,
         opening,
-        trace,
+        events,
     })
 }
 
@@ -220,20 +217,21 @@ const AT_ONCE: [[Command; 3]; 4] = [
 /// Three nodes that are all at work at once, four times: they take their turns one after another.
 pub(crate) fn at_once(alloc: Global) -> Result<Recorded, Fail> {
     let (nodes, opening) = (3, Line::ZERO);
-    let (mut whole, mut trace) = opened(alloc, nodes, opening, ROOM)?;
+    let mut whole = Whole::open(alloc, nodes, 0, opening, AnyWords)?;
+    let mut events = Vec::new(alloc);
     let mut ops = [Op::load(); 4];
     for [zero, one, two] in &AT_ONCE {
         let begun = [(0, *zero), (1, *one), (2, *two)];
-        record(&mut whole, &mut trace, &mut ops, &begun).ok_or("no node")?;
+        record(&mut whole, &mut events, &mut ops, &begun).ok_or("no node")?;
         for _ in 0..40 {
             let turns = [(0, Turns(1)), (1, Turns(1)), (2, Turns(1))];
-            record(&mut whole, &mut trace, &mut ops, &turns).ok_or("no node")?;
+            record(&mut whole, &mut events, &mut ops, &turns).ok_or("no node")?;
         }
     }
     Ok(Recorded {
         nodes,
         opening,
-        trace,
+        events,
     })
 }
 
@@ -261,6 +259,6 @@ pub(crate) fn missing(alloc: Global) -> Result<Recorded, Fail> {
     Ok(Recorded {
         nodes: 2,
         opening: Line::ZERO,
-        trace: EventList::new(events),
+        events,
     })
 }

@@ -7,7 +7,7 @@ use Rattle.sci_ops.specs.declared.goals.Goal.{Goal}
 use Rattle.sci_ops.specs.Alone.{TakesTurn}
 use Rattle.sci_ops.specs.Table.{begun}
 use Rattle.sci_cache.specs.Nodes.{node_after}
-use Rattle.sci_script.specs.declared.watching.Passed.{Passed}
+use Rattle.sci_port.specs.declared.watching.Passed.{Passed}
 use Rattle.sci_script.specs.Nodes.{load_on, loader, whole_of}
 use Rattle.sci_script.specs.Passed.{PassesOverOf}
 use Rattle.sci_script.specs.Resting.{LentOverOf, any}

@@ -2,7 +2,7 @@ use Rattle.std.proofs.Common.{rules, sym, subst, ap, ◌≡◌, length, List}
 use Rattle.sci_core.specs.declared.keeps.AnyWords.{AnyWords}
 use Rattle.sci_core.specs.Whole.{WholeLine, nodes_of}
 use Rattle.sci_port.specs.Banks.{lent_lines}
-use Rattle.sci_script.specs.declared.watching.Passed.{Passed}
+use Rattle.sci_port.specs.declared.watching.Passed.{Passed}
 use Rattle.sci_script.specs.Nodes.{TurnsOverOf, whole_of}
 use Rattle.sci_script.specs.Passed.{PassesOverOf}
 use Rattle.sci_script.proofs.Seated.{turned, watched}

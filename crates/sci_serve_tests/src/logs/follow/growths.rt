@@ -6,7 +6,7 @@ ghost use Rattle.std.specs.Prelude.{◌≡◌};
 use super::{entry, take, two_lines};
 use crate::checks::same;
 use sci_core::{Event, Line};
-use sci_follow::{Claim, Follower};
+use sci_logs::{Claim, Follower};
 use std::alloc::Global;
 use std::process::Abort;
 use std::test::Fail;

@@ -3,7 +3,7 @@
 use super::{entry, follow, take, two_lines};
 use crate::checks::{allocates, same};
 use sci_core::{Event, Line};
-use sci_follow::{Claim, Follower};
+use sci_logs::{Claim, Follower};
 use std::process::Abort;
 
 /// Node 1 loads line 0 and looks at its own tag, and leaves.

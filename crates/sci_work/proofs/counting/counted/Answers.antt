@@ -4,7 +4,7 @@ use mathlib.Core.Option.{some-ne-none}
 use Rattle.sci_core.specs.declared.keeps.AnyWords.{AnyWords}
 use Rattle.sci_fine.specs.Banks.{IsLine}
 use Rattle.sci_work.specs.declared.recording.Recording.{Recording}
-use Rattle.sci_fine.specs.declared.closing.Finished.{Finished}
+use Rattle.sci_port.specs.declared.closing.Finished.{Finished}
 use Rattle.sci_work.specs.Ended.{any_words, lists_in}
 use Rattle.sci_work.specs.Hands.{AtEach, IsHandOf}
 use Rattle.sci_work.specs.Starts.{AreParts}

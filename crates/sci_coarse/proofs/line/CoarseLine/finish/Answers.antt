@@ -3,30 +3,31 @@ use Rattle.std.specs.Prelude.{vec_capacity}
 use Rattle.sci_core.specs.declared.pending.Pending.{Pending}
 use Rattle.sci_port.specs.History.{value_of}
 use Rattle.sci_coarse.specs.Runs.{calls_in}
-use Rattle.sci_coarse.specs.Seats.{IsOnePerNode, IsSeatOf}
+use Rattle.sci_coarse.specs.Banks.{IsOnePerNode}
+use Rattle.sci_coarse.specs.Seats.{IsSeatOf}
 use Rattle.sci_coarse.proofs.Histories.{ended, unused}
 use Rattle.sci_coarse.proofs.KeptAll.{finishes}
 use Rattle.sci_coarse.specs.Ends.{IsEnd}
 use Rattle.sci_coarse.proofs.Listed.{all_each, clash, inside_of, seat_or}
 use Rattle.sci_coarse.proofs.line.CoarseLine.finish.Goals as goal
 
-pub returns-then-not-has_seats : goal.returns-then-not-has_seats
-returns-then-not-has_seats g c = record {
+pub returns-then-not-are_one_per_node : goal.returns-then-not-are_one_per_node
+returns-then-not-are_one_per_node g c = record {
   seats = tt;
   ok = tt;
-  err = (refl, refl, inl (refl, λ one. clash c.has_seats.result (c.has_seats.ensures.1 (subst (λ l. IsOnePerNode c.args.self l) (sym c.deref.ensures.value) one)) c.if-not-has_seats.true));
+  err = (refl, refl, inl (refl, λ one. clash c.are_one_per_node.result (c.are_one_per_node.ensures.1 (subst (λ l. IsOnePerNode c.args.self l) (sym c.deref.ensures.value) one)) c.if-not-are_one_per_node.true));
 }
 
 pub returns-in_default : goal.returns-in_default
 returns-in_default g c = record {
   seats = tt;
   ok = tt;
-  err = (refl, refl, inr (refl, subst (λ l. IsOnePerNode c.args.self l) c.deref.ensures.value (c.has_seats.ensures.0 c.if-not-has_seats.false)));
+  err = (refl, refl, inr (refl, subst (λ l. IsOnePerNode c.args.self l) c.deref.ensures.value (c.are_one_per_node.ensures.0 c.if-not-are_one_per_node.false)));
 }
 
 pub join_all-root-requires : goal.join_all-root-requires
 join_all-root-requires g c =
-    let one = subst (λ l. IsOnePerNode c.args.self l) c.deref.ensures.value (c.has_seats.ensures.0 c.if-not-has_seats.false) in
+    let one = subst (λ l. IsOnePerNode c.args.self l) c.deref.ensures.value (c.are_one_per_node.ensures.0 c.if-not-are_one_per_node.false) in
     record {
       seats = λ k s e. let n : s.node ≡ k = (one.1 k s e).0 in (all_each (λ s. IsSeatOf c.args.self s) c.args.seats.items c.requires.seats k s e, omega (arith, n), all_each (λ s. s.standing.pending ≡ Pending.Idle) c.args.seats.items c.requires.rest k s e);
       len = c.args.seats.ok.0 ∙ one.0;
@@ -49,7 +50,7 @@ closed_in-requires g c =
 pub returns : goal.returns
 returns g c =
     let left = c.lay_open-whole.ensures in let t = c.args.self.terms in let seats = c.args.seats.items in let j = c.join_all-root.ensures in
-    let one = subst (λ l. IsOnePerNode c.args.self l) c.deref.ensures.value (c.has_seats.ensures.0 (search rules)) in
+    let one = subst (λ l. IsOnePerNode c.args.self l) c.deref.ensures.value (c.are_one_per_node.ensures.0 (search rules)) in
     let told = ended g.K.Keeps.fits t left.run.run c.lay_open-whole.result left.run.fit left.run.ran in
     let end : IsEnd g.K.Keeps.fits t seats c.closed_in.result = record {
       whole = c.lay_open-whole.result;

@@ -1,0 +1,11 @@
+pub mod Steps
+pub mod Runs
+pub mod Told
+pub mod Names
+pub mod LineText
+pub mod Logs
+pub mod Streams
+pub mod Seen
+pub mod Reasons
+pub mod TurnText
+pub mod Logging

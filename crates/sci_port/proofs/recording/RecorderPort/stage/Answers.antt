@@ -1,4 +1,0 @@
-use Rattle.sci_port.proofs.recording.RecorderPort.stage.Goals as goal
-
-pub returns-clause-value : goal.returns-clause-value
-returns-clause-value g c = c.stage.ensures.value
